@@ -1,0 +1,125 @@
+ghost use Rattle.std.specs.Prelude.{IfOk};
+ghost use Rattle.dr_agg.specs.Combination.{FitsColumns};
+
+use super::*;
+use dr_base::{Key, Numbers, Row, Text, Texts};
+use std::alloc::Global;
+use std::process::Abort;
+use std::test::Fail;
+
+const KINDS: [Kind; 4] = [Kind::Count, Kind::LongSum, Kind::LongMin, Kind::LongMax];
+
+const HOUR: i64 = 3600000;
+
+// A row of one event with one value, which is summed, and of which the least and the greatest are kept.
+fn row(alloc: Global, time: i64, page: &str, value: i64) -> Result<Row, Fail>
+    ensures { IfOk result (λ row. FitsColumns KINDS row.metrics) }
+{
+    let mut dims = Texts::new(alloc);
+    dims.push(Text::from_str(alloc, page)?)?;
+    let mut metrics = Numbers::new(alloc);
+    metrics.push(1)?;
+    metrics.push(value)?;
+    metrics.push(value)?;
+    metrics.push(value)?;
+    Ok(Row {
+        key: Key { time, dims },
+        metrics,
+    })
+}
+
+fn expect_rows(rt: &impl Abort, rows: &[Row], wanted: &[(i64, &str, [i64; 4])]) {
+    assert_eq!(rt; rows.len(), wanted.len());
+    for (row, (time, page, metrics)) in rows.iter().zip(wanted) {
+        assert_eq!(rt; row.key.time, *time);
+        assert_eq!(rt; row.key.dims.len(), 1);
+        for text in row.key.dims.as_slice() {
+            assert_eq!(rt; text.as_str(), *page);
+        }
+        assert_eq!(rt; row.metrics.as_slice(), metrics.as_slice());
+    }
+}
+
+#[test]
+fn combines_rows_of_one_key(rt: HostRuntime) -> Result<(), Fail> {
+    let alloc = rt.alloc();
+    let entries = [
+        row(alloc, HOUR, "B", -2)?,
+        row(alloc, 0, "A", 5)?,
+        row(alloc, 0, "A", 7)?,
+    ];
+    let rows = rollup_rows(alloc, true, &KINDS, &entries)?;
+    expect_rows(
+        &rt,
+        &rows,
+        &[(0, "A", [2, 12, 5, 7]), (HOUR, "B", [1, -2, -2, -2])],
+    );
+    Ok(())
+}
+
+#[test]
+fn keeps_rows_apart(rt: HostRuntime) -> Result<(), Fail> {
+    let alloc = rt.alloc();
+    let mut rows = Vec::new(alloc);
+    for (time, page, value) in [(HOUR, "B", -2), (0, "A", 7), (0, "A", 5)] {
+        add_row(false, &KINDS, &mut rows, row(alloc, time, page, value)?)?;
+    }
+    expect_rows(
+        &rt,
+        &rows,
+        &[
+            (0, "A", [1, 7, 7, 7]),
+            (0, "A", [1, 5, 5, 5]),
+            (HOUR, "B", [1, -2, -2, -2]),
+        ],
+    );
+    Ok(())
+}
+
+#[test]
+fn sums_wrap(rt: HostRuntime) -> Result<(), Fail> {
+    let alloc = rt.alloc();
+    let pieces = [row(alloc, 0, "A", i64::MAX)?, row(alloc, 0, "A", 1)?];
+    let rows = rollup_rows(alloc, true, &KINDS, &pieces)?;
+    expect_rows(&rt, &rows, &[(0, "A", [2, i64::MIN, 1, i64::MAX])]);
+    Ok(())
+}
+
+// The values from the unit on, through the bound.
+fn total_of<C: Combine>(values: &[i64]) -> i64 {
+    let mut total = C::unit();
+    for value in values {
+        total = C::combine(total, *value);
+    }
+    total
+}
+
+#[test]
+fn begins_at_the_unit(rt: HostRuntime) {
+    assert_eq!(rt; total_of::<Sum>(&[]), 0);
+    assert_eq!(rt; total_of::<Min>(&[]), 9223372036854775807);
+    assert_eq!(rt; total_of::<Max>(&[]), -9223372036854775808);
+    assert_eq!(rt; total_of::<Sum>(&[1, -2]), -1);
+    assert_eq!(rt; total_of::<Min>(&[1, -2]), -2);
+    assert_eq!(rt; total_of::<Max>(&[1, -2]), 1);
+    for (kind, unit) in KINDS.iter().zip(&[0, 0, i64::MAX, i64::MIN]) {
+        assert_eq!(rt; kind.unit(), *unit);
+        assert_eq!(rt; kind.combine(kind.unit(), 3), 3);
+    }
+}
+
+#[test]
+fn matches_columns(rt: HostRuntime) {
+    let mut count = 0;
+    for query in &KINDS {
+        for column in &KINDS {
+            if matches(*query, *column) && count < 16 {
+                count += 1;
+            }
+        }
+    }
+    assert_eq!(rt; count, 4);
+    assert!(rt; matches(Kind::LongSum, Kind::Count));
+    assert!(rt; !matches(Kind::Count, Kind::Count));
+    assert!(rt; !matches(Kind::LongSum, Kind::LongMin));
+}

@@ -1,0 +1,29 @@
+ghost use Rattle.std.specs.Prelude.{◌≡◌, IfOk};
+
+use crate::numbers::Numbers;
+use crate::texts::Texts;
+use std::alloc::AllocError;
+
+/// An event as it was read: the mark of the seat that read it, its untruncated time in milliseconds since the epoch,
+/// its dimension values and its metric inputs, both in the order of the spec.
+#[derive(Debug, Drop)]
+pub struct Event {
+    pub seat: u8,
+    pub time: i64,
+    pub dims: Texts,
+    pub inputs: Numbers,
+}
+
+impl Event {
+    /// An equal event in memory of its own.
+    pub fn copy(&self) -> Result<Event, AllocError>
+        ensures { IfOk result (λ event. event ≡ self.now) }
+    {
+        Ok(Event {
+            seat: self.seat,
+            time: self.time,
+            dims: self.dims.copy()?,
+            inputs: self.inputs.copy()?,
+        })
+    }
+}

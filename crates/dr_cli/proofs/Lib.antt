@@ -1,0 +1,6 @@
+pub mod Ranges
+pub mod LineLemmas
+pub mod LineSteps
+pub mod WrittenLemmas
+pub mod UsageLemmas
+pub mod ScriptSteps

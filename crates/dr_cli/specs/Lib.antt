@@ -1,0 +1,8 @@
+pub mod Refusal
+pub mod Failures
+pub mod Lines
+pub mod Parts
+pub mod Written
+pub mod Usage
+pub mod Script
+pub mod Replies

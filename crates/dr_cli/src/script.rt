@@ -1,0 +1,198 @@
+ghost use Rattle.std.specs.Prelude.{◌≡◌, ◌⊎◌, true, ℕ, ◌-◌, ◌^◌, ◌<◌, List, [], Option, OnOk, IfOk, IfSome};
+ghost use Rattle.dr_cli.specs.Failures.{failures_of, inner_of, failures_after};
+ghost use Rattle.dr_cli.specs.Lines.{left_to_read, steps_left};
+ghost use Rattle.dr_cli.specs.Written.{Puts};
+ghost use Rattle.dr_cli.specs.Script.{answers, script};
+ghost use Rattle.dr_cli.specs.Replies.{AnsweredAll, OpensScript, RunsScript, Turns};
+
+use crate::answering::{answer_line, open_timeline};
+use crate::cli_error::CliError;
+use crate::counted::Counted;
+use crate::line_reader::LineReader;
+use crate::line_writer::{LineWriter, write_out};
+use crate::next_line::NextLine;
+use crate::reply::Reply;
+use dr_timeline::Timeline;
+use std::alloc::{AllocError, Global};
+use std::io::{Read, Write};
+
+/// Runs a script: reads lines, and writes one line for each, which is flushed where no whole line waits to be read.
+/// The answer is the status: 0 where no line was refused, else 1.
+///
+/// The first line is the ingestion spec, answered by `spec ok`; where it is refused, the run ends. Then `+ EVENT` is
+/// answered by `accepted N`, the event's number from 0, or by `unparseable NUMBER NAME [i]`, and `query JSON` by the text
+/// of its answer, on one thread whatever the number of workers (1 to 16) is. A line that is refused is answered by
+/// `refused NUMBER NAME [argument]`: 98 `LineTooLong` for a line over 1048576 bytes, which is skipped, 101 `BadCommand`
+/// for a line that fits no command, 0 `NoMemory` where memory ran out, with the timeline as it was, and the refusals of
+/// the spec, of accepting and of queries. A failed read, or 2^32 reads, is 99 `ReadFault` and ends the run with status 1,
+/// and so does a failed write (100), after which nothing more is written.
+///
+/// Where no write failed, what is written is the script's text, and the answer is its status, unless a written line tells
+/// 0 `NoMemory` or 99 `ReadFault`.
+pub fn run_script<R: Read, W: Write>(
+    rt: &impl AllocGlobal,
+    reader: &mut Counted<R>,
+    writer: &mut Counted<W>,
+    _workers: u8,
+) -> u8
+    requires { failures_of writer.old < 2 ^ 64 - 1 }
+    ensures script { failures_of writer.new ≡ failures_of writer.old → RunsScript (R.remaining (inner_of reader.old))
+        (W.contents (inner_of writer.old)) (W.contents (inner_of writer.new)) result }
+    ensures failed_read { (failures_of reader.new ≡ failures_of reader.old) ⊎ (result ≡ 1) }
+    ensures failed_write { (failures_of writer.new ≡ failures_of writer.old) ⊎ (result ≡ 1) }
+{
+    match run_all(rt.alloc(), reader, writer) {
+        Ok(is_refused) => u8::from(is_refused),
+        Err(_) => 1,
+    }
+}
+
+// Answers all lines. The answer is whether one was refused.
+fn run_all<R: Read, W: Write>(
+    alloc: Global,
+    reader: &mut Counted<R>,
+    writer: &mut Counted<W>,
+) -> Result<bool, CliError>
+    ensures answers { IfOk result (AnsweredAll (R.remaining (inner_of reader.old)) script
+        (W.contents (inner_of writer.old)) (W.contents (inner_of writer.new)) []) }
+    ensures failed_read { IfOk result (λ refuses. (failures_of reader.new ≡ failures_of reader.old) ⊎ (refuses ≡ true)) }
+    ensures failures { failures_of writer.new ≡ failures_after (failures_of writer.old) result }
+{
+    match buffers(alloc) {
+        Ok((mut lines, mut output)) => run(alloc, &mut lines, &mut output, reader, writer),
+        Err(_) => refuse_all(writer),
+    }
+}
+
+fn buffers(alloc: Global) -> Result<(LineReader, LineWriter), AllocError>
+    ensures { IfOk result (λ buffers. (buffers.0.ahead ≡ []) × (buffers.1 ≡ [])) }
+{
+    Ok((LineReader::new(alloc)?, LineWriter::new(alloc)?))
+}
+
+// Refuses the script where there is no memory for the buffers.
+fn refuse_all<W: Write>(writer: &mut Counted<W>) -> Result<bool, CliError>
+    ensures answers { (left : Option (List ℕ)) → IfOk result (AnsweredAll left script (W.contents (inner_of writer.old)) (W.contents (inner_of writer.new)) []) }
+    ensures failures { failures_of writer.new ≡ failures_after (failures_of writer.old) result }
+{
+    write_out(writer, b"refused 0 NoMemory\n")?;
+    Ok(true)
+}
+
+// Answers the first line, which is the spec, and then the others. The answer is whether a line was refused.
+fn run<R: Read, W: Write>(
+    alloc: Global,
+    lines: &mut LineReader,
+    output: &mut LineWriter,
+    reader: &mut Counted<R>,
+    writer: &mut Counted<W>,
+) -> Result<bool, CliError>
+    ensures answers { IfOk result (AnsweredAll (left_to_read lines.old (R.remaining (inner_of reader.old))) script
+        (W.contents (inner_of writer.old)) (W.contents (inner_of writer.new)) output.old) }
+    ensures failed_read { IfOk result (λ refuses. (failures_of reader.new ≡ failures_of reader.old) ⊎ (refuses ≡ true)) }
+    ensures failures { failures_of writer.new ≡ failures_after (failures_of writer.old) result }
+{
+    match opened(alloc, lines, reader) {
+        None => {
+            output.flush(writer)?;
+            Ok(false)
+        }
+        Some(Err(refusal)) => {
+            let refuses = refusal.is_refused();
+            refusal.put(output, writer)?;
+            output.flush(writer)?;
+            Ok(refuses)
+        }
+        Some(Ok(mut timeline)) => {
+            Reply::SpecOk.put(output, writer)?;
+            answer_lines(alloc, &mut timeline, lines, output, reader, writer)
+        }
+    }
+}
+
+// Reads the first line, which is the spec.
+fn opened<R: Read>(
+    alloc: Global,
+    lines: &mut LineReader,
+    reader: &mut Counted<R>,
+) -> Option<Result<Timeline, Reply>>
+    ensures opening { OpensScript (left_to_read lines.old (R.remaining (inner_of reader.old)))
+        (left_to_read lines.new (R.remaining (inner_of reader.new))) result }
+    ensures failed_read { (failures_of reader.new ≡ failures_of reader.old) ⊎ (result ≡ Some (Err (Reply.Fault CliError.ReadFault))) }
+{
+    match lines.next_line(reader) {
+        NextLine::Line => Some(open_timeline(alloc, lines.line())),
+        NextLine::TooLong => Some(Err(Reply::Fault(CliError::LineTooLong))),
+        NextLine::End => None,
+        NextLine::Failed => Some(Err(Reply::Fault(CliError::ReadFault))),
+    }
+}
+
+// Answers the lines that are left.
+fn answer_lines<R: Read, W: Write>(
+    alloc: Global,
+    timeline: &mut Timeline,
+    lines: &mut LineReader,
+    output: &mut LineWriter,
+    reader: &mut Counted<R>,
+    writer: &mut Counted<W>,
+) -> Result<bool, CliError>
+    ensures answers { IfOk result (AnsweredAll (left_to_read lines.old (R.remaining (inner_of reader.old))) (answers timeline.old)
+        (W.contents (inner_of writer.old)) (W.contents (inner_of writer.new)) output.old) }
+    ensures failed_read { IfOk result (λ refuses. (failures_of reader.new ≡ failures_of reader.old) ⊎ (refuses ≡ true)) }
+    ensures failures { failures_of writer.new ≡ failures_after (failures_of writer.old) result }
+{
+    let mut is_refused = false;
+    'lines: loop {
+        flush_unless_line(lines, output, writer)?;
+        let reply = match next_reply(alloc, timeline, lines, reader) {
+            Some(Ok(reply)) => reply,
+            Some(Err(fault)) => {
+                Reply::Fault(fault).put(output, writer)?;
+                output.flush(writer)?;
+                return Ok(true);
+            }
+            None => {
+                output.flush(writer)?;
+                return Ok(is_refused);
+            }
+        };
+        is_refused |= reply.is_refused();
+        reply.put(output, writer)?;
+    }
+}
+
+// Writes what is kept, so that who waits for a reply sees it, unless the next line is there already.
+fn flush_unless_line<W: Write>(
+    lines: &LineReader,
+    output: &mut LineWriter,
+    writer: &mut Counted<W>,
+) -> Result<(), CliError>
+    ensures bytes { Puts (W.contents (inner_of writer.old)) (W.contents (inner_of writer.new)) output.old output.new result }
+    ensures failures { failures_of writer.new ≡ failures_after (failures_of writer.old) result }
+{
+    if lines.has_line() {
+        return Ok(());
+    }
+    output.flush(writer)
+}
+
+// The reply to the next line, or none at the end of the input.
+fn next_reply<R: Read>(
+    alloc: Global,
+    timeline: &mut Timeline,
+    lines: &mut LineReader,
+    reader: &mut Counted<R>,
+) -> Option<Result<Reply, CliError>>
+    ensures turn { Turns (left_to_read lines.old (R.remaining (inner_of reader.old)))
+        (left_to_read lines.new (R.remaining (inner_of reader.new))) timeline.old timeline.new result }
+    ensures nearer { IfSome result (λ reply. OnOk reply (steps_left lines.new < steps_left lines.old)) }
+    ensures failed_read { (failures_of reader.new ≡ failures_of reader.old) ⊎ (result ≡ Some (Err CliError.ReadFault)) }
+{
+    match lines.next_line(reader) {
+        NextLine::Line => Some(Ok(answer_line(alloc, timeline, lines.line()))),
+        NextLine::TooLong => Some(Ok(Reply::Fault(CliError::LineTooLong))),
+        NextLine::End => None,
+        NextLine::Failed => Some(Err(CliError::ReadFault)),
+    }
+}

@@ -1,0 +1,4 @@
+pub mod EachColumn
+pub mod SignedTexts
+pub mod WholeInputs
+pub mod FittingEvents

@@ -1,0 +1,7 @@
+pub mod Refusal
+pub mod Columns
+pub mod EventTime
+pub mod DimensionValue
+pub mod MetricInput
+pub mod EventOf
+pub mod Fits

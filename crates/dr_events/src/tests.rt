@@ -1,0 +1,142 @@
+use super::*;
+use dr_base::{Arg, Event};
+use dr_spec::IngestSpec;
+use std::alloc::Global;
+use std::test::Fail;
+
+const SPEC: &str =
+    r#"{"dataSchema":{"dataSource":"w","timestampSpec":{"column":"t","format":"iso"},"dimensionsSpec":{"dimensions":["page","lang"]},"metricsSpec":[{"type":"count","name":"n"},{"type":"longSum","name":"added","fieldName":"a"},{"type":"longMin","name":"lo","fieldName":"a"},{"type":"longMax","name":"hi","fieldName":"a"}],"granularitySpec":{"segmentGranularity":"day","queryGranularity":"none"}}}"#;
+
+// The time, the dimensions and the inputs of an event.
+fn event_text(alloc: Global, event: &Event) -> Result<String, Fail> {
+    let mut text = format!(in alloc; "{}", event.time)?;
+    for dim in event.dims.as_slice() {
+        text.push_str(format!(in alloc; " {:?}", dim.as_str())?.as_str())?;
+    }
+    for input in event.inputs.as_slice() {
+        text.push_str(format!(in alloc; " {input}")?.as_str())?;
+    }
+    Ok(text)
+}
+
+// The number, the name and the argument of a refusal.
+fn refusal_text(alloc: Global, refusal: &Unparseable) -> Result<String, Fail> {
+    let mut text = format!(in alloc; "{} {}", refusal.number(), refusal.name())?;
+    if let Some(Arg::Index(place)) = refusal.arg() {
+        text.push_str(format!(in alloc; " {place}")?.as_str())?;
+    }
+    Ok(text)
+}
+
+fn read_text(alloc: Global, line: &str) -> Result<String, Fail> {
+    let spec = IngestSpec::parse(alloc, SPEC.as_bytes())?;
+    match read_event(alloc, &spec, 3, line.as_bytes()) {
+        Ok(event) => event_text(alloc, &event),
+        Err(refusal) => refusal_text(alloc, &refusal),
+    }
+}
+
+#[test]
+fn refuses_what_is_no_event(rt: HostRuntime) -> Result<(), Fail> {
+    let rows = [
+        (r#"[1]"#, "30 NotAnObject"),
+        (r#""#, "30 NotAnObject"),
+        (r#"{"t":"2024-01-01"} 1"#, "30 NotAnObject"),
+        (r#"{"page":"A"}"#, "31 NoTimestamp"),
+        (r#"{"t":null}"#, "31 NoTimestamp"),
+        (r#"{"t":"x"}"#, "32 BadTimestamp"),
+        (r#"{"t":1704067200000}"#, "32 BadTimestamp"),
+        (r#"{"t":"0000-12-31","page":[]}"#, "32 BadTimestamp"),
+        (r#"{"t":"2024-01-01","page":["A"]}"#, "33 BadDimension 0"),
+        (
+            r#"{"t":"2024-01-01","page":1.0,"a":1.5}"#,
+            "33 BadDimension 0",
+        ),
+        (r#"{"t":"2024-01-01","lang":1e3}"#, "33 BadDimension 1"),
+        (r#"{"t":"2024-01-01","lang":-0}"#, "33 BadDimension 1"),
+        (r#"{"t":"2024-01-01","lang":{}}"#, "33 BadDimension 1"),
+        (r#"{"t":"2024-01-01","a":1.5}"#, "34 BadMetric 1"),
+        (r#"{"t":"2024-01-01","a":-0}"#, "34 BadMetric 1"),
+        (r#"{"t":"2024-01-01","a":true}"#, "34 BadMetric 1"),
+        (
+            r#"{"t":"2024-01-01","a":9223372036854775808}"#,
+            "34 BadMetric 1",
+        ),
+        (
+            r#"{"t":"2024-01-01","a":"9223372036854775808"}"#,
+            "34 BadMetric 1",
+        ),
+        (r#"{"t":"2024-01-01","a":"1.0"}"#, "34 BadMetric 1"),
+        (r#"{"t":"2024-01-01","a":"-"}"#, "34 BadMetric 1"),
+        (r#"{"t":"2024-01-01","a":" 1"}"#, "34 BadMetric 1"),
+    ];
+    for (line, wanted) in &rows {
+        let text = read_text(rt.alloc(), line)?;
+        assert_eq!(rt; text.as_str(), *wanted, "{line}");
+    }
+    Ok(())
+}
+
+#[test]
+fn reads_events(rt: HostRuntime) -> Result<(), Fail> {
+    let rows = [
+        (
+            r#"{"t":"2024-01-01","a":"12"}"#,
+            r#"1704067200000 "" "" 1 12 12 12"#,
+        ),
+        (
+            r#"{"t":"2024-01-01","page":"A","lang":null,"n":[7],"a":5}"#,
+            r#"1704067200000 "A" "" 1 5 5 5"#,
+        ),
+        (
+            r#"{"t":"2024-01-01","page":true,"lang":false,"a":null}"#,
+            r#"1704067200000 "true" "false" 1 0 0 0"#,
+        ),
+        (
+            r#"{"t":"2024-01-01","page":18446744073709551615,"a":9223372036854775807}"#,
+            r#"1704067200000 "18446744073709551615" "" 1 9223372036854775807 9223372036854775807 9223372036854775807"#,
+        ),
+        (
+            r#"{"t":"2024-01-01","page":-9223372036854775808,"a":-9223372036854775808}"#,
+            r#"1704067200000 "-9223372036854775808" "" 1 -9223372036854775808 -9223372036854775808 -9223372036854775808"#,
+        ),
+        (
+            r#"{"t":"2024-01-01","a":"-9223372036854775808"}"#,
+            r#"1704067200000 "" "" 1 -9223372036854775808 -9223372036854775808 -9223372036854775808"#,
+        ),
+        (
+            r#"{"t":"2024-01-01","a":"+7"}"#,
+            r#"1704067200000 "" "" 1 7 7 7"#,
+        ),
+        (
+            r#"{"t":"2024-01-01","a":"-0"}"#,
+            r#"1704067200000 "" "" 1 0 0 0"#,
+        ),
+        (
+            r#"{"t":"2024-01-01","a":""}"#,
+            r#"1704067200000 "" "" 1 0 0 0"#,
+        ),
+        (
+            r#"{"t":"2023-01-01","a":[],"t":"2024-01-01","a":2}"#,
+            r#"1704067200000 "" "" 1 2 2 2"#,
+        ),
+        (
+            r#"{"t":"0001-01-01","page":0,"lang":"\u00e9"}"#,
+            r#"-62135596800000 "0" "é" 1 0 0 0"#,
+        ),
+    ];
+    for (line, wanted) in &rows {
+        let text = read_text(rt.alloc(), line)?;
+        assert_eq!(rt; text.as_str(), *wanted, "{line}");
+    }
+    Ok(())
+}
+
+#[test]
+fn marks_the_event_with_the_seat(rt: HostRuntime) -> Result<(), Fail> {
+    let alloc = rt.alloc();
+    let spec = IngestSpec::parse(alloc, SPEC.as_bytes())?;
+    let event = read_event(alloc, &spec, 255, br#"{"t":"2024-01-01"}"#)?;
+    assert_eq!(rt; event.seat, 255);
+    Ok(())
+}

@@ -1,0 +1,3 @@
+pub mod TruncationLemmas
+pub mod NestingLemmas
+pub mod BucketsLemmas

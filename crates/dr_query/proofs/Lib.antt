@@ -1,0 +1,4 @@
+pub mod DistinctOutputs
+pub mod MembersRead
+pub mod PrintableIntervals
+pub mod MadeQueries

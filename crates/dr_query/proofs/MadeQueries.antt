@@ -1,0 +1,113 @@
+-- The columns of a query that is read are those of its schema.
+use Rattle.std.proofs.Common.{◌≡◌, ℕ, suc, ◌+◌, List, [], ◌∷◌, ◌++◌, map, Bool, true, false, cond, bytes_eq, codes, Result, Ok, Err, Option, Some, None, option_map, find, slice_get, refl, subst, ◌∙◌, arith}
+use Rattle.std.specs.List.{AllByRecursion, enumerate_from}
+use Rattle.serde_json.specs.Data.{Data, Items, no_items, item, Members}
+use Rattle.dr_base.specs.Fields.{field, as_list, as_object, text_field}
+use Rattle.dr_base.specs.Reading.{◌>>=◌, passed}
+use Rattle.dr_agg.specs.declared.kind.Kind.{Kind}
+use Rattle.dr_agg.specs.declared.kind.Kind.TheVariants.{Count, LongSum}
+use Rattle.dr_spec.specs.Columns.{kinds_of}
+use Rattle.dr_spec.specs.Each.{each_from}
+use Rattle.dr_spec.specs.declared.metric.Metric.{Metric}
+use Rattle.dr_spec.specs.declared.schema.Schema.{Schema}
+use Rattle.dr_query.specs.declared.aggregation.Aggregation.{Aggregation}
+use Rattle.dr_query.specs.declared.column.Column.{Column}
+use Rattle.dr_query.specs.declared.query_error.QueryError.TheVariants.{Base, Unsupported}
+use Rattle.dr_query.specs.AggregationsOf.{no_dimension, column_of, count_of, long_sum_of, aggregation_by, aggregation_of, aggregations_in, aggregations_of}
+use Rattle.dr_query.specs.MadeFor.{IsColumn}
+use Rattle.dr_query.specs.Step.{no_unlisted}
+
+-- what a reading of two steps gives, its second step gave
+through : {A B E : Type 0} (r : Result A E) (f : A → Result B E) (x : B) {P : Type 0} → (r >>= f) ≡ Ok x → ((y : A) → r ≡ Ok y → f y ≡ Ok x → P) → P
+through (Ok y) f x e then = then y refl e
+through (Err g) f x e then = cc
+
+abbrev ReadsIts : Schema → Aggregation → Type 0
+ReadsIts schema a = IsColumn (kinds_of schema) a.column
+
+-- ---- the column of a name
+
+abbrev column_from : (metrics : List Metric) (name : List ℕ) (before : ℕ) → Option Column
+column_from metrics name before = option_map (λ m. record { place = m.0; kind = m.1.kind }) (find (λ m. bytes_eq m.1.name name) (enumerate_from before metrics))
+
+-- a column that is found from a number on stands that much later
+abbrev Stands : List Kind → ℕ → Option Column → Type 0
+Stands kinds before None = Unit {0}
+Stands kinds before (Some c) = (k : ℕ) × (c.place ≡ before + k) × (slice_get kinds k ≡ Some c.kind)
+
+Stands-later : (kind : Kind) (kinds : List Kind) (before : ℕ) (c : Option Column) → Stands kinds (before + 1) c → Stands (kind ∷ kinds) before c
+Stands-later kind kinds before None h = tt
+Stands-later kind kinds before (Some c) (k, place, at) = (suc k, place ∙ omega arith, at)
+
+Stands-column : (metrics : List Metric) (name : List ℕ) (before : ℕ) → Stands (map (λ m. m.kind) metrics) before (column_from metrics name before)
+Stands-column [] name before = tt
+Stands-column (m ∷ metrics) name before = at (bytes_eq m.name name) refl (Stands-column metrics name (before + 1))
+  where
+    at : (b : Bool) → bytes_eq m.name name ≡ b → Stands (map (λ m. m.kind) metrics) (before + 1) (column_from metrics name (before + 1))
+        → Stands (map (λ m. m.kind) (m ∷ metrics)) before (column_from (m ∷ metrics) name before)
+    at true e later = rw e (0, omega arith, refl)
+    at false e later = rw e (Stands-later m.kind (map (λ m. m.kind) metrics) before (column_from metrics name (before + 1)) later)
+
+IsColumn-stands : (kinds : List Kind) (c : Option Column) → Stands kinds 0 c → IsColumn kinds c
+IsColumn-stands kinds None h = tt
+IsColumn-stands kinds (Some c) (k, place, at) = let same : c.place ≡ k = place ∙ omega arith in rw same at
+
+IsColumn-column_of : (schema : Schema) (name : List ℕ) → IsColumn (kinds_of schema) (column_of schema.metrics name)
+IsColumn-column_of schema name = IsColumn-stands (kinds_of schema) (column_of schema.metrics name) (Stands-column schema.metrics name 0)
+
+-- ---- an aggregation
+
+of_count : (schema : Schema) (d : Data) (ms : Members) (a : Aggregation) → count_of d ms ≡ Ok a → ReadsIts schema a
+unfolding count_of
+of_count schema d ms a e =
+    through (passed Base (text_field (codes "name") d)) _ a e (λ name _ e.
+    through (no_unlisted (codes "type" ∷ codes "name" ∷ []) ms) _ a e (λ unlisted _ e.
+    let made : Aggregation = record { name = name; kind = Count; column = None } in
+    let same : made ≡ a = cc in
+    subst (ReadsIts schema) same tt))
+
+of_long_sum : (schema : Schema) (d : Data) (ms : Members) (a : Aggregation) → long_sum_of schema d ms ≡ Ok a → ReadsIts schema a
+unfolding long_sum_of
+of_long_sum schema d ms a e =
+    through (passed Base (text_field (codes "name") d)) _ a e (λ name _ e.
+    through (passed Base (text_field (codes "fieldName") d)) _ a e (λ read _ e.
+    through (no_dimension schema read) _ a e (λ dimension _ e.
+    through (no_unlisted (codes "type" ∷ codes "name" ∷ codes "fieldName" ∷ []) ms) _ a e (λ unlisted _ e.
+    let made : Aggregation = record { name = name; kind = LongSum; column = column_of schema.metrics read } in
+    let same : made ≡ a = cc in
+    subst (ReadsIts schema) same (IsColumn-column_of schema read)))))
+
+of_type : (type : List ℕ) (schema : Schema) (d : Data) (ms : Members) (a : Aggregation) → aggregation_by type schema d ms ≡ Ok a → ReadsIts schema a
+of_type type schema d ms a e = at (bytes_eq type (codes "count")) (bytes_eq type (codes "longSum")) e
+  where
+    at : (b c : Bool) → cond b (count_of d ms) (cond c (long_sum_of schema d ms) (Err (Unsupported type))) ≡ Ok a → ReadsIts schema a
+    at true c e = of_count schema d ms a e
+    at false true e = of_long_sum schema d ms a e
+    at false false e = cc
+
+of_item : (schema : Schema) (d : Data) (a : Aggregation) → aggregation_of schema d ≡ Ok a → ReadsIts schema a
+unfolding aggregation_of
+of_item schema d a e =
+    through (passed Base (as_object (codes "aggregations") d)) _ a e (λ members _ e.
+    through (passed Base (text_field (codes "type") d)) _ a e (λ type _ e. of_type type schema d members a e))
+
+-- ---- all of them
+
+AllByRecursion-push : {A : Type 0} (P : A → Type 0) (xs : List A) (x : A) → AllByRecursion P xs → P x → AllByRecursion P (xs ++ x ∷ [])
+AllByRecursion-push P [] x h p = (p, tt)
+AllByRecursion-push P (y ∷ ys) x h p = (h.0, AllByRecursion-push P ys x h.1 p)
+
+of_items : (schema : Schema) (read : List Aggregation) (ds : Items) (whole : List Aggregation) → AllByRecursion (ReadsIts schema) read
+    → each_from (aggregation_of schema) read ds ≡ Ok whole → AllByRecursion (ReadsIts schema) whole
+unfolding each_from
+of_items schema read no_items whole h e = let same : read ≡ whole = cc in subst (AllByRecursion (ReadsIts schema)) same h
+of_items schema read (item d ds) whole h e =
+    through (aggregation_of schema d) _ whole e (λ a one e. of_items schema (read ++ a ∷ []) ds whole (AllByRecursion-push (ReadsIts schema) read a h (of_item schema d a one)) e)
+
+of_field : (schema : Schema) (d : Option Data) (all : List Aggregation) → aggregations_in schema d ≡ Ok all → AllByRecursion (ReadsIts schema) all
+of_field schema None all e = let same : [] ≡ all = cc in subst (AllByRecursion (ReadsIts schema)) same tt
+of_field schema (Some d) all e = through (passed Base (as_list (codes "aggregations") d)) _ all e (λ items _ e. of_items schema [] items all tt e)
+
+pub columns-aggregations_of : (schema : Schema) (d : Data) (all : List Aggregation) → aggregations_of schema d ≡ Ok all → AllByRecursion (ReadsIts schema) all
+unfolding aggregations_of
+columns-aggregations_of schema d all e = of_field schema (field (codes "aggregations") d) all e

@@ -1,0 +1,78 @@
+-- An interval that was read has two ends that can be printed.
+use Rattle.std.proofs.Common.{◌≡◌, ℕ, ℤ, pos, ◌+ℤ◌, ◌-ℤ◌, ◌*ℤ◌, subst, Bool, true, false, ◌&&◌, int_le, int_lt, List, [], ◌∷◌, map, fold, Option, Some, None, Result, Ok, Err, refl, arith}
+use Rattle.std.specs.List.{All, AllByRecursion}
+use Rattle.std.specs.Option.{IfSome}
+use Rattle.std.proofs.lemmas.Int.{ints, clamps}
+use Rattle.std.proofs.lemmas.List.Elements.{recursion_from_All}
+use Rattle.dr_base.specs.Reading.{◌>>=◌}
+use Rattle.dr_time.specs.declared.interval.Interval.{Interval}
+use Rattle.dr_time.specs.declared.time_error.TimeError.{TimeError}
+use Rattle.dr_time.specs.declared.time_error.TimeError.TheVariants.{OutOfRange, BadInstant, BadInterval, EndBeforeStart}
+use Rattle.dr_time.specs.Instant.{day_millis, first_instant, last_instant, IsInstant, in_range, instant_of, instant_at, date_of, clock_behind}
+use Rattle.dr_time.specs.Interval.{is_empty, first_time, as_part, parts_of, interval_from, interval_of}
+use Rattle.dr_time.specs.Union.{earlier, union_start}
+use Rattle.dr_query.specs.Timeseries.{IsPrintable}
+
+-- where two steps give a value, the first gave one, and the second this value of it
+bind_ok : {A B E : Type 0} (r : Result A E) (f : A → Result B E) (y : B) → (r >>= f) ≡ Ok y → (x : A) × (r ≡ Ok x) × (f x ≡ Ok y)
+bind_ok (Ok x) f y h = (x, refl, h)
+bind_ok (Err e) f y h = absurd (cc)
+
+IsInstant-from_in_range : (b : Bool) (t u : ℤ) → (int_le first_instant t && int_le t last_instant) ≡ b → in_range t ≡ Ok u → IsInstant u
+IsInstant-from_in_range b t u is h = grind (arith, ints)
+
+IsInstant-from_instant_at : (day : ℤ) (millis : ℕ) (offset t : ℤ) → instant_at day millis offset ≡ Ok t → IsInstant t
+IsInstant-from_instant_at day millis offset t h = IsInstant-from_in_range _ (day *ℤ pos day_millis +ℤ pos millis -ℤ offset) t refl h
+
+IsInstant-from_instant_of : (text : List ℕ) (t : ℤ) → instant_of text ≡ Ok t → IsInstant t
+unfolding instant_of
+IsInstant-from_instant_of text t h =
+    let p = bind_ok (date_of text) (λ date. clock_behind date.1 >>= (λ millis. instant_at date.0 millis (pos 0))) t h in
+    let q = bind_ok (clock_behind p.0.1) (λ millis. instant_at p.0.0 millis (pos 0)) t p.2 in
+    IsInstant-from_instant_at p.0.0 q.0 (pos 0) t q.2
+
+as_part-ok : (r : Result ℤ TimeError) (t : ℤ) → as_part r ≡ Ok t → r ≡ Ok t
+as_part-ok (Ok u) t h = h
+as_part-ok (Err BadInstant) t h = absurd (cc)
+as_part-ok (Err OutOfRange) t h = absurd (cc)
+as_part-ok (Err BadInterval) t h = absurd (cc)
+as_part-ok (Err EndBeforeStart) t h = absurd (cc)
+
+IsPrintable-from_ends : (b : Bool) (s e : ℤ) (i : Interval) → int_lt e s ≡ b → IsInstant s → IsInstant e → interval_from s e ≡ Ok i → IsPrintable i
+IsPrintable-from_ends true s e i is from to h = let no = rw is at h in absurd (cc)
+IsPrintable-from_ends false s e i is from to h =
+    let given = rw is at h in
+    let made : Interval = record { start = s; end = e } in
+    let same : made ≡ i = cc in
+    subst IsPrintable same (from, to)
+
+IsPrintable-from_interval_from : (s e : ℤ) (i : Interval) → IsInstant s → IsInstant e → interval_from s e ≡ Ok i → IsPrintable i
+IsPrintable-from_interval_from s e i from to h = IsPrintable-from_ends (int_lt e s) s e i refl from to h
+
+pub IsPrintable-from_interval_of : (text : List ℕ) (i : Interval) → interval_of text ≡ Ok i → IsPrintable i
+unfolding interval_of
+IsPrintable-from_interval_of text i h =
+    let p = bind_ok (parts_of text) (λ parts. as_part (instant_of parts.0) >>= (λ start. as_part (instant_of parts.1) >>= (λ end. interval_from start end))) i h in
+    let q = bind_ok (as_part (instant_of p.0.0)) (λ start. as_part (instant_of p.0.1) >>= (λ end. interval_from start end)) i p.2 in
+    let r = bind_ok (as_part (instant_of p.0.1)) (λ end. interval_from q.0 end) i q.2 in
+    IsPrintable-from_interval_from q.0 r.0 i (IsInstant-from_instant_of p.0.0 q.0 (as_part-ok _ _ q.1)) (IsInstant-from_instant_of p.0.1 r.0 (as_part-ok _ _ r.1)) r.2
+
+earlier-printable : (a b : Option ℤ) → IfSome a IsInstant → IfSome b IsInstant → IfSome (earlier a b) IsInstant
+earlier-printable None b p q = q
+earlier-printable (Some a) None p q = p
+earlier-printable (Some a) (Some b) p q = omega (arith, ints, clamps)
+
+first_time-printable : (b : Bool) (i : Interval) → is_empty i ≡ b → IsPrintable i → IfSome (first_time i) IsInstant
+first_time-printable true i is p = rw is tt
+first_time-printable false i is p = rw is p.0
+
+earliest-printable : (o : Option ℤ) (intervals : List Interval) → IfSome o IsInstant → AllByRecursion IsPrintable intervals → IfSome (fold earlier o (map first_time intervals)) IsInstant
+earliest-printable o [] p each = p
+earliest-printable o (i ∷ is) p each =
+    earliest-printable (earlier o (first_time i)) is (earlier-printable o (first_time i) p (first_time-printable _ i refl each.0)) each.1
+
+-- where a union of such intervals starts can be printed
+pub union_start-printable : (intervals : List Interval) → All IsPrintable intervals → IfSome (union_start intervals) IsInstant
+union_start-printable intervals each = earliest-printable None intervals tt (recursion_from_All IsPrintable intervals each)
+
+pub ruleset printable_starts = (union_start-printable)

@@ -1,0 +1,14 @@
+pub mod AnswerRefusal
+pub mod Refusal
+pub mod Outputs
+pub mod Timeseries
+pub mod MadeFor
+pub mod Step
+pub mod IntervalsOf
+pub mod AggregationsOf
+pub mod QueryOf
+pub mod Matching
+pub mod Selection
+pub mod Fold
+pub mod Groups
+pub mod Answer

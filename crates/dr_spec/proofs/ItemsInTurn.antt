@@ -1,0 +1,36 @@
+-- Reading items one after the other, as a loop does.
+use Rattle.std.proofs.Common.{◌≡◌, ℕ, ◌+◌, ◌<◌, ◌≤◌, List, [], ◌∷◌, ◌++◌, length, drop, get_or, Result, Ok, Err, refl, sym, ◌∙◌}
+use Rattle.std.proofs.lemmas.List.{drop_more, drop_all}
+use Rattle.serde_json.specs.Data.{Data}
+use Rattle.serde_json.specs.declared.value.Value.{Value}
+use Rattle.serde_json.specs.View.{view, items_view}
+use Rattle.dr_spec.specs.declared.spec_error.SpecError.{SpecError}
+use Rattle.dr_spec.specs.Refusal.{Fails}
+use Rattle.dr_spec.specs.Each.{each_from}
+
+-- a refusal on the way is that of the whole
+pub Fails-at : {Y Z : Type 0} (e : SpecError) (r : Result Y SpecError) (s : Result Z SpecError) → ((f : SpecError) → r ≡ Err f → s ≡ Err f) → Fails e r → Fails e s
+Fails-at e r s h x = λ m. h e (x m)
+
+-- one more item is read
+pub each_from-goes_on : {A : Type 0} (reading : Data → Result A SpecError) (xs : List A) (vs : List Value) (i : ℕ) (v : Value) (x : A) (whole : Result (List A) SpecError) → i < length vs → v ≡ get_or vs i v → reading (view v) ≡ Ok x
+    → each_from reading xs (items_view (drop i vs)) ≡ whole → each_from reading (xs ++ x ∷ []) (items_view (drop (i + 1) vs)) ≡ whole
+unfolding each_from
+each_from-goes_on reading xs vs i v x whole lt is h so_far =
+    let e : each_from reading xs (items_view (drop i vs)) ≡ each_from reading (xs ++ x ∷ []) (items_view (drop (i + 1) vs)) = rw (drop_more vs i v lt, ← is, h) refl in
+    sym e ∙ so_far
+
+-- an item is refused
+pub each_from-stops : {A : Type 0} (reading : Data → Result A SpecError) (xs : List A) (vs : List Value) (i : ℕ) (v : Value) (e : SpecError) (whole : Result (List A) SpecError) → i < length vs → v ≡ get_or vs i v
+    → each_from reading xs (items_view (drop i vs)) ≡ whole → Fails e (reading (view v)) → Fails e whole
+unfolding each_from
+each_from-stops reading xs vs i v e whole lt is so_far h = Fails-at e (reading (view v)) whole (λ f r.
+    let one : each_from reading xs (items_view (drop i vs)) ≡ Err f = rw (drop_more vs i v lt, ← is, r) refl in
+    sym so_far ∙ one) h
+
+pub each_from-ends : {A : Type 0} (reading : Data → Result A SpecError) (xs : List A) (vs : List Value) (i : ℕ) (whole : Result (List A) SpecError) → length vs ≤ i → each_from reading xs (items_view (drop i vs)) ≡ whole → whole ≡ Ok xs
+unfolding each_from
+each_from-ends reading xs vs i whole le so_far =
+    let none : drop i vs ≡ [] = drop_all i vs le in
+    let one : each_from reading xs (items_view (drop i vs)) ≡ Ok xs = rw none refl in
+    sym so_far ∙ one

@@ -1,0 +1,4 @@
+pub mod ItemsInTurn
+pub mod DistinctNames
+pub mod WellFormedSchemas
+pub mod Steps

@@ -1,0 +1,12 @@
+pub mod Refusal
+pub mod Sections
+pub mod Leniency
+pub mod Each
+pub mod TimestampSpec
+pub mod DimensionsSpec
+pub mod MetricsSpec
+pub mod GranularitySpec
+pub mod TuningConfig
+pub mod Columns
+pub mod SpecOf
+pub mod WellFormed

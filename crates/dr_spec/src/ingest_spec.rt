@@ -1,0 +1,72 @@
+ghost use Rattle.std.specs.Prelude.{◌≡◌, IfOk};
+ghost use Rattle.dr_spec.specs.Refusal.{Gives};
+ghost use Rattle.dr_spec.specs.SpecOf.{spec_of};
+
+use crate::reading::read_schema;
+use crate::schema::Schema;
+use crate::spec_error::SpecError;
+use std::alloc::{AllocError, Global};
+use std::marker::Model;
+
+/// An ingestion spec that was read (Apache Druid documentation, ingestion spec). A contract sees its schema, which is well
+/// formed: the names of the columns are distinct, there are 1 to 64 dimensions and at most 64 metrics, each metric but a
+/// count reads a field, and each limit is in its range.
+#[derive(Debug)]
+pub struct IngestSpec {
+    schema: Schema,
+}
+
+// Written out, since a derived drop is repeated, field by field, in the proof of each function that drops a spec.
+impl Drop for IngestSpec {
+    fn drop(self) {
+        let IngestSpec { schema: _ } = self;
+    }
+}
+
+impl Model for IngestSpec {
+    ghost use Rattle.dr_spec.specs.declared.schema.Schema.{Schema};
+
+    ghost Value = { Schema };
+
+    ghost use Rattle.dr_spec.specs.WellFormed.{IsWellFormed};
+
+    ghost view = { λ s. s.schema };
+
+    ghost invariant = { λ s. IsWellFormed s.schema };
+}
+
+impl IngestSpec {
+    ghost use Rattle.dr_spec.specs.WellFormed.{IsWellFormed};
+
+    /// The spec that the bytes spell, as JSON in UTF-8. Where the text has an object `spec`, that is taken in its place. A
+    /// field that is null counts as absent, and a key that is not listed is taken only with null, false, `[]` or `{}`.
+    ///
+    /// Refusals, the first that is met in the order of `dataSource`, `timestampSpec`, `dimensionsSpec`, `metricsSpec`,
+    /// `granularitySpec`, `transformSpec`, the names of the columns, their number, unlisted keys and `tuningConfig`: 0
+    /// `NoMemory`, 1 `NotJson`, 2 `Missing`, 3 `WrongKind`, 20 `UnsupportedDimension`, 21 `UnsupportedMetric`, 24
+    /// `DuplicateName`, 25 `NoDimensions`, 26 `Unsupported`, 27 `TooManyColumns`.
+    pub fn parse(alloc: Global, bytes: &[u8]) -> Result<IngestSpec, SpecError>
+        ensures { Gives (λ schema. schema) result (spec_of bytes.now) }
+    {
+        Ok(IngestSpec {
+            schema: read_schema(alloc, bytes)?,
+        })
+    }
+
+    /// An equal spec in memory of its own.
+    pub fn copy(&self) -> Result<IngestSpec, AllocError>
+        ensures { IfOk result (λ spec. spec ≡ self.now) }
+    {
+        Ok(IngestSpec {
+            schema: self.schema.copy()?,
+        })
+    }
+
+    /// The schema of the data source. A caller learns that it is well formed.
+    pub fn schema(&self) -> &Schema
+        ensures value { result.now ≡ self.now }
+        ensures well_formed { IsWellFormed self.now }
+    {
+        &self.schema
+    }
+}

@@ -1,0 +1,12 @@
+/// How the time of an event is written (Apache Druid documentation, ingestion spec, `timestampSpec`).
+#[derive(Clone, Copy, Debug, PartialEq, Eq)]
+pub enum TimeFormat {
+    /// A text of ISO 8601.
+    Iso,
+    /// Milliseconds since the epoch.
+    Millis,
+    /// Seconds since the epoch.
+    Posix,
+    /// Milliseconds where it is a whole number, in digits or as a number, and a text of ISO 8601 otherwise.
+    Auto,
+}

@@ -1,0 +1,76 @@
+ghost use Rattle.std.specs.Prelude.{◌≡◌};
+ghost use Rattle.dr_time.specs.Instant.{instant_of};
+ghost use Rattle.dr_time.specs.Interval.{holds_time, is_empty as is_empty_of, interval_of, as_part, first_time, first_time_from};
+
+use crate::instant::parse_instant;
+use crate::time_error::TimeError;
+
+/// The times from `start`, which is inside, to `end`, which isn't, in milliseconds since 1970-01-01T00:00:00Z.
+#[derive(Clone, Copy, Debug, PartialEq, Eq)]
+pub struct Interval {
+    pub start: i64,
+    pub end: i64,
+}
+
+impl Interval {
+    /// Whether the interval holds this time.
+    pub fn contains(&self, time: i64) -> bool
+        ensures { result ≡ holds_time self.now time }
+    {
+        self.start <= time && time < self.end
+    }
+
+    /// Whether the interval holds no time.
+    pub fn is_empty(&self) -> bool
+        ensures { result ≡ is_empty_of self.now }
+    {
+        self.end <= self.start
+    }
+
+    /// The start of an interval that isn't empty.
+    pub fn first(&self) -> Option<i64>
+        ensures { result ≡ first_time self.now }
+    {
+        if self.is_empty() {
+            None
+        } else {
+            Some(self.start)
+        }
+    }
+
+    /// The first time of the interval that isn't before `from`.
+    pub fn first_from(&self, from: i64) -> Option<i64>
+        ensures { result ≡ first_time_from from self.now }
+    {
+        let first = from.max(self.start);
+        if first < self.end { Some(first) } else { None }
+    }
+}
+
+/// The interval that a text names: two instants with a `/` between them (ISO 8601).
+///
+/// The text is cut at its first `/`, and the part before it is judged first. Without a `/`, and where a part is no instant,
+/// the text is 12; an instant out of range is 11; an end before the start is 13. Two equal instants are an empty interval.
+#[tactic(auto, unfolding(crate::specs::Interval::interval_of))]
+pub fn parse_interval(text: &str) -> Result<Interval, TimeError>
+    ensures { result ≡ interval_of text.now }
+{
+    let Some((start, end)) = text.split_once('/') else {
+        return Err(TimeError::BadInterval);
+    };
+    let start = part(start)?;
+    let end = part(end)?;
+    if end < start {
+        return Err(TimeError::EndBeforeStart);
+    }
+    Ok(Interval { start, end })
+}
+
+fn part(text: &str) -> Result<i64, TimeError>
+    ensures { result ≡ as_part (instant_of text.now) }
+{
+    parse_instant(text).map_err(|error| match error {
+        TimeError::BadInstant => TimeError::BadInterval,
+        other => other,
+    })
+}

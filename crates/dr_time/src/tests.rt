@@ -1,0 +1,153 @@
+use crate::{Interval, TimeError, Union, parse_instant, parse_interval, print_instant};
+use std::test::Fail;
+
+#[test]
+fn reads_instants(rt: HostRuntime) {
+    for (text, instant) in [
+        ("2024-01-01", 1_704_067_200_000),
+        ("2024-01-01T00:00:00Z", 1_704_067_200_000),
+        ("2000-02-29", 951_782_400_000),
+        ("2024-02-29", 1_709_164_800_000),
+        ("1970-01-01T00:01:02Z", 62_000),
+        ("1969-12-31T23:59:59Z", -1_000),
+        ("0001-01-01", -62_135_596_800_000),
+        ("9999-12-31T23:59:59Z", 253_402_300_799_000),
+    ] {
+        assert_eq!(rt; parse_instant(text), Ok(instant), "{text}");
+    }
+}
+
+#[test]
+fn refuses_what_is_no_instant(rt: HostRuntime) {
+    for text in [
+        "",
+        "x",
+        "2024",
+        "2024-1-01",
+        "2024-02-30",
+        "2024-13-01",
+        "2024-00-10",
+        "2024-01-00",
+        "2023-02-29",
+        "1900-02-29",
+        "0001-02-29",
+        "2024-04-31",
+        "2024-01-01Z",
+        "2024-01-01T",
+        "2024-01-01T00:00:00",
+        "2024-01-01T24:00:00Z",
+        "2024-01-01T00:60:00Z",
+        "2024-01-01T00:00:60Z",
+        "2024-01-01t00:00:00Z",
+        "2024-01-01T00:00:00z",
+        "2024-01-01 00:00:00Z",
+        "2024-01-01T00:00:00Z ",
+        "+024-01-01",
+        "-146136543-09-08",
+    ] {
+        assert_eq!(rt; parse_instant(text), Err(TimeError::BadInstant), "{text}");
+    }
+    for text in ["0000-01-01", "0000-02-29", "0000-12-31T23:59:59Z"] {
+        assert_eq!(rt; parse_instant(text), Err(TimeError::OutOfRange), "{text}");
+    }
+}
+
+#[test]
+fn prints_instants(rt: HostRuntime) -> Result<(), Fail> {
+    for (instant, text) in [
+        (1_704_067_200_000, "2024-01-01T00:00:00.000Z"),
+        (0, "1970-01-01T00:00:00.000Z"),
+        (-1, "1969-12-31T23:59:59.999Z"),
+        (1_709_251_199_001, "2024-02-29T23:59:59.001Z"),
+        (-62_135_596_800_000, "0001-01-01T00:00:00.000Z"),
+        (253_402_300_799_999, "9999-12-31T23:59:59.999Z"),
+    ] {
+        assert_eq!(rt; print_instant(rt.alloc(), instant)?.as_str(), text);
+    }
+    Ok(())
+}
+
+#[test]
+fn reads_intervals(rt: HostRuntime) {
+    let new_year = 1_704_067_200_000;
+    let day = 86_400_000;
+    for (text, start, end) in [
+        ("2024-01-01/2024-01-02", new_year, new_year + day),
+        (
+            "2024-01-01/2024-01-01T00:00:01Z",
+            new_year,
+            new_year + 1_000,
+        ),
+        ("2024-01-01/2024-01-01", new_year, new_year),
+    ] {
+        assert_eq!(rt; parse_interval(text), Ok(Interval { start, end }), "{text}");
+    }
+}
+
+#[test]
+fn refuses_what_is_no_interval(rt: HostRuntime) {
+    for (text, error) in [
+        ("2024-01-02/2024-01-01", TimeError::EndBeforeStart),
+        ("2024-01-01", TimeError::BadInterval),
+        ("x/2024-01-01", TimeError::BadInterval),
+        ("2024-01-01/x", TimeError::BadInterval),
+        ("2024-01-01/2024-01-02/2024-01-03", TimeError::BadInterval),
+        ("/", TimeError::BadInterval),
+        (
+            "-146136543-09-08T08:23:32.096Z/146140482-04-24T15:36:27.903Z",
+            TimeError::BadInterval,
+        ),
+        ("0000-01-01/x", TimeError::OutOfRange),
+        ("x/0000-01-01", TimeError::BadInterval),
+        ("2024-01-01/0000-01-01", TimeError::OutOfRange),
+    ] {
+        assert_eq!(rt; parse_interval(text), Err(error), "{text}");
+    }
+}
+
+#[test]
+fn joins_intervals(rt: HostRuntime) -> Result<(), Fail> {
+    let intervals = [
+        Interval { start: 3, end: 3 },
+        Interval { start: 20, end: 30 },
+        Interval { start: 10, end: 22 },
+        Interval { start: 5, end: 4 },
+    ];
+    let union = Union::of(rt.alloc(), &intervals)?.copy()?;
+    assert_eq!(rt; union.intervals(), intervals.as_slice());
+    assert_eq!(rt; union.start(), Some(10));
+    for (time, inside) in [
+        (3, false),
+        (9, false),
+        (10, true),
+        (21, true),
+        (29, true),
+        (30, false),
+    ] {
+        assert_eq!(rt; union.contains(time), inside, "{time}");
+    }
+    for (from, first) in [
+        (-7, Some(10)),
+        (15, Some(15)),
+        (22, Some(22)),
+        (29, Some(29)),
+        (30, None),
+    ] {
+        assert_eq!(rt; union.first_from(from), first, "{from}");
+    }
+    assert_eq!(rt; Union::of(rt.alloc(), &[])?.start(), None);
+    Ok(())
+}
+
+#[test]
+fn names_refusals(rt: HostRuntime) {
+    for (error, number, name) in [
+        (TimeError::BadInstant, 10, "BadInstant"),
+        (TimeError::OutOfRange, 11, "OutOfRange"),
+        (TimeError::BadInterval, 12, "BadInterval"),
+        (TimeError::EndBeforeStart, 13, "EndBeforeStart"),
+    ] {
+        assert_eq!(rt; error.number(), number);
+        assert_eq!(rt; error.name(), name);
+    }
+}

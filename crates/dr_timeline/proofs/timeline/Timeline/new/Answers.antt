@@ -1,0 +1,7 @@
+use Rattle.std.proofs.Common.{refl}
+use Rattle.dr_timeline.specs.Chunks.{values_onto}
+use Rattle.dr_timeline.proofs.timeline.Timeline.new.Goals as goal
+
+pub invariant_of-result : goal.invariant_of-result
+unfolding values_onto
+invariant_of-result c = rw (c.in_ok-kinds.ensures, c.schema.ensures.value, c.new.ensures.items, c.new-2.ensures.items) (record { kinds = refl; chunks = refl })

@@ -1,0 +1,12 @@
+-- The answer to a query over raw events, one by one.
+use Rattle.std.specs.Prelude.{ℕ, List, Result, map}
+use Rattle.dr_base.specs.declared.event.Event.{Event}
+use Rattle.dr_spec.specs.declared.schema.Schema.{Schema}
+use Rattle.dr_query.specs.declared.query.Query.{Query}
+use Rattle.dr_query.specs.declared.answer_error.AnswerError.{AnswerError}
+use Rattle.dr_query.specs.Answer.{answer}
+use Rattle.dr_timeline.specs.Unrolled.{unrolled}
+
+-- the answer over the events, each as a row of its own: truncated, filtered, grouped and folded one by one
+abbrev pub raw_answer : Schema → Query → List Event → Result (List ℕ) AnswerError
+raw_answer schema q es = answer q (map (unrolled schema) es)
