@@ -1,2 +1,3 @@
 pub mod JsonTexts
 pub mod UnlistedKeys
+pub mod Equality

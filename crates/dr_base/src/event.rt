@@ -1,4 +1,4 @@
-ghost use Rattle.std.specs.Prelude.{◌≡◌, IfOk};
+ghost use Rattle.std.specs.Prelude.{◌≡◌, ◌↔◌, IfOk, IsTrue};
 
 use crate::numbers::Numbers;
 use crate::texts::Texts;
@@ -6,7 +6,7 @@ use std::alloc::AllocError;
 
 /// An event as it was read: the mark of the seat that read it, its untruncated time in milliseconds since the epoch,
 /// its dimension values and its metric inputs, both in the order of the spec.
-#[derive(Debug, Drop)]
+#[derive(Debug, Drop, PartialEq, Eq)]
 pub struct Event {
     pub seat: u8,
     pub time: i64,
@@ -15,6 +15,13 @@ pub struct Event {
 }
 
 impl Event {
+    /// Whether the other event has the same mark, time, dimension values and inputs.
+    pub fn equals(&self, other: &Event) -> bool
+        ensures { IsTrue result ↔ (self.now ≡ other.now) }
+    {
+        self == other
+    }
+
     /// An equal event in memory of its own.
     pub fn copy(&self) -> Result<Event, AllocError>
         ensures { IfOk result (λ event. event ≡ self.now) }

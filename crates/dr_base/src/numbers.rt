@@ -1,4 +1,7 @@
 ghost use Rattle.std.specs.Prelude.{◌≡◌, ◌++◌, ◌∷◌, ◌<◌, [], IfOk, OnOk, OnErr, length, slice_set, slice_get};
+ghost use Rattle.std.specs.Ordering.{int_eq};
+ghost use Rattle.std.specs.Cmp.{partial_equiv_from_equiv, int_eq_equiv};
+ghost use Rattle.std.specs.Cmp.Lexicographic.{pointwise, lists_equiv, lists_per};
 
 use std::alloc::{AllocError, Global};
 use std::marker::Model;
@@ -82,4 +85,18 @@ impl Numbers {
         let alloc = *self.0.allocator();
         Ok(Numbers(Vec::from_slice(alloc, self.as_slice())?))
     }
+}
+
+impl PartialEq for Numbers {
+    ghost eq = { pointwise int_eq };
+
+    ghost laws = { lists_per (partial_equiv_from_equiv int_eq_equiv) };
+
+    fn eq(&self, other: &Numbers) -> bool {
+        self.0 == other.0
+    }
+}
+
+impl Eq for Numbers {
+    ghost laws = { lists_equiv int_eq_equiv };
 }

@@ -159,3 +159,41 @@ fn finds_keys_that_no_table_lists(rt: HostRuntime) -> Result<(), Fail> {
     assert_eq!(rt; first_unlisted(members, &["b", "z", "type"]), None);
     Ok(())
 }
+
+fn event_of(alloc: std::alloc::Global, seat: u8, page: &str, input: i64) -> Result<Event, Fail> {
+    let mut dims = Texts::new(alloc);
+    dims.push(Text::from_str(alloc, page)?)?;
+    let mut inputs = Numbers::new(alloc);
+    inputs.push(input)?;
+    Ok(Event {
+        seat,
+        time: 600_000,
+        dims,
+        inputs,
+    })
+}
+
+fn row_of(event: Event) -> Row {
+    Row {
+        key: Key {
+            time: event.time,
+            dims: event.dims,
+        },
+        metrics: event.inputs,
+    }
+}
+
+#[test]
+fn tells_rows_and_events_apart(rt: HostRuntime) -> Result<(), Fail> {
+    let alloc = rt.alloc();
+    let event = event_of(alloc, 0, "A", 5)?;
+    assert!(rt; event.equals(&event_of(alloc, 0, "A", 5)?));
+    assert!(rt; !event.equals(&event_of(alloc, 1, "A", 5)?));
+    assert!(rt; !event.equals(&event_of(alloc, 0, "B", 5)?));
+    assert!(rt; !event.equals(&event_of(alloc, 0, "A", 6)?));
+    let row = row_of(event);
+    assert!(rt; row.equals(&row_of(event_of(alloc, 1, "A", 5)?)));
+    assert!(rt; !row.equals(&row_of(event_of(alloc, 0, "B", 5)?)));
+    assert!(rt; !row.equals(&row_of(event_of(alloc, 0, "A", 6)?)));
+    Ok(())
+}
