@@ -1,5 +1,8 @@
 -- For a matching query the answer over rolled-up rows is that over the raw events.
-use Rattle.std.proofs.Common.{◌≡◌, ◌∙◌, sym, refl, ap, ℤ, Bool, true, false, List, [], ◌∷◌, map, filter, cond, Option, Some, None, ◌||◌, ◌&&◌, not, arith}
+use Rattle.std.proofs.Common.{◌≡◌, ◌∙◌, sym, refl, ap, ℤ, Bool, true, false, ℕ, ◌-◌, ◌≤◌, List, [], ◌∷◌, ◌++◌, length, take, drop, nat_lt, map, filter, cond, Option, Some, None, ◌||◌, ◌&&◌, not, arith}
+use Rattle.std.proofs.lemmas.List.{append-nil, take_all, drop_all, length-drop}
+use Rattle.std.proofs.lemmas.List.Concat.{flat_map-append}
+use Rattle.std.proofs.lemmas.Bool.Decides.{nat_tests}
 use Rattle.std.specs.List.{flat_map, fold, list_all, AllByRecursion}
 use Rattle.std.specs.Int.{int_min, int_max}
 use Rattle.std.specs.Ordering.{int_eq}
@@ -28,21 +31,65 @@ use Rattle.dr_timeline.specs.Unrolled.{unrolled, rolled_up}
 use Rattle.dr_spec.specs.Columns.{kinds_of}
 use Rattle.dr_timeline.specs.Chunks.{chunk, chunk_list, chunks}
 use Rattle.dr_timeline.specs.RawAnswer.{raw_answer}
+use Rattle.dr_timeline.specs.State.{Range, Cut, AreCuts, IsTiled, events_of, open_from}
+use Rattle.dr_timeline.specs.Segments.{events_in, infos, infos_of_cut, sealed_info, open_info, rows_over}
 use Rattle.dr_query.specs.MadeFor.{IsColumn, MadeFor}
+use Rattle.dr_timeline.proofs.Each.{All-same}
+use Rattle.dr_timeline.proofs.Tiles.{tiled-events}
 use Rattle.dr_timeline.proofs.Totals.{Combines, total, total-unit, total-map, total-flat_map, total-same, total-rollup, Joins}
 use Rattle.dr_timeline.proofs.Parts.{total-parts, rising-values, Covers-values_onto}
 
--- the rows of each chunk of some events, each chunk rolled up whole
-abbrev pub chunk_rows : Schema → List Event → List Row
-chunk_rows schema es = flat_map (λ k. rolled_up schema (chunk_list schema es k)) (chunks schema es)
+-- the rows over cuts
+abbrev pub cut_rows : Schema → List Event → List Cut → List Row
+cut_rows schema es cuts = rows_over schema es (infos schema es cuts)
 
--- a total over the rows of chunks is that over the raw events
-pub total-chunk_rows : {M : Type 0} {op : M → M → M} {e : M} (k : Combines op e) (f : Row → M) (schema : Schema) → (schema.rollup ≡ true → Joins op (kinds_of schema) f) → (es : List Event)
-    → total op e f (chunk_rows schema es) ≡ total op e f (map (unrolled schema) es)
-total-chunk_rows {op = op} {e = e} k f schema law es =
+-- ---- the events of the ranges of a cut are those of its chunk
+
+events-sealed : (schema : Schema) (es : List Event) (k : ℤ) (rs : List Range) → flat_map (events_in schema es) (map (sealed_info schema es k) rs) ≡ flat_map (events_of (chunk_list schema es k)) rs
+events-sealed schema es k [] = refl
+events-sealed schema es k (r ∷ rs) = ap (λ l. events_of (chunk_list schema es k) r ++ l) (events-sealed schema es k rs)
+
+events-open : (schema : Schema) (es : List Event) (k : ℤ) (from : ℕ)
+    → flat_map (events_in schema es) (cond (nat_lt from (length (chunk_list schema es k))) (open_info schema es k from ∷ []) []) ≡ drop from (chunk_list schema es k)
+events-open schema es k from =
+    let l : List Event = chunk_list schema es k in
+    let long : length (drop from l) ≡ length l - from = length-drop from l in
+    elim (nat_lt from (length l)) as (λ b. nat_lt from (length l) ≡ b → flat_map (events_in schema es) (cond b (open_info schema es k from ∷ []) []) ≡ drop from l) [
+      | true ↦ λ h. append-nil (take (length l - from) (drop from l)) ∙ take_all (length l - from) (drop from l) (omega arith)
+      | false ↦ λ h. let past : length l ≤ from = grind (arith, nat_tests) in sym (drop_all from l past)
+    ] refl
+
+events-of_cut : (schema : Schema) (es : List Event) (cut : Cut) → IsTiled schema es cut → flat_map (events_in schema es) (infos_of_cut schema es cut) ≡ chunk_list schema es cut.chunk
+events-of_cut schema es cut tiled =
+    let l : List Event = chunk_list schema es cut.chunk in
+    flat_map-append (events_in schema es) (map (sealed_info schema es cut.chunk) cut.sealed) _
+    ∙ (λ i. events-sealed schema es cut.chunk cut.sealed i ++ events-open schema es cut.chunk (open_from cut.sealed) i)
+    ∙ tiled-events l 0 cut.sealed tiled
+
+-- ---- a total over the rows of cuts is that over the raw events
+
+total-each : {A M : Type 0} (op : M → M → M) (e : M) (f g : A → M) (xs : List A) → AllByRecursion (λ x. f x ≡ g x) xs → total op e f xs ≡ total op e g xs
+total-each op e f g [] h = refl
+total-each op e f g (x ∷ xs) h = λ i. op (h.0 i) (total-each op e f g xs h.1 i)
+
+total-of_cut : {M : Type 0} {op : M → M → M} {e : M} (k : Combines op e) (f : Row → M) (schema : Schema) → (schema.rollup ≡ true → Joins op (kinds_of schema) f) → (es : List Event) (cut : Cut) → IsTiled schema es cut
+    → total op e (λ r. total op e f (rolled_up schema (events_in schema es r))) (infos_of_cut schema es cut) ≡ total op e (λ x. f (unrolled schema x)) (chunk_list schema es cut.chunk)
+total-of_cut {op = op} {e = e} k f schema law es cut tiled =
     let u : Event → Row = unrolled schema in
-    total-flat_map k f (λ c. rolled_up schema (chunk_list schema es c)) (chunks schema es)
-    ∙ total-same op e _ _ (λ c. total-rollup k f schema.rollup (kinds_of schema) law (map u (chunk_list schema es c)) ∙ total-map op e f u (chunk_list schema es c)) (chunks schema es)
+    total-same op e _ _ (λ r. total-rollup k f schema.rollup (kinds_of schema) law (map u (events_in schema es r)) ∙ total-map op e f u (events_in schema es r)) (infos_of_cut schema es cut)
+    ∙ sym (total-flat_map k (λ x. f (u x)) (events_in schema es) (infos_of_cut schema es cut))
+    ∙ ap (total op e (λ x. f (u x))) (events-of_cut schema es cut tiled)
+
+pub total-cut_rows : {M : Type 0} {op : M → M → M} {e : M} (k : Combines op e) (f : Row → M) (schema : Schema) → (schema.rollup ≡ true → Joins op (kinds_of schema) f) → (es : List Event) (cuts : List Cut) → AreCuts schema es cuts
+    → total op e f (cut_rows schema es cuts) ≡ total op e f (map (unrolled schema) es)
+total-cut_rows {op = op} {e = e} k f schema law es cuts are =
+    let u : Event → Row = unrolled schema in
+    total-flat_map k f (λ r. rolled_up schema (events_in schema es r)) (infos schema es cuts)
+    ∙ total-flat_map k (λ r. total op e f (rolled_up schema (events_in schema es r))) (infos_of_cut schema es) cuts
+    ∙ total-each op e _ (λ c. total op e (λ x. f (u x)) (chunk_list schema es c.chunk)) cuts
+    (All-same (IsTiled schema es) _ (λ c. total-of_cut k f schema law es c) cuts are.tiled)
+    ∙ sym (total-map op e (λ j. total op e (λ x. f (u x)) (chunk_list schema es j)) (λ c. c.chunk) cuts)
+    ∙ ap (total op e (λ j. total op e (λ x. f (u x)) (chunk_list schema es j))) are.chunks
     ∙ total-parts k (chunk schema) (λ x. f (u x)) (chunks schema es) es (rising-values (chunk schema) es) (Covers-values_onto (chunk schema) [] es)
     ∙ sym (total-map op e f u es)
 
@@ -104,9 +151,9 @@ Joins-span kinds x r h =
     let t : r.key.time ≡ x.key.time = ap (λ (k : Key). k.time) (same_key r.key x.key h) in
     sym (ap (λ s. wider (span_of_row x) (Some (s, s))) t ∙ (λ i. Some (int_min-same x.key.time i, int_max-same x.key.time i)))
 
-pub span-chunk_rows : (schema : Schema) (es : List Event) → span (chunk_rows schema es) ≡ span (map (unrolled schema) es)
-span-chunk_rows schema es =
-    fold-total spans span_of_row (chunk_rows schema es) ∙ total-chunk_rows spans span_of_row schema (λ _. Joins-span (kinds_of schema)) es
+pub span-cut_rows : (schema : Schema) (es : List Event) (cuts : List Cut) → AreCuts schema es cuts → span (cut_rows schema es cuts) ≡ span (map (unrolled schema) es)
+span-cut_rows schema es cuts are =
+    fold-total spans span_of_row (cut_rows schema es cuts) ∙ total-cut_rows spans span_of_row schema (λ _. Joins-span (kinds_of schema)) es cuts are
     ∙ sym (fold-total spans span_of_row (map (unrolled schema) es))
 
 units : (k : Kind) → combine_of k (unit_of k) (unit_of k) ≡ unit_of k
@@ -155,26 +202,26 @@ folded-total q b a rows =
     ∙ total-filter k (reading a) (λ r. int_eq (bucket q r.key.time) b) (selected q rows)
     ∙ total-filter k (λ r. cond (int_eq (bucket q r.key.time) b) (reading a r) (unit_of a.kind)) (λ r. union_holds q.intervals r.key.time) rows
 
-folded-chunk_rows : (schema : Schema) (q : Query) (b : ℤ) (a : Aggregation) (es : List Event) → (schema.rollup ≡ true → IsColumn (kinds_of schema) a.column × (aggregation_matches a ≡ true))
-    → folded a (in_bucket q b (selected q (chunk_rows schema es))) ≡ folded a (in_bucket q b (selected q (map (unrolled schema) es)))
-folded-chunk_rows schema q b a es h =
+folded-cut_rows : (schema : Schema) (q : Query) (b : ℤ) (a : Aggregation) (es : List Event) (cuts : List Cut) → AreCuts schema es cuts → (schema.rollup ≡ true → IsColumn (kinds_of schema) a.column × (aggregation_matches a ≡ true))
+    → folded a (in_bucket q b (selected q (cut_rows schema es cuts))) ≡ folded a (in_bucket q b (selected q (map (unrolled schema) es)))
+folded-cut_rows schema q b a es cuts are h =
     let p : ℤ → Bool = union_holds q.intervals in
     let in_b : ℤ → Bool = λ t. int_eq (bucket q t) b in
-    folded-total q b a (chunk_rows schema es)
-    ∙ total-chunk_rows (combination a.kind) (share a p in_b) schema (λ on. let g = h on in Joins-share (kinds_of schema) a p in_b g.0 g.1) es
+    folded-total q b a (cut_rows schema es cuts)
+    ∙ total-cut_rows (combination a.kind) (share a p in_b) schema (λ on. let g = h on in Joins-share (kinds_of schema) a p in_b g.0 g.1) es cuts are
     ∙ sym (folded-total q b a (map (unrolled schema) es))
 
 and-true : (a b : Bool) → (a && b) ≡ true → (a ≡ true) × (b ≡ true)
 and-true true b h = (refl, h)
 and-true false b h = cc
 
-folds-chunk_rows : (schema : Schema) (q : Query) (b : ℤ) (aggregations : List Aggregation) (es : List Event)
+folds-cut_rows : (schema : Schema) (q : Query) (b : ℤ) (aggregations : List Aggregation) (es : List Event) (cuts : List Cut) → AreCuts schema es cuts
     → (schema.rollup ≡ true → AllByRecursion (λ a. IsColumn (kinds_of schema) a.column) aggregations × (list_all aggregation_matches aggregations ≡ true))
-    → folds aggregations (in_bucket q b (selected q (chunk_rows schema es))) ≡ folds aggregations (in_bucket q b (selected q (map (unrolled schema) es)))
-folds-chunk_rows schema q b [] es h = refl
-folds-chunk_rows schema q b (a ∷ more) es h =
-    let first = folded-chunk_rows schema q b a es (λ on. let g = h on in (g.0.0, (and-true (aggregation_matches a) (list_all aggregation_matches more) g.1).0)) in
-    let others = folds-chunk_rows schema q b more es (λ on. let g = h on in (g.0.1, (and-true (aggregation_matches a) (list_all aggregation_matches more) g.1).1)) in
+    → folds aggregations (in_bucket q b (selected q (cut_rows schema es cuts))) ≡ folds aggregations (in_bucket q b (selected q (map (unrolled schema) es)))
+folds-cut_rows schema q b [] es cuts are h = refl
+folds-cut_rows schema q b (a ∷ more) es cuts are h =
+    let first = folded-cut_rows schema q b a es cuts are (λ on. let g = h on in (g.0.0, (and-true (aggregation_matches a) (list_all aggregation_matches more) g.1).0)) in
+    let others = folds-cut_rows schema q b more es cuts are (λ on. let g = h on in (g.0.1, (and-true (aggregation_matches a) (list_all aggregation_matches more) g.1).1)) in
     λ i. first i ∷ others i
 
 map-same : {A B : Type 0} (f g : A → B) → ((x : A) → f x ≡ g x) → (xs : List A) → map f xs ≡ map g xs
@@ -185,15 +232,15 @@ matching-all : (q : Query) (b : Bool) → q.rollup ≡ b → is_matching q ≡ t
 matching-all q b is h on =
     let e : (not true || list_all aggregation_matches q.aggregations) ≡ true = ap (λ c. not c || list_all aggregation_matches q.aggregations) (sym (is ∙ on)) ∙ h in e
 
-groups-chunk_rows : (schema : Schema) (q : Query) (es : List Event) → MadeFor schema q → is_matching q ≡ true → groups q (chunk_rows schema es) ≡ groups q (map (unrolled schema) es)
-groups-chunk_rows schema q es made h =
+groups-cut_rows : (schema : Schema) (q : Query) (es : List Event) (cuts : List Cut) → AreCuts schema es cuts → MadeFor schema q → is_matching q ≡ true → groups q (cut_rows schema es cuts) ≡ groups q (map (unrolled schema) es)
+groups-cut_rows schema q es cuts are made h =
     let matches : schema.rollup ≡ true → AllByRecursion (λ a. IsColumn (kinds_of schema) a.column) q.aggregations × (list_all aggregation_matches q.aggregations ≡ true) =
     λ on. (made.columns, matching-all q schema.rollup made.rollup h on) in
-    ap (λ s. map (group q (chunk_rows schema es)) (filled q s)) (span-chunk_rows schema es)
-    ∙ map-same (group q (chunk_rows schema es)) (group q (map (unrolled schema) es))
-    (λ b. ap (λ (values : List ℤ). record { time = b; dims = []; values = values }) (folds-chunk_rows schema q b q.aggregations es matches)) (filled q (span (map (unrolled schema) es)))
+    ap (λ s. map (group q (cut_rows schema es cuts)) (filled q s)) (span-cut_rows schema es cuts are)
+    ∙ map-same (group q (cut_rows schema es cuts)) (group q (map (unrolled schema) es))
+    (λ b. ap (λ (values : List ℤ). record { time = b; dims = []; values = values }) (folds-cut_rows schema q b q.aggregations es cuts are matches)) (filled q (span (map (unrolled schema) es)))
 
--- for a matching query, the answer over rolled-up chunks is that over the raw events
-pub answer-chunk_rows : (schema : Schema) (q : Query) (es : List Event) → MadeFor schema q → is_matching q ≡ true → answer q (chunk_rows schema es) ≡ raw_answer schema q es
+-- for a matching query, the answer over the rows of cuts is that over the raw events
+pub answer-cut_rows : (schema : Schema) (q : Query) (es : List Event) (cuts : List Cut) → AreCuts schema es cuts → MadeFor schema q → is_matching q ≡ true → answer q (cut_rows schema es cuts) ≡ raw_answer schema q es
 unfolding answer
-answer-chunk_rows schema q es made h = ap (answer_of q) (groups-chunk_rows schema q es made h)
+answer-cut_rows schema q es cuts are made h = ap (answer_of q) (groups-cut_rows schema q es cuts are made h)

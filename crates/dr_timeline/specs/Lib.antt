@@ -1,7 +1,14 @@
 pub mod Refusal
 pub mod Unrolled
 pub mod Chunks
+pub mod AtKey
 pub mod State
+pub mod Joined
+pub mod Steps
+pub mod Segments
 pub mod RawAnswer
-pub mod OpenChunks
+pub mod Laws
+pub mod Held
+pub mod Pieces
+pub mod Shown
 pub mod Groups

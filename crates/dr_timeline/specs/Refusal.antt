@@ -1,12 +1,20 @@
 -- The numbers and names of the refusals of a timeline.
 use Rattle.std.specs.Prelude.{ℕ, List, codes}
 use Rattle.dr_timeline.specs.declared.timeline_error.TimelineError.{TimelineError}
-use Rattle.dr_timeline.specs.declared.timeline_error.TimelineError.TheVariants.{NoMemory, StreamFull}
+use Rattle.dr_timeline.specs.declared.timeline_error.TimelineError.TheVariants.{NoMemory, StreamFull, NothingToSeal, NoSuchRange, Stale, CommitsFull}
 
 abbrev pub number_of : TimelineError → ℕ
 number_of NoMemory = 0
 number_of StreamFull = 90
+number_of NothingToSeal = 91
+number_of NoSuchRange = 92
+number_of Stale = 93
+number_of CommitsFull = 95
 
 abbrev pub name_of : TimelineError → List ℕ
 name_of NoMemory = codes "NoMemory"
 name_of StreamFull = codes "StreamFull"
+name_of NothingToSeal = codes "NothingToSeal"
+name_of NoSuchRange = codes "NoSuchRange"
+name_of Stale = codes "Stale"
+name_of CommitsFull = codes "CommitsFull"

@@ -3,31 +3,30 @@ ghost use Rattle.std.specs.List.{flat_map};
 ghost use Rattle.dr_agg.specs.Combination.{combine_of};
 ghost use Rattle.dr_query.specs.Fold.{reading as reading_of, value_at as value_at_of, folded, folds};
 ghost use Rattle.dr_query.specs.Selection.{selected};
-ghost use Rattle.dr_timeline.specs.OpenChunks.{rows_in};
+ghost use Rattle.dr_timeline.specs.Pieces.{rows_in};
 
-use crate::chunk::Chunk;
 use dr_agg::Kind;
 use dr_base::{Numbers, Row};
 use dr_query::{Aggregation, Column, Query};
 use std::alloc::{AllocError, Global};
 
-/// What each aggregation of a query folds to over the selected rows of chunks, in the order of the query.
-pub fn fold_chunks(alloc: Global, query: &Query, chunks: &[Chunk]) -> Result<Numbers, AllocError>
-    ensures { IfOk result (λ values. values ≡ folds query.now.aggregations (selected query.now (rows_in chunks.now))) }
+/// What each aggregation of a query folds to over the selected rows of pieces, in the order of the query.
+pub fn fold_pieces(alloc: Global, query: &Query, pieces: &[&[Row]]) -> Result<Numbers, AllocError>
+    ensures { IfOk result (λ values. values ≡ folds query.now.aggregations (selected query.now (rows_in pieces.now))) }
 {
     let mut values = Numbers::new(alloc);
     for aggregation in query.aggregations.as_slice() {
-        values.push(fold_column(query, aggregation, chunks))?;
+        values.push(fold_column(query, aggregation, pieces))?;
     }
     Ok(values)
 }
 
-fn fold_column(query: &Query, aggregation: &Aggregation, chunks: &[Chunk]) -> i64
-    ensures { result ≡ folded aggregation.now (selected query.now (rows_in chunks.now)) }
+fn fold_column(query: &Query, aggregation: &Aggregation, pieces: &[&[Row]]) -> i64
+    ensures { result ≡ folded aggregation.now (selected query.now (rows_in pieces.now)) }
 {
     let mut value = aggregation.kind.unit();
-    for chunk in chunks {
-        value = fold_rows(query, aggregation, value, chunk.rows.as_slice());
+    for rows in pieces {
+        value = fold_rows(query, aggregation, value, rows);
     }
     value
 }

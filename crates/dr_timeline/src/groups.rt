@@ -1,34 +1,34 @@
 ghost use Rattle.std.specs.Prelude.{◌≡◌, ℤ, pos, IfOk};
 ghost use Rattle.std.specs.List.{list_any, AllByRecursion};
 ghost use Rattle.dr_timeline.specs.Groups.{FitsQuery};
-ghost use Rattle.dr_query.specs.Groups.{groups, bucket as bucket_of, meets as meets_of};
-ghost use Rattle.dr_timeline.specs.OpenChunks.{rows_in};
+ghost use Rattle.dr_query.specs.Groups.{groups, span as span_of, bucket as bucket_of, meets as meets_of};
+ghost use Rattle.dr_timeline.specs.Pieces.{rows_in};
 
-use crate::chunk::Chunk;
-use crate::fold::fold_chunks;
-use crate::span::span_of;
-use dr_base::Texts;
+use crate::fold::fold_pieces;
+use dr_base::{Row, Texts};
 use dr_query::{Query, ResultRow};
 use dr_time::Interval;
 use std::alloc::{AllocError, Global};
 
-/// The groups of a query over the rows of chunks.
+/// The groups of a query over the rows of pieces, of which this is the span.
 pub fn groups_of(
     alloc: Global,
     query: &Query,
-    chunks: &[Chunk],
+    span: Option<(i64, i64)>,
+    pieces: &[&[Row]],
 ) -> Result<Vec<ResultRow>, AllocError>
-    ensures groups { IfOk result (λ found. found.items ≡ groups query.now (rows_in chunks.now)) }
+    requires { span ≡ span_of (rows_in pieces.now) }
+    ensures groups { IfOk result (λ found. found.items ≡ groups query.now (rows_in pieces.now)) }
     ensures fits { IfOk result (λ found. AllByRecursion (FitsQuery query.now) found.items) }
 {
     let mut found = Vec::new(alloc);
-    let Some(span) = span_of(chunks) else {
+    let Some(span) = span else {
         return Ok(found);
     };
     if !meets_any(span, query.intervals.intervals()) {
         return Ok(found);
     }
-    let values = fold_chunks(alloc, query, chunks)?;
+    let values = fold_pieces(alloc, query, pieces)?;
     found.push(ResultRow {
         time: bucket(query),
         dims: Texts::new(alloc),

@@ -1,19 +1,22 @@
-ghost use Rattle.std.specs.Prelude.{◌≡◌, true, length, map, option_map, slice_get};
+ghost use Rattle.std.specs.Prelude.{◌≡◌, ◌↔◌, ◌++◌, IsTrue, List, true, length, map, option_map, slice_get};
+ghost use Rattle.dr_base.specs.declared.event.Event.{Event};
 ghost use Rattle.dr_query.specs.AnswerRefusal.{Answers};
 ghost use Rattle.dr_query.specs.Answer.{answer};
-ghost use Rattle.dr_query.specs.Groups.{span};
+ghost use Rattle.dr_query.specs.Groups.{span, span as span_of_rows};
 ghost use Rattle.dr_query.specs.Matching.{is_matching};
-ghost use Rattle.dr_timeline.specs.Unrolled.{unrolled};
-ghost use Rattle.dr_timeline.specs.State.{rows_of};
-ghost use Rattle.dr_timeline.specs.OpenChunks.{rows_in};
-ghost use Rattle.dr_timeline.specs.RawAnswer.{raw_answer};
 ghost use Rattle.dr_query.specs.MadeFor.{MadeFor};
+ghost use Rattle.dr_timeline.specs.Unrolled.{unrolled};
+ghost use Rattle.dr_timeline.specs.Segments.{rows_of};
+ghost use Rattle.dr_timeline.specs.Pieces.{rows_in};
+ghost use Rattle.dr_timeline.specs.RawAnswer.{raw_answer};
 
 use crate::answer_text::text_of_groups;
-use crate::chunk::Chunk;
+use crate::fragments::Fragments;
 use crate::groups::groups_of;
+use crate::range_info::RangeInfo;
 use crate::span::span_of;
-use dr_base::Event;
+use crate::unrolled::unrolled_rows;
+use dr_base::{Event, Row};
 use dr_query::{AnswerError, Query};
 use dr_spec::Schema;
 use std::alloc::Global;
@@ -22,25 +25,25 @@ use std::marker::Model;
 /// How many groups an answer may have, before any limit.
 pub const MAX_GROUPS: usize = 100_000;
 
-/// The events that were accepted before a pin, in order, and their segments. No later step changes it. A contract sees
-/// its schema, the list of its events, and where each chunk is cut.
+/// The events that were accepted before a pin, in order, and the ranges that their chunks were cut into. No later step
+/// changes it. A contract sees its schema, the list of its events, and the ranges.
 #[derive(Drop)]
 pub struct Snapshot {
     pub(crate) schema: Schema,
     pub(crate) stream: Vec<Event>,
-    pub(crate) chunks: Vec<Chunk>,
+    pub(crate) fragments: Fragments,
+    pub(crate) ranges: Vec<RangeInfo>,
 }
 
 impl Model for Snapshot {
-    ghost use Rattle.std.specs.Prelude.{◌≡◌, map};
-    ghost use Rattle.dr_timeline.specs.State.{State};
-    ghost use Rattle.dr_timeline.specs.OpenChunks.{cut_of, open_chunks};
+    ghost use Rattle.dr_timeline.specs.Segments.{Pinned};
+    ghost use Rattle.dr_timeline.specs.Shown.{Shows};
 
-    ghost Value = { State };
+    ghost Value = { Pinned };
 
-    ghost view = { λ s. record { schema = s.schema; stream = s.stream.items; cuts = map cut_of s.chunks.items } };
+    ghost view = { λ s. record { schema = s.schema; stream = s.stream.items; ranges = s.ranges.items } };
 
-    ghost invariant = { λ s. s.chunks.items ≡ open_chunks s.schema s.stream.items };
+    ghost invariant = { λ s. Shows s.schema s.stream.items s.fragments s.ranges.items };
 }
 
 impl Snapshot {
@@ -58,19 +61,34 @@ impl Snapshot {
         self.stream.get(number as usize)
     }
 
+    /// The ranges that the chunks were cut into: chunks rising, those of a chunk in order, the open one last where it has
+    /// an event.
+    pub fn ranges(&self) -> &[RangeInfo]
+        ensures { result.now ≡ self.now.ranges }
+    {
+        self.ranges.as_slice()
+    }
+
     /// From the least to the greatest truncated time of the events, both included, in milliseconds since the epoch; none
     /// where there is no event.
     pub fn span(&self) -> Option<(i64, i64)>
         ensures { result ≡ span (map (unrolled self.now.schema) self.now.stream) }
     {
-        span_of(&self.chunks)
+        span_of(self.fragments.as_slice())
+    }
+
+    /// Whether the events of the other snapshot are the first of this one's.
+    pub fn extends(&self, other: &Snapshot) -> bool
+        ensures { IsTrue result ↔ ((rest : List Event) × (self.now.stream ≡ other.now.stream ++ rest)) }
+    {
+        begins_with(&self.stream, &other.stream)
     }
 
     /// The answer to a query that was made for the schema, as JSON text: `[{"result":{..},"timestamp":".."}]`, keys in
     /// ascending byte order, without spaces (Apache Druid documentation, timeseries queries).
     ///
     /// Where the query matches, it is byte for byte the answer over the raw events, truncated, filtered, grouped and
-    /// folded one by one. Refusals: 81 `ResultTooLarge` where there are over 100000 groups.
+    /// folded one by one, whatever the ranges. Refusals: 81 `ResultTooLarge` where there are over 100000 groups.
     pub fn answer_one(&self, query: &Query) -> Result<Vec<u8>, AnswerError>
         requires { MadeFor self.now.schema query.now }
         ensures own_rows { Answers (λ text. text.items) result (answer query.now (rows_of self.now)) }
@@ -78,14 +96,46 @@ impl Snapshot {
             → Answers (λ text. text.items) result (raw_answer self.now.schema query.now self.now.stream) }
     {
         let alloc = *self.stream.allocator();
-        answer_chunks(alloc, query, &self.chunks)
+        let pieces = self.fragments.pieces(alloc)?;
+        answer_pieces(alloc, query, self.span(), &pieces)
+    }
+
+    /// The answer to a query that was made for the schema over the raw events, each as a row of its own: truncated,
+    /// filtered, grouped and folded one by one. Text and refusals are those of `answer_one`.
+    pub fn audit(&self, query: &Query) -> Result<Vec<u8>, AnswerError>
+        requires { MadeFor self.now.schema query.now }
+        ensures { Answers (λ text. text.items) result (raw_answer self.now.schema query.now self.now.stream) }
+    {
+        let alloc = *self.stream.allocator();
+        let rows = unrolled_rows(alloc, &self.schema, &self.stream)?;
+        answer_pieces(alloc, query, self.span(), &[rows.as_slice()])
     }
 }
 
-fn answer_chunks(alloc: Global, query: &Query, chunks: &[Chunk]) -> Result<Vec<u8>, AnswerError>
-    ensures { Answers (λ text. text.items) result (answer query.now (rows_in chunks.now)) }
+fn begins_with(events: &[Event], first: &[Event]) -> bool
+    ensures { IsTrue result ↔ ((rest : List Event) × (events.now ≡ first.now ++ rest)) }
 {
-    let groups = groups_of(alloc, query, chunks)?;
+    if events.len() < first.len() {
+        return false;
+    }
+    for (i, event) in first.iter().enumerate() {
+        if !event.equals(&events[i]) {
+            return false;
+        }
+    }
+    true
+}
+
+fn answer_pieces(
+    alloc: Global,
+    query: &Query,
+    span: Option<(i64, i64)>,
+    pieces: &[&[Row]],
+) -> Result<Vec<u8>, AnswerError>
+    requires { span ≡ span_of_rows (rows_in pieces.now) }
+    ensures { Answers (λ text. text.items) result (answer query.now (rows_in pieces.now)) }
+{
+    let groups = groups_of(alloc, query, span, pieces)?;
     if groups.len() > MAX_GROUPS {
         return Err(AnswerError::ResultTooLarge);
     }

@@ -1,17 +1,17 @@
 ghost use Rattle.std.specs.Prelude.{◌≡◌, map, fold, Some};
 ghost use Rattle.dr_query.specs.Groups.{span, wider as wider_of, span_of_row};
-ghost use Rattle.dr_timeline.specs.OpenChunks.{rows_in};
+ghost use Rattle.dr_timeline.specs.Pieces.{rows_held};
 
-use crate::chunk::Chunk;
+use crate::shared_fragment::SharedFragment;
 use dr_base::Row;
 
-/// From the least to the greatest time of the rows of chunks, both included, in milliseconds since the epoch.
-pub fn span_of(chunks: &[Chunk]) -> Option<(i64, i64)>
-    ensures { result ≡ span (rows_in chunks.now) }
+/// From the least to the greatest time of the rows of fragments, both included, in milliseconds since the epoch.
+pub fn span_of(fragments: &[SharedFragment]) -> Option<(i64, i64)>
+    ensures { result ≡ span (rows_held fragments.now) }
 {
     let mut span = None;
-    for chunk in chunks {
-        span = span_onto(span, chunk.rows.as_slice());
+    for shared in fragments {
+        span = span_onto(span, shared.fragment().rows.as_slice());
     }
     span
 }

@@ -1,41 +1,54 @@
-ghost use Rattle.std.specs.Prelude.{◌≡◌, true, ◌≤◌, ◌↔◌, length, OnOk, OnErr, IfOk, IsErrOf, IsOkUnless};
-ghost use Rattle.dr_timeline.specs.State.{State, empty_state, accepted};
-ghost use Rattle.dr_spec.specs.Columns.{kinds_of};
+ghost use Rattle.std.specs.Prelude.{◌≡◌, ◌<◌, ◌≤◌, ◌↔◌, ◌⊎◌, ℕ, true, [], ◌++◌, length, map, OnOk, OnErr, IfOk, IfErr, IsErrOf};
+ghost use Rattle.dr_timeline.specs.declared.timeline_error.TimelineError.TheVariants.{NoMemory, StreamFull, NothingToSeal, NoSuchRange, Stale, CommitsFull};
+ghost use Rattle.dr_timeline.specs.State.{State, empty_state, sealed_in};
+ghost use Rattle.dr_timeline.specs.Steps.{accepted, sealed_at, open_in, job_of, StandsAt, Commits};
+ghost use Rattle.dr_timeline.specs.Held.{info_of, infos_of_chunk, fragments_of_chunk};
+ghost use Rattle.dr_timeline.specs.Joined.{joined_fragment, FitsJob};
+ghost use Rattle.dr_timeline.specs.Segments.{pinned};
 ghost use Rattle.dr_events.specs.Fits.{FitsSchema};
-ghost use Rattle.dr_timeline.specs.OpenChunks.{put_row, RowsFit};
-ghost use Rattle.dr_agg.specs.Combination.{FitsColumns};
 
-use crate::chunk::{Chunk, Place};
-use crate::chunk_rows::Rows;
+use crate::chunk::Chunk;
+use crate::chunks::Chunks;
+use crate::fragment::Fragment;
+use crate::fragments::Fragments;
+use crate::job::Job;
+use crate::place::Place;
+use crate::planned::{job_over, least_version, place_of_job};
+use crate::purpose::Purpose;
+use crate::range_info::RangeInfo;
+use crate::sealed_range::SealedRange;
+use crate::shared_fragment::SharedFragment;
 use crate::snapshot::Snapshot;
 use crate::timeline_error::TimelineError;
-use crate::unrolled::{chunk_start, unrolled_row};
+use crate::unrolled::{chunk_start, columns_of, unrolled_row};
 use dr_agg::Kind;
-use dr_base::{Event, Row};
-use dr_spec::{IngestSpec, Schema};
+use dr_base::Event;
+use dr_spec::IngestSpec;
 use std::alloc::{AllocError, Global};
 use std::marker::Model;
 
-/// The accepted events of a data source, in order, and the open range of each of their chunks. A contract sees its
-/// schema, the list of its events, and where each chunk is cut.
+/// The accepted events of a data source, in order, and the ranges that the list of each chunk is cut into. A contract sees
+/// its schema, the list of its events, where each chunk is cut, and how many seals and commits there were.
 #[derive(Drop)]
 pub struct Timeline {
     spec: IngestSpec,
     kinds: Vec<Kind>,
     stream: Vec<Event>,
-    chunks: Vec<Chunk>,
+    chunks: Chunks,
+    seals: u64,
+    commits: u64,
 }
 
 impl Model for Timeline {
-    ghost use Rattle.std.specs.Prelude.{map};
+    ghost use Rattle.std.specs.Prelude.{map, ◌+◌};
     ghost use Rattle.dr_timeline.specs.State.{State};
-    ghost use Rattle.dr_timeline.specs.OpenChunks.{cut_of, KeepsOpen};
+    ghost use Rattle.dr_timeline.specs.Held.{cut_of, Keeps};
 
     ghost Value = { State };
 
-    ghost view = { λ t. record { schema = t.spec; stream = t.stream.items; cuts = map cut_of t.chunks.items } };
+    ghost view = { λ t. record { schema = t.spec; stream = t.stream.items; cuts = map cut_of t.chunks; serials = t.seals + t.commits; commits = t.commits } };
 
-    ghost invariant = { λ t. KeepsOpen t.spec t.kinds.items t.stream.items t.chunks.items };
+    ghost invariant = { λ t. Keeps t.spec t.kinds.items t.stream.items t.chunks t.seals t.commits };
 }
 
 impl Timeline {
@@ -48,7 +61,9 @@ impl Timeline {
             spec,
             kinds,
             stream: Vec::new(alloc),
-            chunks: Vec::new(alloc),
+            chunks: Chunks::new(alloc),
+            seals: 0,
+            commits: 0,
         })
     }
 
@@ -66,14 +81,17 @@ impl Timeline {
         true
     }
 
-    /// Accepts an event that fits the schema, and answers its number in the stream, from 0. An error leaves the timeline
-    /// as it was. Refusals: 90 `StreamFull` exactly where as many events are retained as the spec's `maxRetained`.
+    /// Accepts an event that fits the schema, and answers its number in the stream, from 0. Where the open range of its
+    /// chunk then has as many rows as the spec's `maxRowsInMemory`, the range is sealed in the same step. An error leaves
+    /// the timeline as it was. Refusals: 90 `StreamFull` exactly where as many events are retained as the spec's
+    /// `maxRetained`.
     pub fn accept(&mut self, event: Event) -> Result<u64, TimelineError>
         requires { FitsSchema self.old.schema event }
         ensures number { IfOk result (λ n. n ≡ length self.old.stream) }
         ensures ok { OnOk result (self.new ≡ accepted self.old event) }
         ensures err { OnErr result (self.new ≡ self.old) }
-        ensures full { IsErrOf result TimelineError.StreamFull ↔ (self.old.schema.limits.max_retained ≤ length self.old.stream) }
+        ensures full { IsErrOf result StreamFull ↔ (self.old.schema.limits.max_retained ≤ length self.old.stream) }
+        ensures refusals { IfErr result (λ e. (e ≡ NoMemory) ⊎ (e ≡ StreamFull)) }
     {
         let schema = self.spec.schema();
         let number = self.stream.len();
@@ -84,66 +102,153 @@ impl Timeline {
         let row = unrolled_row(alloc, schema, &self.kinds, &event)?;
         let start = chunk_start(schema, &event);
         self.stream.reserve(1)?;
-        put_row(
+        let seals = self.chunks.grow(
             alloc,
             schema.rollup,
             &self.kinds,
-            &mut self.chunks,
+            schema.limits.max_rows_in_memory,
+            self.seals + self.commits,
             start,
             row,
         )?;
+        self.seals += seals;
         self.stream.push(event).unwrap();
         Ok(number as u64)
     }
 
-    /// A snapshot of what was accepted so far, which no later step changes. The only error is that memory ran out.
-    pub fn pin(&self) -> Result<Snapshot, AllocError>
-        ensures { IfOk result (λ snapshot. snapshot ≡ self.now) }
+    /// Seals the open range of a chunk, which is named by its start in milliseconds since the epoch. An error leaves the
+    /// timeline as it was. Refusals: 91 `NothingToSeal` exactly where that range has no event.
+    pub fn seal(&mut self, chunk: i64) -> Result<(), TimelineError>
+        ensures ok { OnOk result (self.new ≡ sealed_at chunk self.old) }
+        ensures err { OnErr result (self.new ≡ self.old) }
+        ensures nothing { IsErrOf result NothingToSeal ↔ (open_in self.old chunk ≡ []) }
+        ensures refusals { IfErr result (λ e. (e ≡ NoMemory) ⊎ (e ≡ NothingToSeal)) }
     {
         let alloc = *self.stream.allocator();
+        let serial = self.seals + self.commits;
+        let Place::At(i) = self.chunks.place_of(chunk) else {
+            return Err(TimelineError::NothingToSeal);
+        };
+        if !self.chunks.as_slice()[i].has_open() {
+            return Err(TimelineError::NothingToSeal);
+        }
+        self.chunks.seal(alloc, i, serial)?;
+        self.seals += 1;
+        Ok(())
+    }
+
+    /// A job over the sealed ranges of a chunk at the places from `lo` to before `hi`, in the order in which they stand
+    /// now. The chunk is named by its start in milliseconds since the epoch. Refusals: 92 `NoSuchRange` exactly where
+    /// these places name no sealed ranges, or none.
+    pub fn plan(
+        &self,
+        chunk: i64,
+        lo: usize,
+        hi: usize,
+        purpose: Purpose,
+    ) -> Result<Job, TimelineError>
+        ensures job { IfOk result (λ job. job ≡ job_of self.now chunk lo hi purpose) }
+        ensures fits { IfOk result (λ job. FitsJob self.now.schema job) }
+        ensures no_range { IsErrOf result NoSuchRange ↔ ((lo < hi) × (hi ≤ length (sealed_in chunk self.now.cuts)) → ⊥) }
+        ensures refusals { IfErr result (λ e. (e ≡ NoMemory) ⊎ (e ≡ NoSuchRange)) }
+    {
+        let alloc = *self.stream.allocator();
+        let Place::At(i) = self.chunks.place_of(chunk) else {
+            return Err(TimelineError::NoSuchRange);
+        };
+        let sealed = self.chunks.as_slice()[i].sealed.as_slice();
+        if lo >= hi || hi > sealed.len() {
+            return Err(TimelineError::NoSuchRange);
+        }
+        Ok(job_over(alloc, chunk, &sealed[lo..hi], purpose)?)
+    }
+
+    /// Puts the fragment that the inputs of a job are joined to in the place of their ranges, wherever these stand by now,
+    /// and answers its version. An error leaves the timeline as it was. Refusals: 93 `Stale` exactly where the job's ranges
+    /// don't stand next to each other any more, with its serials and rows; then 95 `CommitsFull` exactly where there were
+    /// as many commits as the spec's `maxCommits`.
+    pub fn commit(&mut self, job: &Job, fragment: Fragment) -> Result<u64, TimelineError>
+        requires { fragment ≡ joined_fragment self.old.schema job.now }
+        ensures ok { IfOk result (λ version. Commits self.old job.now version self.new) }
+        ensures err { OnErr result (self.new ≡ self.old) }
+        ensures stale { IsErrOf result Stale ↔ ((place : ℕ) → StandsAt self.old job.now place → ⊥) }
+        ensures full { IsErrOf result CommitsFull ↔ (((place : ℕ) × StandsAt self.old job.now place) × (self.old.schema.limits.max_commits ≤ self.old.commits)) }
+        ensures refusals { IfErr result (λ e. (e ≡ NoMemory) ⊎ (e ≡ Stale) ⊎ (e ≡ CommitsFull)) }
+    {
+        let alloc = *self.stream.allocator();
+        let Place::At(i) = self.chunks.place_of(job.chunk) else {
+            return Err(TimelineError::Stale);
+        };
+        let Some(place) = place_of_job(self.chunks.as_slice()[i].sealed.as_slice(), job) else {
+            return Err(TimelineError::Stale);
+        };
+        if self.commits >= self.spec.schema().limits.max_commits {
+            return Err(TimelineError::CommitsFull);
+        }
+        let version = least_version(
+            &self.chunks.as_slice()[i].sealed.as_slice()[place..place + job.inputs.len()],
+        );
+        let range = SealedRange {
+            serial: self.seals + self.commits,
+            version,
+            fragment: SharedFragment::new(alloc, fragment)?,
+        };
+        self.chunks.replace(i, place, job.inputs.len(), range);
+        self.commits += 1;
+        Ok(version)
+    }
+
+    /// A snapshot of what was accepted so far, and of the ranges as they are now, which no later step changes. The only
+    /// error is that memory ran out.
+    pub fn pin(&self) -> Result<Snapshot, AllocError>
+        ensures { IfOk result (λ snapshot. snapshot ≡ pinned self.now) }
+    {
+        let alloc = *self.stream.allocator();
+        let mut fragments = Fragments::new(alloc);
+        let mut ranges = Vec::new(alloc);
+        for chunk in self.chunks.as_slice() {
+            pin_chunk(alloc, chunk, &mut fragments, &mut ranges)?;
+        }
         Ok(Snapshot {
             schema: self.spec.schema().copy()?,
             stream: copy_events(alloc, &self.stream)?,
-            chunks: copy_chunks(alloc, &self.chunks)?,
+            fragments,
+            ranges,
         })
     }
 }
 
-fn columns_of(alloc: Global, schema: &Schema) -> Result<Vec<Kind>, AllocError>
-    ensures { IfOk result (λ ks. ks.items ≡ kinds_of schema.now) }
+fn pin_chunk(
+    alloc: Global,
+    chunk: &Chunk,
+    fragments: &mut Fragments,
+    ranges: &mut Vec<RangeInfo>,
+) -> Result<(), AllocError>
+    ensures fragments { OnOk result (fragments.new ≡ fragments.old ++ fragments_of_chunk chunk.now) }
+    ensures ranges { OnOk result (ranges.new.items ≡ ranges.old.items ++ infos_of_chunk chunk.now) }
 {
-    schema
-        .metrics
-        .as_slice()
-        .iter()
-        .map(|metric| metric.kind)
-        .collect(alloc)
+    pin_sealed(chunk.sealed.as_slice(), fragments, ranges)?;
+    if chunk.has_open() {
+        ranges.push(chunk.open_info())?;
+        let fragment = chunk.open_fragment()?;
+        fragments.push(SharedFragment::new(alloc, fragment)?)?;
+    }
+    Ok(())
 }
 
-fn put_row(
-    alloc: Global,
-    combines: bool,
-    kinds: &[Kind],
-    chunks: &mut Vec<Chunk>,
-    start: i64,
-    row: Row,
+fn pin_sealed(
+    sealed: &[SealedRange],
+    fragments: &mut Fragments,
+    ranges: &mut Vec<RangeInfo>,
 ) -> Result<(), AllocError>
-    requires rows { RowsFit kinds.now chunks.old.items }
-    requires row { FitsColumns kinds.now row.metrics }
-    ensures ok { OnOk result (chunks.new.items ≡ put_row combines kinds.now start chunks.old.items row) }
-    ensures err { OnErr result (chunks.new.items ≡ chunks.old.items) }
+    ensures fragments { OnOk result (fragments.new ≡ fragments.old ++ map (λ s. s.fragment) sealed.now) }
+    ensures ranges { OnOk result (ranges.new.items ≡ ranges.old.items ++ map info_of sealed.now) }
 {
-    match Place::find(chunks, start) {
-        Place::Before(i) => {
-            let rows = Rows::of_one(alloc, row)?;
-            chunks.insert(i, Chunk { start, rows })?;
-            Ok(())
-        }
-        Place::At(i) => {
-            let chunk = &mut chunks[i];
-            chunk.rows.add(combines, kinds, row)
-        }
+    for range in sealed {
+        ranges.push(range.info())?;
+        fragments.push(range.fragment.share()?)?;
     }
+    Ok(())
 }
 
 fn copy_events(alloc: Global, events: &[Event]) -> Result<Vec<Event>, AllocError>
@@ -152,16 +257,6 @@ fn copy_events(alloc: Global, events: &[Event]) -> Result<Vec<Event>, AllocError
     let mut copies = Vec::with_capacity(alloc, events.len())?;
     for event in events {
         copies.push(event.copy()?)?;
-    }
-    Ok(copies)
-}
-
-fn copy_chunks(alloc: Global, chunks: &[Chunk]) -> Result<Vec<Chunk>, AllocError>
-    ensures { IfOk result (λ copies. copies.items ≡ chunks.now) }
-{
-    let mut copies = Vec::with_capacity(alloc, chunks.len())?;
-    for chunk in chunks {
-        copies.push(chunk.copy()?)?;
     }
     Ok(copies)
 }

@@ -14,16 +14,32 @@ pub enum TimelineError {
     /// 90: as many events are retained as the spec allows.
     #[error("the stream is full")]
     StreamFull,
+    /// 91: the chunk has no event in its open range.
+    #[error("the chunk has nothing to seal")]
+    NothingToSeal,
+    /// 92: the places name no sealed ranges of the chunk.
+    #[error("there is no such range")]
+    NoSuchRange,
+    /// 93: the ranges that the job was planned over do not stand there any more.
+    #[error("the job is stale")]
+    Stale,
+    /// 95: there were as many commits as the spec allows.
+    #[error("there were as many commits as there may be")]
+    CommitsFull,
 }
 
 impl TimelineError {
-    /// The number of the refusal, 0 or 90.
+    /// The number of the refusal: 0, 90 to 93 or 95.
     pub fn number(&self) -> u16
         ensures { result ≡ number_of self.now }
     {
         match self {
             TimelineError::NoMemory => 0,
             TimelineError::StreamFull => 90,
+            TimelineError::NothingToSeal => 91,
+            TimelineError::NoSuchRange => 92,
+            TimelineError::Stale => 93,
+            TimelineError::CommitsFull => 95,
         }
     }
 
@@ -34,6 +50,10 @@ impl TimelineError {
         match self {
             TimelineError::NoMemory => "NoMemory",
             TimelineError::StreamFull => "StreamFull",
+            TimelineError::NothingToSeal => "NothingToSeal",
+            TimelineError::NoSuchRange => "NoSuchRange",
+            TimelineError::Stale => "Stale",
+            TimelineError::CommitsFull => "CommitsFull",
         }
     }
 }

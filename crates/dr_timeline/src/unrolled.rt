@@ -1,4 +1,6 @@
-ghost use Rattle.std.specs.Prelude.{◌≡◌, IfOk, length, false};
+ghost use Rattle.std.specs.Prelude.{◌≡◌, IfOk, length, map, false};
+ghost use Rattle.std.specs.List.{AllByRecursion};
+ghost use Rattle.dr_events.specs.Fits.{FitsSchema};
 ghost use Rattle.dr_gran.specs.Step.{is_all};
 ghost use Rattle.dr_time.specs.Instant.{IsInstant};
 ghost use Rattle.dr_timeline.specs.Unrolled.{unrolled, contribution, contributions};
@@ -30,6 +32,36 @@ pub fn unrolled_row(
         },
         metrics: contributions(alloc, kinds, event.inputs.as_slice())?,
     })
+}
+
+/// Events as rows of their own, in their order.
+pub fn unrolled_rows(
+    alloc: Global,
+    schema: &Schema,
+    events: &[Event],
+) -> Result<Vec<Row>, AllocError>
+    requires kind { is_all schema.now.query_granularity ≡ false }
+    requires events { AllByRecursion (FitsSchema schema.now) events.now }
+    ensures { IfOk result (λ rows. rows.items ≡ map (unrolled schema.now) events.now) }
+{
+    let kinds = columns_of(alloc, schema)?;
+    let mut rows = Vec::with_capacity(alloc, events.len())?;
+    for event in events {
+        rows.push(unrolled_row(alloc, schema, &kinds, event)?)?;
+    }
+    Ok(rows)
+}
+
+/// The kinds of the metric columns of a schema, in order.
+pub fn columns_of(alloc: Global, schema: &Schema) -> Result<Vec<Kind>, AllocError>
+    ensures { IfOk result (λ ks. ks.items ≡ kinds_of schema.now) }
+{
+    schema
+        .metrics
+        .as_slice()
+        .iter()
+        .map(|metric| metric.kind)
+        .collect(alloc)
 }
 
 /// The start of the chunk of an event, in milliseconds since the epoch.

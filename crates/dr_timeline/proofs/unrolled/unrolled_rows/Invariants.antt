@@ -1,0 +1,6 @@
+use Rattle.std.proofs.Common.{◌≡◌, take, map}
+use Rattle.dr_timeline.specs.Unrolled.{unrolled}
+use Rattle.dr_timeline.proofs.unrolled.unrolled_rows.Given as goal
+
+abbrev pub invariant-loop-event : goal.invariant-loop-event
+invariant-loop-event l = l.rows.items ≡ map (unrolled l.schema) (take l.event-index l.events)

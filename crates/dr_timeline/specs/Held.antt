@@ -1,0 +1,161 @@
+-- What a timeline keeps of its chunks: the rows of each range. No public contract cites this file.
+use Rattle.std.specs.Prelude.{◌≡◌, ℕ, ℤ, ◌+◌, ◌-◌, ◌<◌, ◌≤◌, Bool, nat_le, nat_lt, true, false, List, [], ◌∷◌, ◌++◌, length, map, take, drop, get_or, suc, if◌then◌else◌}
+use Rattle.std.specs.List.{AllByRecursion}
+use Rattle.std.specs.Ordering.{int_cmp, match_ordering}
+use Rattle.std.specs.declared.cmp.Ordering.TheVariants.{Less, Equal, Greater}
+use Rattle.dr_base.specs.declared.event.Event.{Event}
+use Rattle.dr_base.specs.declared.row.Row.{Row}
+use Rattle.dr_agg.specs.declared.kind.Kind.{Kind}
+use Rattle.dr_agg.specs.Rollup.{add_row, AllFit}
+use Rattle.dr_events.specs.Fits.{FitsSchema}
+use Rattle.dr_spec.specs.WellFormed.{IsWellFormed}
+use Rattle.dr_spec.specs.Columns.{kinds_of}
+use Rattle.dr_spec.specs.declared.schema.Schema.{Schema}
+use Rattle.dr_timeline.specs.declared.chunk.Chunk.{Chunk}
+use Rattle.dr_timeline.specs.declared.job.Job.{Job}
+use Rattle.dr_timeline.specs.declared.place.Place.{Place}
+use Rattle.dr_timeline.specs.declared.place.Place.TheVariants.{At, Before}
+use Rattle.dr_timeline.specs.declared.fragment.Fragment.{Fragment}
+use Rattle.dr_timeline.specs.declared.range_info.RangeInfo.{RangeInfo}
+use Rattle.dr_timeline.specs.declared.sealed_range.SealedRange.{SealedRange}
+use Rattle.dr_timeline.specs.Unrolled.{rolled_up}
+use Rattle.dr_timeline.specs.Chunks.{chunk_list, chunks}
+use Rattle.dr_timeline.specs.AtKey.{at_key}
+use Rattle.dr_timeline.specs.State.{Range, Cut, State, Tile, open_from, open_events}
+use Rattle.dr_timeline.specs.Steps.{fragment_of}
+
+-- what a contract sees of a sealed range, of those of a chunk, and of a chunk
+abbrev pub range_of : SealedRange → Range
+range_of s = record { from = s.fragment.from; to = s.fragment.to; serial = s.serial; version = s.version }
+
+abbrev pub ranges_of : Chunk → List Range
+ranges_of c = map range_of c.sealed
+
+abbrev pub cut_of : Chunk → Cut
+cut_of c = record { chunk = c.start; sealed = ranges_of c; publications = c.publications }
+
+-- the chunk holds the rows of its ranges
+pub record Holds (schema : Schema) (es : List Event) (c : Chunk) : Type 0 where
+  pub events : c.events ≡ length (chunk_list schema es c.start)
+  pub tiled : Tile 0 c.events (ranges_of c)
+  pub sealed : AllByRecursion (λ s. s.fragment ≡ fragment_of schema es c.start (range_of s)) c.sealed
+  pub open_rows : c.rows ≡ rolled_up schema (open_events (chunk_list schema es c.start) (ranges_of c))
+
+-- its open range has fewer rows than are held in memory
+abbrev pub HasFewRows : Schema → Chunk → Type 0
+HasFewRows schema c = length c.rows < schema.limits.max_rows_in_memory
+
+-- how many events of a chunk are in its open range
+abbrev pub open_count : Chunk → ℕ
+open_count c = c.events - open_from (ranges_of c)
+
+abbrev pub total_open : List Chunk → ℕ
+total_open [] = 0
+total_open (c ∷ cs) = open_count c + total_open cs
+
+-- the kinds are those of the schema, and the chunks those of the events, which fit it; a seal takes at least one event
+pub record Keeps (schema : Schema) (ks : List Kind) (es : List Event) (cs : List Chunk) (seal_count commit_count : ℕ) : Type 0 where
+  pub formed : IsWellFormed schema
+  pub kinds : ks ≡ kinds_of schema
+  pub fit : AllByRecursion (FitsSchema schema) es
+  pub starts : map (λ c. c.start) cs ≡ chunks schema es
+  pub each : AllByRecursion (Holds schema es) cs
+  pub few : AllByRecursion (HasFewRows schema) cs
+  pub seals : seal_count + total_open cs ≤ length es
+  pub commits : commit_count ≤ schema.limits.max_commits
+
+-- a chunk without events
+abbrev pub no_chunk : ℤ → Chunk
+no_chunk k = record { start = k; events = 0; sealed = []; publications = 0; rows = [] }
+
+-- a chunk with one more row in its open range
+abbrev pub with_row : Bool → List Kind → Row → Chunk → Chunk
+with_row combines kinds r c = record { start = c.start; events = c.events + 1; sealed = c.sealed; publications = c.publications; rows = add_row combines kinds c.rows r }
+
+-- the open range of a chunk with its rows
+abbrev pub open_fragment : Chunk → Fragment
+open_fragment c = record { chunk = c.start; from = open_from (ranges_of c); to = c.events; rows = c.rows }
+
+-- a sealed range as a snapshot shows it
+abbrev pub info_of : SealedRange → RangeInfo
+info_of s = record { chunk = s.fragment.chunk; from = s.fragment.from; to = s.fragment.to; version = s.version; rows = length s.fragment.rows; sealed = true }
+
+-- the open range has an event
+abbrev pub has_open : Chunk → Bool
+has_open c = nat_lt (open_from (ranges_of c)) c.events
+
+-- the open range as a snapshot shows it
+abbrev pub open_info_of : Chunk → RangeInfo
+open_info_of c = record { chunk = c.start; from = open_from (ranges_of c); to = c.events; version = 0; rows = length c.rows; sealed = false }
+
+-- the ranges of a chunk as a snapshot shows them, and with their rows
+abbrev pub infos_of_chunk : Chunk → List RangeInfo
+infos_of_chunk c = map info_of c.sealed ++ (if has_open c then open_info_of c ∷ [] else [])
+
+abbrev pub fragments_of_chunk : Chunk → List Fragment
+fragments_of_chunk c = map (λ s. s.fragment) c.sealed ++ (if has_open c then open_fragment c ∷ [] else [])
+
+-- its open range, up to the end of so many events and with these rows, as a sealed one
+abbrev pub with_sealed_rows : ℕ → ℕ → List Row → Chunk → Chunk
+with_sealed_rows serial events rows c = record {
+  start = c.start;
+  events = events;
+  sealed = c.sealed ++ record { serial = serial; version = 0; fragment = record { chunk = c.start; from = open_from (ranges_of c); to = events; rows = rows } } ∷ [];
+  publications = c.publications;
+  rows = [];
+}
+
+abbrev pub with_open_sealed : ℕ → Chunk → Chunk
+with_open_sealed serial c = with_sealed_rows serial c.events c.rows c
+
+-- the open range holds as many rows as it may
+abbrev pub is_full : ℕ → Chunk → Bool
+is_full limit c = nat_le limit (length c.rows)
+
+-- so many ranges are sealed
+abbrev pub seals_of : Bool → ℕ
+seals_of full = if full then 1 else 0
+
+abbrev pub sealed_if_full : ℕ → ℕ → Chunk → Chunk
+sealed_if_full limit serial c = if is_full limit c then with_open_sealed serial c else c
+
+-- a chunk with one more event
+abbrev pub grown : Bool → List Kind → ℕ → ℕ → Row → Chunk → Chunk
+grown combines kinds limit serial r c = sealed_if_full limit serial (with_row combines kinds r c)
+
+-- a range in the place of so many sealed ones, from a place on
+abbrev pub with_range : ℕ → ℕ → SealedRange → Chunk → Chunk
+with_range place count range c = record { start = c.start; events = c.events; sealed = take place c.sealed ++ (range ∷ drop (place + count) c.sealed); publications = c.publications; rows = c.rows }
+
+-- the chunks with the one at a place changed
+abbrev pub changed_at : ℕ → (Chunk → Chunk) → Chunk → List Chunk → List Chunk
+changed_at place change d cs = take place cs ++ (change (get_or cs place d) ∷ drop (suc place) cs)
+
+-- the chunk that starts so, changed; it may be new
+abbrev pub at_start : (Chunk → Chunk) → ℤ → List Chunk → List Chunk
+at_start change k cs = at_key (λ c. c.start) (no_chunk k) change k cs
+
+-- the chunk that starts so; where there is none, one without events
+abbrev pub chunk_at : ℤ → List Chunk → Chunk
+chunk_at k [] = no_chunk k
+chunk_at k (c ∷ cs) = match_ordering (int_cmp k c.start) (no_chunk k) c (chunk_at k cs)
+
+-- the job's ranges stand at that place among the sealed ranges of its chunk
+pub record StandsIn (sealed : List SealedRange) (job : Job) (place : ℕ) : Type 0 where
+  pub some : 0 < length job.inputs
+  pub within : place + length job.inputs ≤ length sealed
+  pub serials : map (λ s. s.serial) (take (length job.inputs) (drop place sealed)) ≡ job.serials
+  pub inputs : map (λ s. s.fragment) (take (length job.inputs) (drop place sealed)) ≡ job.inputs
+
+-- where a chunk stands among chunks that rise, or before which one it is new
+abbrev pub IsBelow : ℤ → List Chunk → Type 0
+IsBelow k [] = Unit {0}
+IsBelow k (c ∷ cs) = int_cmp k c.start ≡ Less
+
+abbrev pub IsFirst : ℤ → List Chunk → Type 0
+IsFirst k [] = ⊥
+IsFirst k (c ∷ cs) = int_cmp k c.start ≡ Equal
+
+abbrev pub IsPlace : List Chunk → ℤ → Place → Type 0
+IsPlace cs k (Before i) = (i ≤ length cs) × AllByRecursion (λ c. int_cmp k c.start ≡ Greater) (take i cs) × IsBelow k (drop i cs)
+IsPlace cs k (At i) = (i < length cs) × AllByRecursion (λ c. int_cmp k c.start ≡ Greater) (take i cs) × IsFirst k (drop i cs)

@@ -1,0 +1,21 @@
+-- What a snapshot holds. No public contract cites this file.
+use Rattle.std.specs.Prelude.{◌≡◌, List, map}
+use Rattle.std.specs.List.{AllByRecursion}
+use Rattle.dr_base.specs.declared.event.Event.{Event}
+use Rattle.dr_events.specs.Fits.{FitsSchema}
+use Rattle.dr_spec.specs.WellFormed.{IsWellFormed}
+use Rattle.dr_spec.specs.declared.schema.Schema.{Schema}
+use Rattle.dr_timeline.specs.declared.fragment.Fragment.{Fragment}
+use Rattle.dr_timeline.specs.declared.range_info.RangeInfo.{RangeInfo}
+use Rattle.dr_timeline.specs.Unrolled.{rolled_up}
+use Rattle.dr_timeline.specs.Segments.{infos, events_in}
+use Rattle.dr_timeline.specs.State.{Cut, AreCuts}
+
+-- the ranges are those of some cuts of the events, and the fragments have the rollup of each
+pub record Shows (schema : Schema) (es : List Event) (fragments : List Fragment) (ranges : List RangeInfo) : Type 0 where
+  pub formed : IsWellFormed schema
+  pub fit : AllByRecursion (FitsSchema schema) es
+  pub cuts : List Cut
+  pub are_cuts : AreCuts schema es cuts
+  pub ranges_are : ranges ≡ infos schema es cuts
+  pub rows : map (λ f. f.rows) fragments ≡ map (λ range. rolled_up schema (events_in schema es range)) ranges

@@ -1,0 +1,111 @@
+ghost use Rattle.std.specs.Prelude.{◌≡◌, ◌+◌, ◌<◌, ◌≤◌, [], IfOk, OnOk, OnErr, length, get_or};
+ghost use Rattle.std.specs.List.{AllByRecursion};
+ghost use Rattle.dr_agg.specs.Rollup.{AllFit};
+ghost use Rattle.dr_agg.specs.Combination.{FitsColumns};
+ghost use Rattle.dr_timeline.specs.declared.chunk.Chunk.{Chunk};
+ghost use Rattle.dr_timeline.specs.Held.{grown, is_full, seals_of, at_start, chunk_at, changed_at, with_open_sealed, with_range, with_row, IsPlace};
+
+use crate::chunk::Chunk;
+use crate::place::Place;
+use crate::sealed_range::SealedRange;
+use dr_agg::Kind;
+use dr_base::Row;
+use std::alloc::{AllocError, Global};
+use std::cmp::Ordering;
+use std::marker::Model;
+
+/// Chunks, each with a greater start than the one before. A contract sees the list of the chunks.
+#[derive(Drop)]
+pub struct Chunks(Vec<Chunk>);
+
+impl Model for Chunks {
+    ghost use Rattle.std.specs.Prelude.{List};
+    ghost use Rattle.dr_timeline.specs.declared.chunk.Chunk.{Chunk};
+
+    ghost Value = { List Chunk };
+
+    ghost view = { λ c. c.0.items };
+}
+
+impl Chunks {
+    /// No chunk.
+    pub fn new(alloc: Global) -> Chunks
+        ensures { result ≡ [] }
+    {
+        Chunks(Vec::new(alloc))
+    }
+
+    /// The chunks as a slice.
+    pub fn as_slice(&self) -> &[Chunk]
+        ensures { result.now ≡ self.now }
+    {
+        self.0.as_slice()
+    }
+
+    /// The place of the chunk that starts at this time.
+    pub fn place_of(&self, start: i64) -> Place
+        ensures { IsPlace self.now start result }
+    {
+        for (i, chunk) in self.0.iter().enumerate() {
+            match start.cmp(&chunk.start) {
+                Ordering::Less => return Place::Before(i),
+                Ordering::Equal => return Place::At(i),
+                Ordering::Greater => {}
+            }
+        }
+        Place::Before(self.0.len())
+    }
+
+    /// Adds the row of one more event to the open range of its chunk, which may be new. Answers how many ranges were
+    /// sealed by it, 0 or 1. An error leaves the chunks as they were.
+    pub fn grow(
+        &mut self,
+        alloc: Global,
+        combines: bool,
+        kinds: &[Kind],
+        limit: usize,
+        serial: u64,
+        start: i64,
+        row: Row,
+    ) -> Result<u64, AllocError>
+        requires rows { AllByRecursion (λ c. AllFit kinds.now c.rows × (c.events < 18446744073709551615)) self.old }
+        requires row { FitsColumns kinds.now row.metrics }
+        ensures ok { OnOk result (self.new ≡ at_start (grown combines kinds.now limit serial row) start self.old) }
+        ensures seals { IfOk result (λ seals. seals ≡ seals_of (is_full limit (with_row combines kinds.now row (chunk_at start self.old)))) }
+        ensures err { OnErr result (self.new ≡ self.old) }
+    {
+        match self.place_of(start) {
+            Place::Before(i) => {
+                let mut chunk = Chunk::new(alloc, start);
+                let seals = chunk.grow(alloc, combines, kinds, limit, serial, row)?;
+                self.0.insert(i, chunk)?;
+                Ok(seals)
+            }
+            Place::At(i) => {
+                let chunk = &mut self.0[i];
+                chunk.grow(alloc, combines, kinds, limit, serial, row)
+            }
+        }
+    }
+
+    /// Seals the open range of the chunk at that place with this serial. An error leaves the chunks as they were.
+    pub fn seal(&mut self, alloc: Global, place: usize, serial: u64) -> Result<(), AllocError>
+        requires { place < length self.old }
+        ensures ok { (d : Chunk) → OnOk result (self.new ≡ changed_at place (with_open_sealed serial) d self.old) }
+        ensures err { OnErr result (self.new ≡ self.old) }
+    {
+        let chunk = &mut self.0[place];
+        chunk.seal(alloc, serial)
+    }
+
+    /// Puts a sealed range in the place of so many, from a place on, in the chunk at that place.
+    pub fn replace(&mut self, chunk: usize, place: usize, count: usize, range: SealedRange)
+        requires chunk { chunk < length self.old }
+        requires some { 0 < count }
+        requires within { (d : Chunk) → place + count ≤ length (get_or self.old chunk d).sealed }
+        ensures { (d : Chunk) → self.new ≡ changed_at chunk (with_range place count range) d self.old }
+    {
+        let chunk = &mut self.0[chunk];
+        chunk.sealed.replace(place, count, range);
+    }
+}
