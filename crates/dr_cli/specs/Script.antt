@@ -20,7 +20,9 @@ use Rattle.dr_query.specs.QueryOf.{query_of}
 use Rattle.dr_query.specs.Refusal as query
 use Rattle.dr_timeline.specs.declared.timeline_error.TimelineError.TheVariants.{StreamFull}
 use Rattle.dr_timeline.specs.Refusal as timeline
-use Rattle.dr_timeline.specs.State.{State, accepted, empty_state, rows_of}
+use Rattle.dr_timeline.specs.State.{State, empty_state}
+use Rattle.dr_timeline.specs.Steps.{accepted}
+use Rattle.dr_timeline.specs.Segments.{pinned, rows_of}
 use Rattle.dr_cli.specs.declared.cli_error.CliError.{CliError}
 use Rattle.dr_cli.specs.declared.cli_error.CliError.TheVariants.{LineTooLong, BadCommand}
 use Rattle.dr_cli.specs.Lines.{longest_line}
@@ -86,7 +88,7 @@ answer_text (Err e) = refused (no_answer.number_of e) (no_answer.name_of e) None
 -- a query is answered over the rows of the state
 abbrev pub answer_asked : State → Result Query QueryError → Answered
 answer_asked s (Err e) = refused (query.number_of e) (query.name_of e) (query.arg_of e)
-answer_asked s (Ok q) = answer_text (answer q (rows_of s))
+answer_asked s (Ok q) = answer_text (answer q (rows_of (pinned s)))
 
 abbrev pub answer_query : State → List ℕ → Answered
 answer_query s bytes = answer_asked s (query_of s.schema bytes)

@@ -3,7 +3,7 @@ ghost use Rattle.dr_base.specs.FaultLine.{arg_part};
 ghost use Rattle.dr_query.specs.MadeFor.{MadeFor};
 ghost use Rattle.dr_query.specs.AnswerRefusal.{Answers};
 ghost use Rattle.dr_query.specs.Answer.{answer};
-ghost use Rattle.dr_timeline.specs.State.{rows_of};
+ghost use Rattle.dr_timeline.specs.Segments.{pinned, rows_of};
 ghost use Rattle.dr_cli.specs.Lines.{longest_line};
 ghost use Rattle.dr_cli.specs.Script.{answer_event, answer_query, event_in, open_line, refused, unparseable, unparseable_line};
 ghost use Rattle.dr_events.specs.Refusal.{arg_of};
@@ -134,7 +134,7 @@ fn answer_query(alloc: Global, timeline: &Timeline, text: &[u8]) -> Reply
 
 fn answer(timeline: &Timeline, query: &Query) -> Result<Vec<u8>, AnswerError>
     requires { MadeFor timeline.now.schema query.now }
-    ensures { Answers (λ text. text.items) result (answer query.now (rows_of timeline.now)) }
+    ensures { Answers (λ text. text.items) result (answer query.now (rows_of (pinned timeline.now))) }
 {
     timeline.pin()?.answer_one(query)
 }
