@@ -94,6 +94,7 @@ behind-sound mark P read sound (c ∷ rest) = at (c == mark) refl
     widen (Err OutOfRange) is h = absurd h
     widen (Err BadInterval) is h = absurd h
     widen (Err EndBeforeStart) is h = absurd h
+
     at : (b : Bool) → (c == mark) ≡ b → Sound (Optional mark P (c ∷ rest)) (if b then read rest else Ok (0, c ∷ rest))
     at true is = widen (read rest) (eqb-true c mark is) (sound rest)
     at false is = inl (refl, refl, is)
@@ -235,6 +236,7 @@ zone_of-sound (c ∷ rest) = at (c == letter_z) refl (c == 43) refl (c == 45) re
     ended : (text : List ℕ) → c ≡ 90 → Sound (SpellsZone (c ∷ text)) (at_end (pos 0) text)
     ended [] is = rw is utc
     ended (d ∷ text) is = tt
+
     at : (z : Bool) → (c == 90) ≡ z → (p : Bool) → (c == 43) ≡ p → (m : Bool) → (c == 45) ≡ m → Sound (SpellsZone (c ∷ rest))
         (if z then at_end (pos 0) rest else (if p then (shift_of rest >>= (λ shift. Ok (pos shift))) else (if m then (shift_of rest >>= (λ shift. Ok (neg_ℤ (pos shift)))) else Err BadInstant)))
     at true is p _ m _ = ended rest (eqb-true c 90 is)
@@ -291,6 +293,7 @@ clock_behind-sound (c ∷ rest) = at (c == 84) refl (c == 32) refl
     widen (Err OutOfRange) mark marked is h = absurd h
     widen (Err BadInterval) mark marked is h = absurd h
     widen (Err EndBeforeStart) mark marked is h = absurd h
+
     at : (t : Bool) → (c == 84) ≡ t → (s : Bool) → (c == 32) ≡ s → Sound (ClockedBehind (c ∷ rest)) (if t || s then clock_of rest else Err BadInstant)
     at true is s _ = widen (clock_of rest) (codes "T") letter (ap (λ x. x ∷ rest) (eqb-true c 84 is)) (clock_of-sound rest)
     at false _ true is = widen (clock_of rest) (codes " ") space (ap (λ x. x ∷ rest) (eqb-true c 32 is)) (clock_of-sound rest)

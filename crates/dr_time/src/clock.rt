@@ -117,7 +117,10 @@ fn fraction(text: &[u8]) -> Result<(u16, &[u8]), TimeError>
     let (tenths, rest) = one_digit(text)?;
     let (hundredths, rest) = digit_or_zero(rest);
     let (thousandths, rest) = digit_or_zero(rest);
-    Ok((tenths * 100 + hundredths * 10 + thousandths, behind_digits(6, rest)))
+    Ok((
+        tenths * 100 + hundredths * 10 + thousandths,
+        behind_digits(6, rest),
+    ))
 }
 
 /// `Z`, `+HH[:MM]`, `-HH[:MM]` or nothing: by how many milliseconds the clock is ahead of UTC.

@@ -8,5 +8,5 @@ use Rattle.dr_time.proofs.instant.instant_at.Goals as goal
 pub returns : goal.returns
 returns c =
     let value : to_z w64 (of_z w64 (to_z w64 (of_z w64 (to_z w64 (of_z w64 (to_z w64 (of_z w64 c.args.day) *ℤ pos 86_400_000)) +ℤ to_z w64 (of_z w64 c.from.result))) -ℤ to_z w64 (of_z w64 c.args.offset))) ≡ time_at c.args.day c.args.millis c.args.offset =
-      omega (arith, signed_arith) in
+    omega (arith, signed_arith) in
     c.in_range.ensures ∙ ap in_range value
