@@ -9,9 +9,9 @@ use Rattle.dr_time.specs.declared.time_error.TimeError.{TimeError}
 use Rattle.dr_time.specs.declared.time_error.TimeError.TheVariants.{BadInstant, OutOfRange, BadInterval, EndBeforeStart}
 use Rattle.dr_time.specs.Calendar.{is_date, day_number}
 use Rattle.dr_time.specs.Digits.{is_digit, one_digit, two_digits, four_digits, digit_or_zero, behind_digits, behind, at_end, after}
-use Rattle.dr_time.specs.Clock.{colon, full_stop, hyphen, letter_t, letter_z, minutes_at, seconds_at, minutes_of, fraction_of, seconds_of, shift_of, zone_of, clock_of, clock_behind}
+use Rattle.dr_time.specs.Clock.{colon, full_stop, hyphen, letter_z, minutes_at, seconds_at, minutes_of, fraction_of, seconds_of, shift_of, zone_of, clock_of, clock_behind}
 use Rattle.dr_time.specs.Instant.{IsInstant, first_instant, last_instant, in_range, time_at, part_behind, day_of, date_of, instant_of}
-use Rattle.dr_time.specs.Spelling.{IsRead, number_of, AreDigits, IsNumeral, IsBelow, SpellsDate, to_year, to_month, SpellsDay, to_day, SpellsMinutes, to_hour, to_minute, SpellsSeconds, to_second, to_fraction, SpellsClock, without_seconds, with_seconds, SpellsZone, unsaid, utc, ahead, late, IsMark, letter, space, Spells, date, whole_date, date_and_time}
+use Rattle.dr_time.specs.Spelling.{IsRead, number_of, AreDigits, IsNumeral, IsBelow, SpellsDay, to_day, SpellsDate, to_year, to_month, whole, SpellsMinutes, to_hour, to_minute, SpellsSeconds, to_second, to_fraction, SpellsClock, without_seconds, with_seconds, SpellsZone, unsaid, utc, ahead, late, IsMark, letter, space, Spells, date, date_and_time}
 use Rattle.dr_time.proofs.DigitLemmas.{behind_digits-zero, behind_digits-suc}
 use Rattle.dr_time.proofs.SpelledLemmas.{both, NoDigit, behind_digits-none, instant_of-reads}
 
@@ -193,11 +193,11 @@ Seconded text p = (s : List ℕ) × SpellsSeconds s p.0 × (text ≡ s ++ p.1)
 
 seconded : (text : List ℕ) (second fraction : ℕ × List ℕ) → Numbered 2 text second → Optional full_stop Fractioned second.1 fraction → second.0 < 60 → Seconded text (second.0 * 1_000 + fraction.0, fraction.1)
 seconded text second fraction (s, is, value, text_is) (inl (none, same, without)) low =
-    let whole : second.0 * 1_000 + fraction.0 ≡ number_of s * 1_000 = omega arith in
-    (s, rw whole (to_second s (is, omega arith)), text_is ∙ rw same refl)
+    let exact : second.0 * 1_000 + fraction.0 ≡ number_of s * 1_000 = omega arith in
+    (s, rw exact (to_second s (is, omega arith)), text_is ∙ rw same refl)
 seconded text second fraction (s, is, value, text_is) (inr (rest, goes_on, (f, digits, some, long, millis, rest_is))) low =
-    let whole : second.0 * 1_000 + fraction.0 ≡ number_of s * 1_000 + number_of (take 3 (f ++ codes "00")) = omega arith in
-    (s ++ codes "." ++ f, rw whole (to_fraction s f (is, omega arith) digits some long), text_is ∙ rw (goes_on, rest_is) (simp append_assoc refl))
+    let exact : second.0 * 1_000 + fraction.0 ≡ number_of s * 1_000 + number_of (take 3 (f ++ codes "00")) = omega arith in
+    (s ++ codes "." ++ f, rw exact (to_fraction s f (is, omega arith) digits some long), text_is ∙ rw (goes_on, rest_is) (simp append_assoc refl))
 
 seconds_of-sound : (text : List ℕ) → Sound (Seconded text) (seconds_of text)
 unfolding seconds_of
@@ -255,17 +255,17 @@ Clocked text p = (clock : List ℕ) × (zone : List ℕ) × SpellsClock clock p.
 
 clocked : (text : List ℕ) (minutes seconds : ℕ × List ℕ) (offset : ℤ) → Minuted text minutes → Optional colon Seconded minutes.1 seconds → SpellsZone seconds.1 offset → Clocked text (minutes.0 * 60_000 + seconds.0, offset)
 clocked text minutes seconds offset (inl (h, hour, value, is, without)) (inl (none, same, stop)) z =
-    let whole : minutes.0 * 60_000 + seconds.0 ≡ number_of h * 60 * 60_000 = omega arith in
-    (h, seconds.1, rw whole (without_seconds h (number_of h * 60) (to_hour h hour)), z, is ∙ rw same refl)
+    let exact : minutes.0 * 60_000 + seconds.0 ≡ number_of h * 60 * 60_000 = omega arith in
+    (h, seconds.1, rw exact (without_seconds h (number_of h * 60) (to_hour h hour)), z, is ∙ rw same refl)
 clocked text minutes seconds offset (inl (h, hour, value, is, without)) (inr (rest, goes_on, s)) z =
     let no : GoesOnWithout colon (colon ∷ rest) = subst (GoesOnWithout colon) goes_on without in
     absurd (cc)
 clocked text minutes seconds offset (inr (h, m, hour, minute, value, is)) (inl (none, same, stop)) z =
-    let whole : minutes.0 * 60_000 + seconds.0 ≡ (number_of h * 60 + number_of m) * 60_000 = omega arith in
-    (h ++ codes ":" ++ m, seconds.1, rw whole (without_seconds (h ++ codes ":" ++ m) (number_of h * 60 + number_of m) (to_minute h m hour minute)), z, is ∙ rw same refl)
+    let exact : minutes.0 * 60_000 + seconds.0 ≡ (number_of h * 60 + number_of m) * 60_000 = omega arith in
+    (h ++ codes ":" ++ m, seconds.1, rw exact (without_seconds (h ++ codes ":" ++ m) (number_of h * 60 + number_of m) (to_minute h m hour minute)), z, is ∙ rw same refl)
 clocked text minutes seconds offset (inr (h, m, hour, minute, value, is)) (inr (rest, goes_on, (s, second, rest_is))) z =
-    let whole : minutes.0 * 60_000 + seconds.0 ≡ (number_of h * 60 + number_of m) * 60_000 + seconds.0 = omega arith in
-    (h ++ codes ":" ++ m ++ codes ":" ++ s, seconds.1, rw whole (with_seconds h m s seconds.0 hour minute second), z, is ∙ rw (goes_on, rest_is) (simp append_assoc refl))
+    let exact : minutes.0 * 60_000 + seconds.0 ≡ (number_of h * 60 + number_of m) * 60_000 + seconds.0 = omega arith in
+    (h ++ codes ":" ++ m ++ codes ":" ++ s, seconds.1, rw exact (with_seconds h m s seconds.0 hour minute second), z, is ∙ rw (goes_on, rest_is) (simp append_assoc refl))
 
 clock_of-sound : (text : List ℕ) → Sound (Clocked text) (clock_of text)
 unfolding clock_of
@@ -389,11 +389,11 @@ spelled-of text rest year month day number clock is value (inl (spelled, none)) 
 spelled-of text rest year month day number clock is value (inl (spelled, none)) (inr (_, more, letter, clocked', goes_on)) = absurd (cc)
 spelled-of text rest year month day number clock is value (inl (spelled, none)) (inr (_, more, space, clocked', goes_on)) = absurd (cc)
 spelled-of text rest year month day number clock is value (inr (s, spelled, same)) (inl (ended, midnight, utc')) =
-    let whole : text ≡ s = same ∙ rw (ended, append-nil) refl in
-    rw (value, midnight, utc', whole) (whole_date s year month day spelled is)
+    let same_text : text ≡ s = same ∙ rw (ended, append-nil) refl in
+    rw (value, midnight, utc', same_text) (date s year month day (whole s year month day spelled) is)
 spelled-of text rest year month day number clock is value (inr (s, spelled, same)) (inr (mark, more, marked, (c, z, clock_spelled, zone_spelled, more_is), goes_on)) =
-    let whole : text ≡ s ++ mark ++ c ++ z = same ∙ rw (goes_on, more_is) (simp append_assoc refl) in
-    rw (value, whole) (date_and_time s mark c z year month day clock.0 clock.1 spelled is marked clock_spelled zone_spelled)
+    let same_text : text ≡ s ++ mark ++ c ++ z = same ∙ rw (goes_on, more_is) (simp append_assoc refl) in
+    rw (value, same_text) (date_and_time s mark c z year month day clock.0 clock.1 spelled is marked clock_spelled zone_spelled)
 
 almost : (text : List ℕ) → Almost text (instant_of text)
 unfolding instant_of

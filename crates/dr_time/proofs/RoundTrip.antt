@@ -1,12 +1,12 @@
 -- What is printed of an instant spells it, and so is read as that instant.
-use Rattle.std.proofs.Common.{◌≡◌, ℕ, ◌+◌, ◌-◌, ◌*◌, ◌/◌, ◌%◌, ◌<◌, ◌≤◌, true, false, inl, inr, List, ◌++◌, take, codes, Ok, refl, ◌∙◌, arith, append_assoc, ℤ, pos, neg_ℤ, ◌+ℤ◌, ◌-ℤ◌, ◌*ℤ◌, ◌≤ℤ◌, int_eq}
+use Rattle.std.proofs.Common.{◌≡◌, ℕ, ◌+◌, ◌-◌, ◌*◌, ◌/◌, ◌%◌, ◌<◌, ◌≤◌, true, false, inl, inr, List, ◌++◌, take, codes, Ok, refl, ◌∙◌, arith, append_assoc, ℤ, pos, neg_ℤ, ◌-ℤ◌, ◌≤ℤ◌, int_eq}
 use Rattle.std.proofs.lemmas.Bool.{cases_lt}
 use Rattle.std.proofs.lemmas.Bool.Decides.{nat_tests}
 use Rattle.std.proofs.lemmas.Int.{ints}
 use Rattle.jiff_core.proofs.SignedLemmas.{signed_arith}
 use Rattle.dr_time.specs.Calendar.{is_date, days_of_month, month_length, days_before, month_at, year_at, month_of_year_at, day_of_month_at, since_year_zero, days_before_1970, day_number}
 use Rattle.dr_time.specs.Eternity.{eternity_start}
-use Rattle.dr_time.specs.Instant.{IsInstant, day_millis, instant_of, in_range, time_at}
+use Rattle.dr_time.specs.Instant.{IsInstant, instant_of, in_range, time_at}
 use Rattle.dr_time.specs.Printed.{zero_padded, date_text, clock_text, calendar_text, instant_text, day_number_at, millis_at}
 use Rattle.dr_time.specs.Spelling.{number_of, SpellsDay, to_day, SpellsClock, with_seconds, to_fraction, utc, letter, Spells, date_and_time}
 use Rattle.dr_time.proofs.CalendarLemmas.{days_before-suc, days_before-10000, days_before-mono, month_at-low, month_at-high, month_length_bounds, since_year_zero_is}

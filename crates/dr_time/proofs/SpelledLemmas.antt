@@ -1,15 +1,14 @@
 -- Whatever is spelled is read.
-use Rattle.std.proofs.Common.{◌≡◌, ℕ, zero, suc, ◌+◌, ◌-◌, ◌*◌, ◌<◌, ◌≤◌, nat_lt, ◌==◌, Bool, true, false, ◌&&◌, List, [], ◌∷◌, ◌++◌, length, take, codes, Result, Ok, Err, refl, sym, ap, ◌∙◌, arith, append_assoc, ℤ, pos, neg_ℤ}
+use Rattle.std.proofs.Common.{◌≡◌, ℕ, zero, suc, ◌+◌, ◌-◌, ◌*◌, ◌<◌, ◌≤◌, ◌==◌, Bool, true, false, ◌&&◌, List, [], ◌∷◌, ◌++◌, length, take, codes, Result, Ok, refl, ◌∙◌, arith, append_assoc, ℤ, pos}
 use Rattle.std.specs.Prelude.{⊤}
 use Rattle.std.proofs.lemmas.List.{append-nil}
 use Rattle.std.proofs.lemmas.Bool.Decides.{nat_tests}
-use Rattle.dr_base.specs.Reading.{◌>>=◌}
 use Rattle.dr_time.specs.declared.time_error.TimeError.{TimeError}
 use Rattle.dr_time.specs.Calendar.{is_date, day_number}
 use Rattle.dr_time.specs.Digits.{is_digit, one_digit, two_digits, four_digits, digit_or_zero, behind_digits, behind}
-use Rattle.dr_time.specs.Clock.{colon, full_stop, hyphen, minutes_at, seconds_at, minutes_of, fraction_of, seconds_of, shift_of, zone_of, clock_of, clock_behind}
-use Rattle.dr_time.specs.Instant.{in_range, time_at, instant_at, part_behind, day_of, date_of, instant_of}
-use Rattle.dr_time.specs.Spelling.{number_of, AreDigits, IsNumeral, IsBelow, SpellsDate, to_year, to_month, SpellsDay, to_day, SpellsMinutes, to_hour, to_minute, SpellsSeconds, to_second, to_fraction, SpellsClock, without_seconds, with_seconds, SpellsZone, unsaid, utc, ahead, late, IsMark, letter, space, Spells, date, whole_date, date_and_time}
+use Rattle.dr_time.specs.Clock.{colon, full_stop, minutes_at, seconds_at, minutes_of, fraction_of, seconds_of, shift_of, zone_of, clock_of, clock_behind}
+use Rattle.dr_time.specs.Instant.{in_range, time_at, day_of, date_of, instant_of}
+use Rattle.dr_time.specs.Spelling.{number_of, AreDigits, IsNumeral, IsBelow, SpellsDay, to_day, SpellsDate, to_year, to_month, whole, SpellsMinutes, to_hour, to_minute, SpellsSeconds, to_second, to_fraction, SpellsClock, without_seconds, with_seconds, SpellsZone, unsaid, utc, ahead, late, IsMark, letter, space, Spells, date, date_and_time}
 use Rattle.dr_time.proofs.DigitLemmas.{behind_digits-zero, behind_digits-suc}
 
 -- ---- digits
@@ -142,8 +141,8 @@ seconds_at-within second millis low = grind (arith, nat_tests)
 minutes_of-hour : (h rest : List ℕ) → IsBelow 24 h → Stops rest → minutes_of (h ++ rest) ≡ Ok (number_of h * 60, rest)
 unfolding minutes_of
 minutes_of-hour h rest hour stops =
-    let whole : number_of h * 60 + 0 ≡ number_of h * 60 = omega arith in
-    rw (two_digits-reads h rest hour.0, behind-colon two_digits rest stops, minutes_at-within (number_of h) 0 hour.1 (omega arith), whole) refl
+    let exact : number_of h * 60 + 0 ≡ number_of h * 60 = omega arith in
+    rw (two_digits-reads h rest hour.0, behind-colon two_digits rest stops, minutes_at-within (number_of h) 0 hour.1 (omega arith), exact) refl
 
 minutes_of-minute : (h m rest : List ℕ) → IsBelow 24 h → IsBelow 60 m → minutes_of (h ++ (codes ":" ++ (m ++ rest))) ≡ Ok (number_of h * 60 + number_of m, rest)
 unfolding minutes_of
@@ -157,8 +156,8 @@ minutes_of-reads _ rest _ (to_minute h m hour minute) stops = simp append_assoc 
 seconds_of-whole : (s rest : List ℕ) → IsBelow 60 s → Stops rest → seconds_of (s ++ rest) ≡ Ok (number_of s * 1_000, rest)
 unfolding seconds_of
 seconds_of-whole s rest second stops =
-    let whole : number_of s * 1_000 + 0 ≡ number_of s * 1_000 = omega arith in
-    rw (two_digits-reads s rest second.0, behind-full_stop fraction_of rest stops, seconds_at-within (number_of s) 0 second.1, whole) refl
+    let exact : number_of s * 1_000 + 0 ≡ number_of s * 1_000 = omega arith in
+    rw (two_digits-reads s rest second.0, behind-full_stop fraction_of rest stops, seconds_at-within (number_of s) 0 second.1, exact) refl
 
 seconds_of-fraction : (s f rest : List ℕ) → IsBelow 60 s → AreDigits f → 1 ≤ length f → length f ≤ 9 → Stops rest → seconds_of (s ++ (codes "." ++ (f ++ rest))) ≡ Ok (number_of s * 1_000 + number_of (take 3 (f ++ codes "00")), rest)
 unfolding seconds_of
@@ -196,8 +195,8 @@ clock_of-minutes : (text zone : List ℕ) (minutes : ℕ) (offset : ℤ) → Spe
 unfolding clock_of
 clock_of-minutes text zone minutes offset h z =
     let stops = zone-stops zone offset z in
-    let whole : minutes * 60_000 + 0 ≡ minutes * 60_000 = omega arith in
-    rw (minutes_of-reads text zone minutes h stops, behind-colon seconds_of zone stops, zone_of-reads zone offset z, whole) refl
+    let exact : minutes * 60_000 + 0 ≡ minutes * 60_000 = omega arith in
+    rw (minutes_of-reads text zone minutes h stops, behind-colon seconds_of zone stops, zone_of-reads zone offset z, exact) refl
 
 clock_of-seconds : (h m s zone : List ℕ) (millis : ℕ) (offset : ℤ) → IsBelow 24 h → IsBelow 60 m → SpellsSeconds s millis → SpellsZone zone offset → clock_of (h ++ (codes ":" ++ (m ++ (codes ":" ++ (s ++ zone))))) ≡ Ok ((number_of h * 60 + number_of m) * 60_000 + millis, offset)
 unfolding clock_of
@@ -239,12 +238,13 @@ date_of-day y m d rest number year month day h =
 day_of-date : (year month day : ℕ) → is_date year month day ≡ true → day_of year month day ≡ Ok (day_number year month day)
 day_of-date year month day h = rw h refl
 
+date_of-reads_day : (text rest : List ℕ) (year month day : ℕ) → SpellsDay text year month day → is_date year month day ≡ true → date_of (text ++ rest) ≡ Ok (day_number year month day, rest)
+date_of-reads_day _ rest _ _ _ (to_day y m d year month day) h = simp append_assoc (date_of-day y m d rest _ year month day (day_of-date (number_of y) (number_of m) (number_of d) h))
+
 date_of-reads : (text : List ℕ) (year month day : ℕ) → SpellsDate text year month day → is_date year month day ≡ true → date_of text ≡ Ok (day_number year month day, [])
 date_of-reads _ _ _ _ (to_year y year) h = date_of-year y year
 date_of-reads _ _ _ _ (to_month y m year month) h = simp append_assoc (date_of-month y m _ year month (day_of-date (number_of y) (number_of m) 1 h))
-
-date_of-reads_day : (text rest : List ℕ) (year month day : ℕ) → SpellsDay text year month day → is_date year month day ≡ true → date_of (text ++ rest) ≡ Ok (day_number year month day, rest)
-date_of-reads_day _ rest _ _ _ (to_day y m d year month day) h = simp append_assoc (date_of-day y m d rest _ year month day (day_of-date (number_of y) (number_of m) (number_of d) h))
+date_of-reads _ _ _ _ (whole text year month day spelled) h = rw append-nil at (date_of-reads_day text [] year month day spelled h)
 
 -- ---- the instant
 
@@ -255,9 +255,6 @@ instant_of-steps text rest number millis offset day clock = rw (day, clock) refl
 pub instant_of-reads : (text : List ℕ) (t : ℤ) → Spells text t → instant_of text ≡ in_range t
 instant_of-reads _ _ (date text year month day spelled is) =
     instant_of-steps text [] _ 0 (pos 0) (date_of-reads text year month day spelled is) clock_behind-nothing
-instant_of-reads _ _ (whole_date text year month day spelled is) =
-    let read = rw append-nil at (date_of-reads_day text [] year month day spelled is) in
-    instant_of-steps text [] _ 0 (pos 0) read clock_behind-nothing
 instant_of-reads _ _ (date_and_time text mark clock zone year month day millis offset spelled is marked clock_spelled zone_spelled) =
     let read = date_of-reads_day text (mark ++ (clock ++ zone)) year month day spelled is in
     let regroup : text ++ mark ++ clock ++ zone ≡ text ++ (mark ++ (clock ++ zone)) = simp append_assoc refl in

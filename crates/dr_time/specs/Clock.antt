@@ -1,5 +1,5 @@
 -- The time of day and the zone of an instant, as they are read (ISO 8601).
-use Rattle.std.specs.Prelude.{ℕ, ◌+◌, ◌*◌, nat_lt, Bool, ◌&&◌, ◌||◌, ◌==◌, if◌then◌else◌, List, [], ◌∷◌, ℤ, pos, neg_ℤ, Result, Ok, Err}
+use Rattle.std.specs.Prelude.{ℕ, ◌+◌, ◌*◌, nat_lt, ◌&&◌, ◌||◌, ◌==◌, if◌then◌else◌, List, [], ◌∷◌, ℤ, pos, neg_ℤ, Result, Ok, Err}
 use Rattle.dr_base.specs.Reading.{◌>>=◌}
 use Rattle.dr_time.specs.declared.time_error.TimeError.{TimeError}
 use Rattle.dr_time.specs.declared.time_error.TimeError.TheVariants.{BadInstant}

@@ -1,5 +1,5 @@
 -- Eternity, the interval that holds the time of every event (Apache Druid documentation, intervals). It has one text.
-use Rattle.std.specs.Prelude.{ℕ, List, ◌++◌, codes, ℤ, pos, neg_ℤ}
+use Rattle.std.specs.Prelude.{ℕ, List, codes, ℤ, pos, neg_ℤ}
 use Rattle.dr_time.specs.declared.interval.Interval.{Interval}
 
 -- half of the least number of 64 bits, and half of the greatest

@@ -2,8 +2,9 @@
 use Rattle.std.specs.Prelude.{◌≡◌, ℕ, Bool, true, false, ◌&&◌, List, ℤ, pos, ◌≤ℤ◌, int_le, Option, Some, None, Ok}
 use Rattle.dr_time.specs.declared.interval.Interval.{Interval}
 use Rattle.dr_time.specs.Calendar.{is_date, day_number}
-use Rattle.dr_time.specs.Instant.{IsInstant, instant_of}
+use Rattle.dr_time.specs.Instant.{IsInstant, in_range, instant_of}
 use Rattle.dr_time.specs.Printed.{instant_text}
+use Rattle.dr_time.specs.Spelling.{Spells, IsRead}
 use Rattle.dr_time.specs.Union.{union_holds, union_start, union_first_from}
 
 -- the days are counted from 1970-01-01
@@ -15,6 +16,14 @@ abbrev pub NumbersOneDate : Type 0
 NumbersOneDate =
     (y m d year month day : ℕ) → is_date y m d ≡ true → is_date year month day ≡ true
     → day_number y m d ≡ day_number year month day → (y ≡ year) × (m ≡ month) × (d ≡ day)
+
+-- what is read of a text is spelled by it
+abbrev pub ReadsTheSpelled : Type 0
+ReadsTheSpelled = (text : List ℕ) → IsRead text (instant_of text)
+
+-- whatever a text spells is read of it
+abbrev pub ReadsAllSpelled : Type 0
+ReadsAllSpelled = (text : List ℕ) (t : ℤ) → Spells text t → instant_of text ≡ in_range t
 
 -- what is printed of an instant is a text of that instant
 abbrev pub ReadsBack : Type 0

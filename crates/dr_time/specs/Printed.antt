@@ -1,5 +1,5 @@
 -- The text of a time (ISO 8601): `YYYY-MM-DDTHH:MM:SS.mmmZ`, in UTC.
-use Rattle.std.specs.Prelude.{◌≡◌, ℕ, ◌-◌, ◌/◌, ◌%◌, if◌then◌else◌, List, ◌++◌, length, replicate, codes, ℤ, pos, neg_ℤ, ◌≤ℤ◌, ◌⊎◌, unsigned_abs}
+use Rattle.std.specs.Prelude.{◌≡◌, ℕ, ◌-◌, ◌/◌, ◌%◌, if◌then◌else◌, List, ◌++◌, length, replicate, codes, ℤ, pos, ◌≤ℤ◌, ◌⊎◌, unsigned_abs}
 use Rattle.std.specs.Ordering.{int_eq}
 use Rattle.std.specs.Int.{int_div_euclid, int_rem_euclid}
 use Rattle.std.specs.Fmt.{decimal}

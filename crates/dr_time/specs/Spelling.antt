@@ -6,7 +6,7 @@ use Rattle.dr_time.specs.declared.time_error.TimeError.{TimeError}
 use Rattle.dr_time.specs.declared.time_error.TimeError.TheVariants.{BadInstant, OutOfRange, BadInterval, EndBeforeStart}
 use Rattle.dr_time.specs.Calendar.{is_date, day_number}
 use Rattle.dr_time.specs.Digits.{is_digit}
-use Rattle.dr_time.specs.Instant.{IsInstant, in_range, instant_of, time_at}
+use Rattle.dr_time.specs.Instant.{IsInstant, time_at}
 
 -- the number that digits spell
 abbrev pub number_of : List ℕ → ℕ
@@ -23,15 +23,16 @@ IsNumeral width text = AreDigits text × (length text ≡ width)
 abbrev pub IsBelow : ℕ → List ℕ → Type 0
 IsBelow bound text = IsNumeral 2 text × (number_of text < bound)
 
--- a year, a month and a day; a month or a day that isn't written is the first
-pub data SpellsDate : List ℕ → ℕ → ℕ → ℕ → Type 0 where
-  to_year : (y : List ℕ) → IsNumeral 4 y → SpellsDate y (number_of y) 1 1
-  to_month : (y m : List ℕ) → IsNumeral 4 y → IsNumeral 2 m → SpellsDate (y ++ codes "-" ++ m) (number_of y) (number_of m) 1
-
--- `YYYY-MM-DD`
+-- `YYYY-MM-DD`: the year, the month and the day
 pub data SpellsDay : List ℕ → ℕ → ℕ → ℕ → Type 0 where
   to_day : (y m d : List ℕ) → IsNumeral 4 y → IsNumeral 2 m → IsNumeral 2 d
       → SpellsDay (y ++ codes "-" ++ m ++ codes "-" ++ d) (number_of y) (number_of m) (number_of d)
+
+-- `YYYY[-MM[-DD]]`, where a month or a day that isn't written is the first
+pub data SpellsDate : List ℕ → ℕ → ℕ → ℕ → Type 0 where
+  to_year : (y : List ℕ) → IsNumeral 4 y → SpellsDate y (number_of y) 1 1
+  to_month : (y m : List ℕ) → IsNumeral 4 y → IsNumeral 2 m → SpellsDate (y ++ codes "-" ++ m) (number_of y) (number_of m) 1
+  whole : (text : List ℕ) (year month day : ℕ) → SpellsDay text year month day → SpellsDate text year month day
 
 -- `HH[:MM]`, in minutes
 pub data SpellsMinutes : List ℕ → ℕ → Type 0 where
@@ -66,8 +67,6 @@ pub data IsMark : List ℕ → Type 0 where
 pub data Spells : List ℕ → ℤ → Type 0 where
   date : (text : List ℕ) (year month day : ℕ) → SpellsDate text year month day → is_date year month day ≡ true
       → Spells text (time_at (day_number year month day) 0 (pos 0))
-  whole_date : (text : List ℕ) (year month day : ℕ) → SpellsDay text year month day → is_date year month day ≡ true
-      → Spells text (time_at (day_number year month day) 0 (pos 0))
   date_and_time : (text mark clock zone : List ℕ) (year month day millis : ℕ) (offset : ℤ) → SpellsDay text year month day
       → is_date year month day ≡ true → IsMark mark → SpellsClock clock millis → SpellsZone zone offset
       → Spells (text ++ mark ++ clock ++ zone) (time_at (day_number year month day) millis offset)
@@ -79,11 +78,3 @@ IsRead text (Err BadInstant) = (t : ℤ) → Spells text t → ⊥
 IsRead text (Err OutOfRange) = (t : ℤ) × Spells text t × (IsInstant t → ⊥)
 IsRead text (Err BadInterval) = ⊥
 IsRead text (Err EndBeforeStart) = ⊥
-
--- what is read is spelled so
-abbrev pub ReadsTheSpelled : Type 0
-ReadsTheSpelled = (text : List ℕ) → IsRead text (instant_of text)
-
--- whatever is spelled so is read
-abbrev pub ReadsAllSpelled : Type 0
-ReadsAllSpelled = (text : List ℕ) (t : ℤ) → Spells text t → instant_of text ≡ in_range t

@@ -1,5 +1,4 @@
-ghost use Rattle.dr_time.specs.Laws.{CountsFrom1970, NumbersOneDate, ReadsBack, StartsAtFirst, FindsFirst};
-ghost use Rattle.dr_time.specs.Spelling.{ReadsTheSpelled, ReadsAllSpelled};
+ghost use Rattle.dr_time.specs.Laws.{CountsFrom1970, NumbersOneDate, ReadsTheSpelled, ReadsAllSpelled, ReadsBack, StartsAtFirst, FindsFirst};
 
 /// The day number of 1970-01-01 is 0.
 pub fn days_are_counted_from_1970()

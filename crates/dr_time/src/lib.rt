@@ -1,5 +1,5 @@
 //! Instants, intervals and unions of intervals, in milliseconds on the calendar of ISO 8601.
-//! It reads them from text, and prints an instant.
+//! It reads instants and intervals from text, and prints times.
 #![tactic(auto)]
 
 mod calendar;

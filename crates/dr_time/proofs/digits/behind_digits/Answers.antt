@@ -1,6 +1,5 @@
-use Rattle.std.proofs.Common.{◌≡◌, ◌+◌, ◌-◌, suc, refl, sym, ap, ◌∙◌, arith}
+use Rattle.std.proofs.Common.{refl, ap}
 use Rattle.std.proofs.Math.Nat.{sub-zero}
-use Rattle.dr_time.specs.Digits.{behind_digits, digit_or_zero}
 use Rattle.dr_time.proofs.DigitLemmas.{behind_digits-goes_on, behind_digits-ends}
 use Rattle.dr_time.proofs.digits.behind_digits.Goals as goal
 

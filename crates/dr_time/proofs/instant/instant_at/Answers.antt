@@ -1,5 +1,5 @@
 -- The sum in 64 bits is the sum.
-use Rattle.std.proofs.Common.{◌≡◌, ◌∙◌, pos, ℤ, ◌+ℤ◌, ◌-ℤ◌, ◌*ℤ◌, to_z, of_z, w64, ap}
+use Rattle.std.proofs.Common.{◌≡◌, ◌∙◌, pos, ◌+ℤ◌, ◌-ℤ◌, ◌*ℤ◌, to_z, of_z, w64, ap}
 use Rattle.jiff_core.proofs.SignedLemmas.{signed_arith}
 use Rattle.std.proofs.Common.{arith}
 use Rattle.dr_time.specs.Instant.{in_range, time_at}
