@@ -34,12 +34,12 @@ fn agrees_with_the_calendar(rt: HostRuntime) -> Result<(), Fail> {
             *number = word.parse::<i32>()?;
         }
         let [first, weekday, end, quarter, quarter_end, year, year_end] = numbers;
-        assert!(rt; -800_000 < first && end < 3_000_000 && 0 <= weekday && weekday < 7);
         for day in first..end {
-            let week = day - (weekday + (day - first)) % 7;
+            let weekday = weekday.wrapping_add(day.wrapping_sub(first)).rem_euclid(7);
+            let week = day.wrapping_sub(weekday);
             for (gran, start, end) in [
                 (Gran::Day, day, day + 1),
-                (Gran::Week, week, week + 7),
+                (Gran::Week, week, week.wrapping_add(7)),
                 (Gran::Month, first, end),
                 (Gran::Quarter, quarter, quarter_end),
                 (Gran::Year, year, year_end),
