@@ -45,13 +45,16 @@ IsPrintable-from_ends false s e i is start h =
     let same : made ≡ i = cc in
     subst IsPrintable same (inl (start.0, omega (arith, ints, start.1)))
 
+IsPrintable-from_interval_from : (s e : ℤ) (i : Interval) → IsInstant s → interval_from s e ≡ Ok i → IsPrintable i
+IsPrintable-from_interval_from s e i start h = IsPrintable-from_ends (int_lt e s) s e i refl start h
+
 IsPrintable-from_between : (text : List ℕ) (i : Interval) → between_instants text ≡ Ok i → IsPrintable i
 unfolding between_instants
 IsPrintable-from_between text i h =
     let p = bind_ok (parts_of text) (λ parts. as_part (instant_of parts.0) >>= (λ start. as_part (instant_of parts.1) >>= (λ end. interval_from start end))) i h in
     let q = bind_ok (as_part (instant_of p.0.0)) (λ start. as_part (instant_of p.0.1) >>= (λ end. interval_from start end)) i p.2 in
     let r = bind_ok (as_part (instant_of p.0.1)) (λ end. interval_from q.0 end) i q.2 in
-    IsPrintable-from_ends (int_lt r.0 q.0) q.0 r.0 i refl (IsInstant-from_instant_of p.0.0 q.0 (as_part-ok _ _ q.1)) r.2
+    IsPrintable-from_interval_from q.0 r.0 i (IsInstant-from_instant_of p.0.0 q.0 (as_part-ok _ _ q.1)) r.2
 
 pub IsPrintable-from_interval_of : (text : List ℕ) (i : Interval) → interval_of text ≡ Ok i → IsPrintable i
 unfolding interval_of
