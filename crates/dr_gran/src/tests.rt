@@ -1,4 +1,4 @@
-use crate::days::DAYS;
+use crate::days::MONTHS;
 use crate::{Buckets, Gran};
 use dr_base::Arg;
 use dr_time::{Interval, Union, parse_instant};
@@ -28,29 +28,24 @@ fn expect_bucket(rt: &impl Abort, gran: Gran, time: i64, start: i64, end: i64) {
 
 #[test]
 fn agrees_with_the_calendar(rt: HostRuntime) -> Result<(), Fail> {
-    for line in DAYS.lines() {
-        let mut numbers = [0; 9];
+    for line in MONTHS.lines() {
+        let mut numbers = [0; 7];
         for (number, word) in numbers.iter_mut().zip(line.split(' ')) {
             *number = word.parse::<i32>()?;
         }
-        let [
-            day,
-            week,
-            month,
-            quarter,
-            year,
-            week_end,
-            month_end,
-            quarter_end,
-            year_end,
-        ] = numbers;
-        for (gran, start, end) in [
-            (Gran::Week, week, week_end),
-            (Gran::Month, month, month_end),
-            (Gran::Quarter, quarter, quarter_end),
-            (Gran::Year, year, year_end),
-        ] {
-            expect_bucket_of_day(&rt, gran, day, start, end);
+        let [first, weekday, end, quarter, quarter_end, year, year_end] = numbers;
+        for day in first..end {
+            let weekday = weekday.wrapping_add(day.wrapping_sub(first)).rem_euclid(7);
+            let week = day.wrapping_sub(weekday);
+            for (gran, start, end) in [
+                (Gran::Day, day, day + 1),
+                (Gran::Week, week, week.wrapping_add(7)),
+                (Gran::Month, first, end),
+                (Gran::Quarter, quarter, quarter_end),
+                (Gran::Year, year, year_end),
+            ] {
+                expect_bucket_of_day(&rt, gran, day, start, end);
+            }
         }
     }
     Ok(())
@@ -62,6 +57,34 @@ fn expect_bucket_of_day(rt: &impl Abort, gran: Gran, day: i32, start: i32, end: 
     let (start, end) = (i64::from(start) * DAY, i64::from(end) * DAY);
     expect_bucket(rt, gran, first, start, end);
     expect_bucket(rt, gran, first + DAY - 1, start, end);
+}
+
+#[test]
+fn truncates_round_the_epoch(rt: HostRuntime) {
+    let monday = 978_307_200_000;
+    let christmas = 1_703_462_400_000;
+    for (gran, time, start, end) in [
+        (Gran::Hour, -1, -3_600_000, 0),
+        (Gran::Week, -1, -3 * DAY, 4 * DAY),
+        (Gran::Week, 0, -3 * DAY, 4 * DAY),
+        (Gran::Month, -1, -31 * DAY, 0),
+        (Gran::Month, 0, 0, 31 * DAY),
+        (Gran::Quarter, -1, -92 * DAY, 0),
+        (Gran::Quarter, 0, 0, 90 * DAY),
+        (Gran::Year, -1, -365 * DAY, 0),
+        (Gran::Year, 0, 0, 365 * DAY),
+        (Gran::Week, monday - 1, monday - 7 * DAY, monday),
+        (Gran::Week, monday, monday, monday + 7 * DAY),
+        (
+            Gran::Week,
+            christmas + 6 * DAY,
+            christmas,
+            christmas + 7 * DAY,
+        ),
+        (Gran::Week, FIRST, FIRST, FIRST + 7 * DAY),
+    ] {
+        expect_bucket(&rt, gran, time, start, end);
+    }
 }
 
 #[test]

@@ -1,4 +1,4 @@
-"""Writes src/days.rt: for sampled days, the starts and ends of the week, month, quarter and year in which each lies.
+"""Writes src/days.rt: for the months of sampled years, the weekday of the first day, and the bounds of the month, quarter and year.
 
 The numbers come from Python's datetime, whose calendar is the proleptic Gregorian one and whose weeks begin on Mondays.
 Run it in the crate's folder: python3 tools/make_days.py > src/days.rt
@@ -9,9 +9,14 @@ from datetime import date
 EPOCH = date(1970, 1, 1).toordinal()
 LAST = date.max.toordinal()
 
-HEAD = """/// Sampled days, one a line, each with the starts of the week, month, quarter and year in which it lies, and then their ends. All
-/// are day numbers, 0 being 1970-01-01. Written by tools/make_days.py from Python's datetime.
-pub(crate) const DAYS: &str = "\\"""
+# years round the ends of the calendar, of centuries and of 400 years, round the epoch, and the leap years of our time
+YEARS = [1, 2, 3, 4, 5, 99, 100, 101, 399, 400, 401, 1582, 1599, 1600, 1700, 1752, 1800, 1896, 1899, 1900, 1901, 1904]
+YEARS += list(range(1967, 1974)) + [1999, 2000, 2001, 2004] + list(range(2019, 2030)) + [2099, 2100, 2101, 2399, 2400]
+YEARS += [4000, 9600, 9900, 9996, 9997, 9998, 9999]
+
+HEAD = """/// Months, one a line: the first day, the weekday of that day (0 is a Monday), the end of the month, and the starts and ends of the
+/// quarter and of the year. Days are numbers, 0 being 1970-01-01. Written by tools/make_days.py from Python's datetime.
+pub(crate) const MONTHS: &str = "\\"""
 
 
 def number(year, month):
@@ -23,27 +28,14 @@ def number(year, month):
     return date(year, month, 1).toordinal() - EPOCH
 
 
-def row(ordinal):
-    day = date.fromordinal(ordinal)
-    week = ordinal - day.weekday() - EPOCH
-    quarter = day.month - (day.month - 1) % 3
-    starts = [week, number(day.year, day.month), number(day.year, quarter), number(day.year, 1)]
-    ends = [week + 7, number(day.year, day.month + 1), number(day.year, quarter + 3), number(day.year, 13)]
-    return [ordinal - EPOCH] + starts + ends
-
-
-def sampled():
-    """The first and last days of the calendar, each day of 2024, the days round the ends of months of some years, and some
-    of all."""
-    days = set(range(1, 9)) | set(range(LAST - 8, LAST + 1)) | set(range(1, LAST, 7919))
-    for year in (1899, 1900, 1969, 2000, 2023):
-        for month in range(1, 13):
-            first = date(year, month, 1).toordinal()
-            days |= {first - 1, first, first + 1}
-    return sorted(days)
+def row(year, month):
+    quarter = month - (month - 1) % 3
+    bounds = [number(year, quarter), number(year, quarter + 3), number(year, 1), number(year, 13)]
+    return [number(year, month), date(year, month, 1).weekday(), number(year, month + 1)] + bounds
 
 
 print(HEAD)
-for ordinal in sampled():
-    print(" ".join(map(str, row(ordinal))))
+for year in YEARS:
+    for month in range(1, 13):
+        print(" ".join(map(str, row(year, month))))
 print('";')

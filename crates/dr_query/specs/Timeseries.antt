@@ -2,7 +2,7 @@
 use Rattle.std.specs.Prelude.{Bool, List}
 use Rattle.std.specs.List.{All}
 use Rattle.dr_time.specs.declared.interval.Interval.{Interval}
-use Rattle.dr_time.specs.Instant.{IsInstant}
+use Rattle.dr_time.specs.Printed as time
 use Rattle.dr_query.specs.declared.aggregation.Aggregation.{Aggregation}
 use Rattle.dr_query.specs.Outputs.{output_names, AreDistinct}
 
@@ -12,11 +12,11 @@ pub record Timeseries : Type 0 where
   pub aggregations : List Aggregation
   pub rollup : Bool
 
--- both ends are times that can be printed
+-- its start is a time that can be printed
 abbrev pub IsPrintable : Interval → Type 0
-IsPrintable i = IsInstant i.start × IsInstant i.end
+IsPrintable i = time.IsPrintable i.start
 
--- what holds of every query: its intervals can be printed, and no two outputs have one name
+-- what holds of every query: the starts of its intervals can be printed, and no two outputs have one name
 pub record IsAnswerable (intervals : List Interval) (aggregations : List Aggregation) : Type 0 where
   pub printable : All IsPrintable intervals
   pub distinct : AreDistinct (output_names aggregations)

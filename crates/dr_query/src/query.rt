@@ -11,7 +11,7 @@ use std::marker::Model;
 /// A native query of type `timeseries` (Apache Druid documentation, native queries), made for one schema: the union of
 /// its intervals, and its aggregations. Its granularity is `all`.
 ///
-/// Of every query both ends of each interval are times that can be printed, and the names of the aggregations differ.
+/// Of every query the start of each interval is a time that can be printed, and the names of the aggregations differ.
 #[derive(Debug, Drop)]
 pub struct Query {
     pub intervals: Union,
@@ -32,7 +32,7 @@ impl Model for Query {
 
 impl Query {
     ghost use Rattle.std.specs.Prelude.{◌≡◌, IfOk, IfSome};
-    ghost use Rattle.dr_time.specs.Instant.{IsInstant};
+    ghost use Rattle.dr_time.specs.Printed.{IsPrintable};
     ghost use Rattle.dr_time.specs.Union.{union_start};
     ghost use Rattle.dr_query.specs.Matching.{is_matching};
     ghost use Rattle.dr_query.specs.QueryOf.{query_of};
@@ -84,7 +84,7 @@ impl Query {
     #[tactic(auto, using(crate::proofs::PrintableIntervals::printable_starts))]
     pub fn start(&self) -> Option<i64>
         ensures value { result ≡ union_start self.now.intervals }
-        ensures printable { IfSome result IsInstant }
+        ensures printable { IfSome result IsPrintable }
     {
         self.intervals.start()
     }

@@ -30,7 +30,7 @@ const REFUSED: &str = r#"nope -> refused 1 NotJson
 {"queryType":"timeseries","dataSource":"w","intervals":[null,"x"],"granularity":"all"} -> refused 3 WrongKind "intervals"
 {"queryType":"timeseries","dataSource":"w","intervals":"0000-01-01/2024-01-01","granularity":"all"} -> refused 11 OutOfRange
 {"queryType":"timeseries","dataSource":"w","intervals":["2024-01-02/2024-01-01","x"],"granularity":"hour"} -> refused 13 EndBeforeStart
-{"queryType":"timeseries","dataSource":"w","intervals":["-146136543-09-08T08:23:32.096Z/146140482-04-24T15:36:27.903Z"],"granularity":"all"} -> refused 12 BadInterval
+{"queryType":"timeseries","dataSource":"w","intervals":["-146136543-09-08T08:23:32.096Z/2024-01-01"],"granularity":"all"} -> refused 12 BadInterval
 {"queryType":"timeseries","dataSource":"w","intervals":[],"aggregations":5} -> refused 2 Missing "granularity"
 {"queryType":"timeseries","dataSource":"w","intervals":[],"granularity":"hour","aggregations":5} -> refused 76 Unsupported "granularity"
 {"queryType":"timeseries","dataSource":"w","intervals":[],"granularity":{"type":"all"},"aggregations":[]} -> refused 76 Unsupported "granularity"
@@ -65,6 +65,8 @@ const REFUSED_BEHIND: &str =
 /// Queries that are read.
 const TAKEN: &str =
     r#"{"queryType":"timeseries","dataSource":"w","intervals":"2024-01-01/2024-01-02","granularity":"ALL"}
+{"queryType":"timeseries","dataSource":"w","intervals":["2024/2024-01-02T12:30:00.5+01:00"],"granularity":"all"}
+{"queryType":"timeseries","dataSource":"w","intervals":["-146136543-09-08T08:23:32.096Z/146140482-04-24T15:36:27.903Z"],"granularity":"all"}
 {"queryType":"timeseries","dataSource":"w","intervals":[],"granularity":"aLl","aggregations":null}
 {"queryType":"timeseries","dataSource":"w","intervals":["2024-01-01/2024-01-03","2024-01-02/2024-01-04","2024-01-05/2024-01-05"],"granularity":"all","aggregations":[]}
 {"queryType":"timeseries","dataSource":"w","intervals":[],"granularity":"all","filter":null,"descending":false,"limit":[],"context":{}}

@@ -1,23 +1,20 @@
--- What is printed of a whole second is read as that instant.
-use Rattle.std.proofs.Common.{◌≡◌, ℕ, ◌+◌, ◌-◌, ◌*◌, ◌/◌, ◌%◌, ◌<◌, ◌≤◌, nat_lt, true, inl, inr, List, ◌++◌, length, take, codes, Ok, refl, ◌∙◌, arith, append_assoc, length-append, ℤ, pos, neg_ℤ, ◌+ℤ◌, ◌-ℤ◌, ◌*ℤ◌, ◌≤ℤ◌}
-use Rattle.std.proofs.Math.Seq.{take-append_seam}
+-- What is printed of an instant spells it, and so is read as that instant.
+use Rattle.std.proofs.Common.{◌≡◌, ℕ, ◌+◌, ◌-◌, ◌*◌, ◌/◌, ◌%◌, ◌<◌, ◌≤◌, true, false, inl, inr, List, ◌++◌, take, codes, Ok, refl, ◌∙◌, arith, append_assoc, ℤ, pos, neg_ℤ, ◌-ℤ◌, ◌≤ℤ◌, int_eq}
 use Rattle.std.proofs.lemmas.Bool.{cases_lt}
-use Rattle.dr_time.proofs.PrintedLemmas.{millis_at_is}
 use Rattle.std.proofs.lemmas.Bool.Decides.{nat_tests}
 use Rattle.std.proofs.lemmas.Int.{ints}
 use Rattle.jiff_core.proofs.SignedLemmas.{signed_arith}
-use Rattle.dr_time.specs.Calendar.{is_date, days_of_month, month_length, days_before, month_at, year_at, month_of_year_at, day_of_month_at, since_year_zero, days_before_1970}
-use Rattle.dr_time.specs.Instant.{IsInstant, two_digits, four_digits, day_millis, day_of, clock_of, date_of, time_of_day, clock_behind, instant_at, instant_of, in_range}
-use Rattle.dr_time.specs.Printed.{zero_padded, date_text, clock_text, instant_text, day_number_at, millis_at}
+use Rattle.dr_time.specs.Calendar.{is_date, days_of_month, month_length, days_before, month_at, year_at, month_of_year_at, day_of_month_at, since_year_zero, days_before_1970, day_number}
+use Rattle.dr_time.specs.Eternity.{eternity_start}
+use Rattle.dr_time.specs.Instant.{IsInstant, instant_of, in_range, time_at}
+use Rattle.dr_time.specs.Printed.{zero_padded, date_text, clock_text, calendar_text, instant_text, day_number_at, millis_at}
+use Rattle.dr_time.specs.Spelling.{number_of, SpellsDay, to_day, SpellsClock, with_seconds, to_fraction, utc, letter, Spells, date_and_time}
 use Rattle.dr_time.proofs.CalendarLemmas.{days_before-suc, days_before-10000, days_before-mono, month_at-low, month_at-high, month_length_bounds, since_year_zero_is}
-use Rattle.dr_time.proofs.DigitLemmas.{two_digits-zero_padded, four_digits-zero_padded, length-zero_padded-two, length-zero_padded-four}
+use Rattle.dr_time.proofs.DigitLemmas.{Writes, WritesMillis, zero_padded-writes_two, zero_padded-writes_four, zero_padded-writes_millis}
+use Rattle.dr_time.proofs.PrintedLemmas.{millis_at_is}
+use Rattle.dr_time.proofs.SpelledLemmas.{instant_of-reads}
 
--- the date of a day before the year 10000
-record IsDateOfDay (n y m d : ℕ) : Type 0 where
-  year : y < 10000
-  month : m < 100
-  day : d < 100
-  number : day_of y m d ≡ Ok (pos n -ℤ pos days_before_1970)
+-- ---- the date of a day before the year 10000
 
 year_bound : (n : ℕ) → n < 3_652_425 → year_at n < 10000
 year_bound n lt =
@@ -29,84 +26,49 @@ year_bound n lt =
 is_date-at : (y m d : ℕ) → 1 ≤ m → m ≤ 12 → 1 ≤ d → d ≤ days_of_month y m → is_date y m d ≡ true
 is_date-at y m d low high first last = grind (arith, nat_tests)
 
-day_of-at : (n : ℕ) → day_of (year_at n) (month_of_year_at n) (day_of_month_at n) ≡ Ok (pos n -ℤ pos days_before_1970)
-day_of-at n =
-    let k = month_at n in
+is_date-of_day : (n : ℕ) → is_date (year_at n) (month_of_year_at n) (day_of_month_at n) ≡ true
+is_date-of_day n =
     let within : day_of_month_at n ≤ month_length (month_at n) = omega (arith, month_at-low n, month_at-high n, days_before-suc (month_at n)) in
-    let date = is_date-at (year_at n) (month_of_year_at n) (day_of_month_at n) (omega arith) (omega arith) (omega arith) within in
+    is_date-at (year_at n) (month_of_year_at n) (day_of_month_at n) (omega arith) (omega arith) (omega arith) within
+
+day_number-of_day : (n : ℕ) → day_number (year_at n) (month_of_year_at n) (day_of_month_at n) ≡ pos n -ℤ pos days_before_1970
+day_number-of_day n =
     let month : 12 * (month_at n / 12) + (month_at n % 12 + 1 - 1) ≡ month_at n = omega arith in
     let day : days_before (month_at n) + (n - days_before (month_at n) + 1 - 1) ≡ n = omega (arith, month_at-low n) in
-    rw (date, month, day) refl
+    rw (month, day) refl
 
-date_of-pieces : (Y M D rest : List ℕ) (y m d : ℕ) (number : ℤ) → ((x : List ℕ) → four_digits (Y ++ x) ≡ Ok (y, x)) → ((x : List ℕ) → two_digits (M ++ x) ≡ Ok (m, x)) → ((x : List ℕ) → two_digits (D ++ x) ≡ Ok (d, x)) → day_of y m d ≡ Ok number → date_of (Y ++ codes "-" ++ M ++ codes "-" ++ D ++ rest) ≡ Ok (number, rest)
-unfolding date_of
-date_of-pieces Y M D rest y m d number year month day date = simp (append_assoc, year, month, day, date)
+spells_day : (Y M D : List ℕ) (y m d : ℕ) → Writes 4 Y y → Writes 2 M m → Writes 2 D d → SpellsDay (Y ++ codes "-" ++ M ++ codes "-" ++ D) y m d
+spells_day Y M D y m d year month day =
+    rw (← year.value, ← month.value, ← day.value) (to_day Y M D year.numeral month.numeral day.numeral)
 
-date_of-date_text : (n : ℕ) (rest : List ℕ) → n < 3_652_425 → date_of (date_text n ++ rest) ≡ Ok (pos n -ℤ pos days_before_1970, rest)
+date_text-spells : (n : ℕ) → n < 3_652_425 → SpellsDay (date_text n) (year_at n) (month_of_year_at n) (day_of_month_at n)
 unfolding date_text
-date_of-date_text n rest lt =
+date_text-spells n lt =
     let long = month_length_bounds (month_at n) in
     let short : day_of_month_at n < 100 = omega (arith, month_at-low n, month_at-high n, days_before-suc (month_at n)) in
-    date_of-pieces (zero_padded 4 (year_at n)) (zero_padded 2 (month_of_year_at n)) (zero_padded 2 (day_of_month_at n)) rest (year_at n) (month_of_year_at n) (day_of_month_at n) (pos n -ℤ pos days_before_1970)
-    (λ x. four_digits-zero_padded (year_at n) x (year_bound n lt))
-    (λ x. two_digits-zero_padded (month_of_year_at n) x (omega arith))
-    (λ x. two_digits-zero_padded (day_of_month_at n) x short)
-    (day_of-at n)
+    spells_day (zero_padded 4 (year_at n)) (zero_padded 2 (month_of_year_at n)) (zero_padded 2 (day_of_month_at n)) (year_at n) (month_of_year_at n) (day_of_month_at n)
+    (zero_padded-writes_four (year_at n) (year_bound n lt)) (zero_padded-writes_two (month_of_year_at n) (omega arith)) (zero_padded-writes_two (day_of_month_at n) short)
 
-time_of_day-pieces : (H M S rest : List ℕ) (h m s millis : ℕ) → ((x : List ℕ) → two_digits (H ++ x) ≡ Ok (h, x)) → ((x : List ℕ) → two_digits (M ++ x) ≡ Ok (m, x)) → ((x : List ℕ) → two_digits (S ++ x) ≡ Ok (s, x)) → clock_of h m s ≡ Ok millis → time_of_day (H ++ codes ":" ++ M ++ codes ":" ++ S ++ rest) ≡ Ok (millis, rest)
-unfolding time_of_day
-time_of_day-pieces H M S rest h m s millis hour minute second clock = simp (append_assoc, hour, minute, second, clock)
+-- ---- the time of day
 
--- `HH:MM:SS`
-abbrev seconds_text : ℕ → List ℕ
-seconds_text millis =
-    zero_padded 2 (millis / 3_600_000) ++ codes ":" ++ zero_padded 2 (millis / 60_000 % 60) ++ codes ":" ++ zero_padded 2 (millis / 1_000 % 60)
+spells_clock : (H M S F : List ℕ) (h m s f millis : ℕ) → Writes 2 H h → Writes 2 M m → Writes 2 S s → WritesMillis F f → h < 24 → m < 60 → s < 60 → (h * 60 + m) * 60_000 + (s * 1_000 + f) ≡ millis
+    → SpellsClock (H ++ codes ":" ++ M ++ codes ":" ++ S ++ codes "." ++ F) millis
+spells_clock H M S F h m s f millis hour minute second fraction low_h low_m low_s value =
+    let seconds = to_fraction S F (second.numeral, omega (arith, second.value)) fraction.digits (omega (arith, fraction.long)) (omega (arith, fraction.long)) in
+    let clock = with_seconds H M (S ++ codes "." ++ F) _ (hour.numeral, omega (arith, hour.value)) (minute.numeral, omega (arith, minute.value)) seconds in
+    let whole : (number_of H * 60 + number_of M) * 60_000 + (number_of S * 1_000 + number_of (take 3 (F ++ codes "00"))) ≡ millis = omega (arith, hour.value, minute.value, second.value, fraction.value) in
+    let regroup : H ++ codes ":" ++ M ++ codes ":" ++ S ++ codes "." ++ F ≡ H ++ codes ":" ++ M ++ codes ":" ++ (S ++ codes "." ++ F) = simp append_assoc refl in
+    rw regroup (rw whole at clock)
 
-clock_of-whole : (millis : ℕ) → millis < 86_400_000 → millis % 1_000 ≡ 0 → clock_of (millis / 3_600_000) (millis / 60_000 % 60) (millis / 1_000 % 60) ≡ Ok millis
-clock_of-whole millis lt whole =
-    let value : ((millis / 3_600_000 * 60 + millis / 60_000 % 60) * 60 + millis / 1_000 % 60) * 1000 ≡ millis = omega arith in
-    let hour : nat_lt (millis / 3_600_000) 24 ≡ true = grind (arith, nat_tests) in
-    let minute : nat_lt (millis / 60_000 % 60) 60 ≡ true = grind (arith, nat_tests) in
-    let second : nat_lt (millis / 1_000 % 60) 60 ≡ true = grind (arith, nat_tests) in
-    rw (hour, minute, second, value) refl
+clock_text-spells : (millis : ℕ) → millis < 86_400_000 → SpellsClock (clock_text millis) millis
+unfolding clock_text
+clock_text-spells millis lt =
+    spells_clock (zero_padded 2 (millis / 3_600_000)) (zero_padded 2 (millis / 60_000 % 60)) (zero_padded 2 (millis / 1_000 % 60)) (zero_padded 3 (millis % 1_000))
+    (millis / 3_600_000) (millis / 60_000 % 60) (millis / 1_000 % 60) (millis % 1_000) millis
+    (zero_padded-writes_two (millis / 3_600_000) (omega arith)) (zero_padded-writes_two (millis / 60_000 % 60) (omega arith)) (zero_padded-writes_two (millis / 1_000 % 60) (omega arith)) (zero_padded-writes_millis (millis % 1_000) (omega arith))
+    (omega arith) (omega arith) (omega arith) (omega arith)
 
-time_of_day-seconds_text : (millis : ℕ) (rest : List ℕ) → millis < 86_400_000 → millis % 1_000 ≡ 0 → time_of_day (seconds_text millis ++ rest) ≡ Ok (millis, rest)
-time_of_day-seconds_text millis rest lt whole =
-    time_of_day-pieces (zero_padded 2 (millis / 3_600_000)) (zero_padded 2 (millis / 60_000 % 60)) (zero_padded 2 (millis / 1_000 % 60)) rest (millis / 3_600_000) (millis / 60_000 % 60) (millis / 1_000 % 60) millis
-    (λ x. two_digits-zero_padded (millis / 3_600_000) x (omega arith))
-    (λ x. two_digits-zero_padded (millis / 60_000 % 60) x (omega arith))
-    (λ x. two_digits-zero_padded (millis / 1_000 % 60) x (omega arith))
-    (clock_of-whole millis lt whole)
-
-instant_of-pieces : (D S : List ℕ) (number : ℤ) (millis : ℕ) → ((x : List ℕ) → date_of (D ++ x) ≡ Ok (number, x)) → ((x : List ℕ) → time_of_day (S ++ x) ≡ Ok (millis, x)) → instant_of (D ++ codes "T" ++ S ++ codes "Z") ≡ instant_at number millis (pos 0)
-unfolding instant_of clock_behind
-instant_of-pieces D S number millis date clock = simp (append_assoc, date, clock)
-
-length-pieces : (Y M D H N S : List ℕ) → length Y ≡ 4 → length M ≡ 2 → length D ≡ 2 → length H ≡ 2 → length N ≡ 2 → length S ≡ 2 → length (Y ++ codes "-" ++ M ++ codes "-" ++ D ++ codes "T" ++ (H ++ codes ":" ++ N ++ codes ":" ++ S)) ≡ 19
-length-pieces Y M D H N S y m d h n s = simp (length-append, y, m, d, h, n, s)
-
-take_front : (n : ℕ) (front rest : List ℕ) → length front ≡ n → take n (front ++ rest) ≡ front
-take_front n front rest e = rw (← e) (take-append_seam front rest)
-
-front-pieces : (Y M D H N S F : List ℕ) → length Y ≡ 4 → length M ≡ 2 → length D ≡ 2 → length H ≡ 2 → length N ≡ 2 → length S ≡ 2 → take 19 (Y ++ codes "-" ++ M ++ codes "-" ++ D ++ codes "T" ++ (H ++ codes ":" ++ N ++ codes ":" ++ S ++ codes "." ++ F) ++ codes "Z") ≡ Y ++ codes "-" ++ M ++ codes "-" ++ D ++ codes "T" ++ (H ++ codes ":" ++ N ++ codes ":" ++ S)
-front-pieces Y M D H N S F y m d h n s =
-    let front = Y ++ codes "-" ++ M ++ codes "-" ++ D ++ codes "T" ++ (H ++ codes ":" ++ N ++ codes ":" ++ S) in
-    let regroup : Y ++ codes "-" ++ M ++ codes "-" ++ D ++ codes "T" ++ (H ++ codes ":" ++ N ++ codes ":" ++ S ++ codes "." ++ F) ++ codes "Z" ≡ front ++ (codes "." ++ F ++ codes "Z") = simp append_assoc in
-    rw regroup (take_front 19 front (codes "." ++ F ++ codes "Z") (length-pieces Y M D H N S y m d h n s))
-
--- the text up to the seconds
-front_text : (n millis : ℕ) → n < 3_652_425 → millis < 86_400_000 → take 19 (date_text n ++ codes "T" ++ clock_text millis ++ codes "Z") ≡ date_text n ++ codes "T" ++ seconds_text millis
-unfolding date_text clock_text
-front_text n millis lt within =
-    let long = month_length_bounds (month_at n) in
-    let short : day_of_month_at n < 100 = omega (arith, month_at-low n, month_at-high n, days_before-suc (month_at n)) in
-    front-pieces (zero_padded 4 (year_at n)) (zero_padded 2 (month_of_year_at n)) (zero_padded 2 (day_of_month_at n)) (zero_padded 2 (millis / 3_600_000)) (zero_padded 2 (millis / 60_000 % 60)) (zero_padded 2 (millis / 1_000 % 60)) (zero_padded 3 (millis % 1_000))
-    (length-zero_padded-four (year_at n) (year_bound n lt))
-    (length-zero_padded-two (month_of_year_at n) (omega arith))
-    (length-zero_padded-two (day_of_month_at n) short)
-    (length-zero_padded-two (millis / 3_600_000) (omega arith))
-    (length-zero_padded-two (millis / 60_000 % 60) (omega arith))
-    (length-zero_padded-two (millis / 1_000 % 60) (omega arith))
+-- ---- the instant
 
 in_range-inside : (t : ℤ) → IsInstant t → in_range t ≡ Ok t
 in_range-inside t h = grind (arith, ints)
@@ -114,20 +76,24 @@ in_range-inside t h = grind (arith, ints)
 millis_bound : (t : ℤ) → millis_at t < 86_400_000
 millis_bound t = omega (arith, signed_arith, millis_at_is t)
 
-instant_at-parts : (t : ℤ) → IsInstant t → instant_at (day_number_at t) (millis_at t) (pos 0) ≡ Ok t
-instant_at-parts t h =
-    let value : day_number_at t *ℤ pos day_millis +ℤ pos (millis_at t) -ℤ pos 0 ≡ t = omega (arith, signed_arith, millis_at_is t) in
-    rw value (in_range-inside t h)
-
-pub read_back : (t : ℤ) → IsInstant t → millis_at t % 1_000 ≡ 0 → instant_of (take 19 (instant_text t) ++ codes "Z") ≡ Ok t
-unfolding instant_text
-read_back t h whole =
+calendar_text-spells : (t : ℤ) → IsInstant t → Spells (calendar_text t) t
+unfolding calendar_text
+calendar_text-spells t h =
     let n = since_year_zero (day_number_at t) in
     let low : neg_ℤ (pos days_before_1970) ≤ℤ day_number_at t = omega (arith, signed_arith) in
     let since = since_year_zero_is (day_number_at t) low in
     let high : since_year_zero (day_number_at t) < 3_652_425 = omega (arith, signed_arith) in
     let number : pos (since_year_zero (day_number_at t)) -ℤ pos days_before_1970 ≡ day_number_at t = omega (arith, signed_arith) in
-    let read = instant_of-pieces (date_text n) (seconds_text (millis_at t)) (pos n -ℤ pos days_before_1970) (millis_at t)
-    (λ x. date_of-date_text n x high)
-    (λ x. time_of_day-seconds_text (millis_at t) x (millis_bound t) whole) in
-    rw (front_text n (millis_at t) high (millis_bound t)) (read ∙ (rw number (instant_at-parts t h)))
+    let value : time_at (day_number (year_at n) (month_of_year_at n) (day_of_month_at n)) (millis_at t) (pos 0) ≡ t = rw (day_number-of_day n, number) (omega (arith, signed_arith, millis_at_is t)) in
+    rw value at (date_and_time (date_text n) (codes "T") (clock_text (millis_at t)) (codes "Z") (year_at n) (month_of_year_at n) (day_of_month_at n) (millis_at t) (pos 0)
+    (date_text-spells n high) (is_date-of_day n) letter (clock_text-spells (millis_at t) (millis_bound t)) utc)
+
+instant_text-calendar : (t : ℤ) → IsInstant t → instant_text t ≡ calendar_text t
+unfolding instant_text
+instant_text-calendar t h =
+    let other : int_eq t eternity_start ≡ false = grind (arith, ints) in
+    rw other refl
+
+pub read_back : (t : ℤ) → IsInstant t → instant_of (instant_text t) ≡ Ok t
+read_back t h =
+    rw (instant_text-calendar t h) (instant_of-reads (calendar_text t) t (calendar_text-spells t h) ∙ in_range-inside t h)

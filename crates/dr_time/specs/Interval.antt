@@ -1,11 +1,12 @@
 -- Intervals of time (ISO 8601, `start/end`). They are half open: the start is inside, and the end isn't.
-use Rattle.std.specs.Prelude.{ℕ, ◌==◌, nat_lt, Bool, ◌&&◌, if◌then◌else◌, List, length, ℤ, int_le, int_lt, Option, Some, None, Result, Ok, Err}
+use Rattle.std.specs.Prelude.{ℕ, ◌==◌, nat_lt, Bool, ◌&&◌, if◌then◌else◌, List, length, ℤ, int_le, int_lt, Option, Some, None, Result, Ok, Err, bytes_eq}
 use Rattle.std.specs.Int.{int_max}
 use Rattle.std.specs.List.{position_or_len, before_first, after_first}
 use Rattle.dr_base.specs.Reading.{◌>>=◌}
 use Rattle.dr_time.specs.declared.interval.Interval.{Interval}
 use Rattle.dr_time.specs.declared.time_error.TimeError.{TimeError}
 use Rattle.dr_time.specs.declared.time_error.TimeError.TheVariants.{BadInstant, OutOfRange, BadInterval, EndBeforeStart}
+use Rattle.dr_time.specs.Eternity.{eternity, eternity_text}
 use Rattle.dr_time.specs.Instant.{instant_of}
 
 -- the interval holds this time
@@ -46,10 +47,14 @@ as_part (Err EndBeforeStart) = Err EndBeforeStart
 abbrev pub interval_from : ℤ → ℤ → Result Interval TimeError
 interval_from start end = if int_lt end start then Err EndBeforeStart else Ok (record { start = start; end = end })
 
--- the interval that a text names
-unfoldable pub interval_of : List ℕ → Result Interval TimeError
-interval_of text = do
+-- the interval between two instants
+unfoldable pub between_instants : List ℕ → Result Interval TimeError
+between_instants text = do
   parts ← parts_of text
   start ← as_part (instant_of parts.0)
   end ← as_part (instant_of parts.1)
   interval_from start end
+
+-- the interval that a text names: eternity by its own text alone
+unfoldable pub interval_of : List ℕ → Result Interval TimeError
+interval_of text = if bytes_eq text eternity_text then Ok eternity else between_instants text

@@ -1,9 +1,10 @@
 -- What follows from the definitions of this crate.
-use Rattle.std.specs.Prelude.{◌≡◌, ℕ, ◌%◌, Bool, true, false, ◌&&◌, List, ◌++◌, take, codes, ℤ, pos, ◌≤ℤ◌, int_le, Option, Some, None, Ok}
+use Rattle.std.specs.Prelude.{◌≡◌, ℕ, Bool, true, false, ◌&&◌, List, ℤ, pos, ◌≤ℤ◌, int_le, Option, Some, None, Ok}
 use Rattle.dr_time.specs.declared.interval.Interval.{Interval}
 use Rattle.dr_time.specs.Calendar.{is_date, day_number}
-use Rattle.dr_time.specs.Instant.{IsInstant, instant_of}
-use Rattle.dr_time.specs.Printed.{instant_text, millis_at}
+use Rattle.dr_time.specs.Instant.{IsInstant, in_range, instant_of}
+use Rattle.dr_time.specs.Printed.{instant_text}
+use Rattle.dr_time.specs.Spelling.{Spells, IsRead}
 use Rattle.dr_time.specs.Union.{union_holds, union_start, union_first_from}
 
 -- the days are counted from 1970-01-01
@@ -16,10 +17,17 @@ NumbersOneDate =
     (y m d year month day : ℕ) → is_date y m d ≡ true → is_date year month day ≡ true
     → day_number y m d ≡ day_number year month day → (y ≡ year) × (m ≡ month) × (d ≡ day)
 
--- what is printed of a whole second, without its `.000`, is a text of that instant
+-- what is read of a text is spelled by it
+abbrev pub ReadsTheSpelled : Type 0
+ReadsTheSpelled = (text : List ℕ) → IsRead text (instant_of text)
+
+-- whatever a text spells is read of it
+abbrev pub ReadsAllSpelled : Type 0
+ReadsAllSpelled = (text : List ℕ) (t : ℤ) → Spells text t → instant_of text ≡ in_range t
+
+-- what is printed of an instant is a text of that instant
 abbrev pub ReadsBack : Type 0
-ReadsBack =
-    (t : ℤ) → IsInstant t → millis_at t % 1_000 ≡ 0 → instant_of (take 19 (instant_text t) ++ codes "Z") ≡ Ok t
+ReadsBack = (t : ℤ) → IsInstant t → instant_of (instant_text t) ≡ Ok t
 
 -- the first of the times that pass a test; none where none passes
 abbrev pub IsFirstTime : (ℤ → Bool) → Option ℤ → Type 0

@@ -1,6 +1,10 @@
 pub mod Refusal
 pub mod Calendar
+pub mod Digits
+pub mod Clock
 pub mod Instant
+pub mod Spelling
+pub mod Eternity
 pub mod Printed
 pub mod Interval
 pub mod Union

@@ -1,9 +1,11 @@
--- The text of an instant (ISO 8601): `YYYY-MM-DDTHH:MM:SS.mmmZ`, in UTC.
-use Rattle.std.specs.Prelude.{ℕ, ◌-◌, ◌/◌, ◌%◌, List, ◌++◌, length, replicate, codes, ℤ, pos, unsigned_abs}
+-- The text of a time (ISO 8601): `YYYY-MM-DDTHH:MM:SS.mmmZ`, in UTC.
+use Rattle.std.specs.Prelude.{◌≡◌, ℕ, ◌-◌, ◌/◌, ◌%◌, if◌then◌else◌, List, ◌++◌, length, replicate, codes, ℤ, pos, ◌≤ℤ◌, ◌⊎◌, unsigned_abs}
+use Rattle.std.specs.Ordering.{int_eq}
 use Rattle.std.specs.Int.{int_div_euclid, int_rem_euclid}
 use Rattle.std.specs.Fmt.{decimal}
 use Rattle.dr_time.specs.Calendar.{year_at, month_of_year_at, day_of_month_at, since_year_zero}
-use Rattle.dr_time.specs.Instant.{day_millis}
+use Rattle.dr_time.specs.Eternity.{eternity_start, eternity_start_text}
+use Rattle.dr_time.specs.Instant.{day_millis, first_instant}
 
 -- a number with zeros in front, up to this many digits
 abbrev pub zero_padded : ℕ → ℕ → List ℕ
@@ -27,7 +29,19 @@ day_number_at t = int_div_euclid t (pos day_millis)
 abbrev pub millis_at : ℤ → ℕ
 millis_at t = unsigned_abs (int_rem_euclid t (pos day_millis))
 
--- the text of an instant that is not before the year 0
-unfoldable pub instant_text : ℤ → List ℕ
-instant_text t =
+-- the text of a time that is not before the year 0
+unfoldable pub calendar_text : ℤ → List ℕ
+calendar_text t =
     date_text (since_year_zero (day_number_at t)) ++ codes "T" ++ clock_text (millis_at t) ++ codes "Z"
+
+-- the text of a time that can be printed
+unfoldable pub instant_text : ℤ → List ℕ
+instant_text t = if int_eq t eternity_start then eternity_start_text else calendar_text t
+
+-- 10000-01-03T00:00:00.000Z, where the last of the weeks ends that begin before the year 10000
+abbrev pub last_printable : ℤ
+last_printable = pos 253_402_473_600_000
+
+-- the times that can be printed: those of events, the ends of their buckets, and the start of eternity
+abbrev pub IsPrintable : ℤ → Type 0
+IsPrintable t = ((first_instant ≤ℤ t) × (t ≤ℤ last_printable)) ⊎ (t ≡ eternity_start)

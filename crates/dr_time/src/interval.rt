@@ -1,9 +1,16 @@
 ghost use Rattle.std.specs.Prelude.{◌≡◌};
 ghost use Rattle.dr_time.specs.Instant.{instant_of};
-ghost use Rattle.dr_time.specs.Interval.{holds_time, is_empty as is_empty_of, interval_of, as_part, first_time, first_time_from};
+ghost use Rattle.dr_time.specs.Interval.{holds_time, is_empty as is_empty_of, interval_of, between_instants as between_instants_of, as_part, first_time, first_time_from};
 
 use crate::instant::parse_instant;
 use crate::time_error::TimeError;
+
+const ETERNITY_TEXT: &str = "-146136543-09-08T08:23:32.096Z/146140482-04-24T15:36:27.903Z";
+
+const ETERNITY: Interval = Interval {
+    start: -4_611_686_018_427_387_904,
+    end: 4_611_686_018_427_387_903,
+};
 
 /// The times from `start`, which is inside, to `end`, which isn't, in milliseconds since 1970-01-01T00:00:00Z.
 #[derive(Clone, Copy, Debug, PartialEq, Eq)]
@@ -47,13 +54,26 @@ impl Interval {
     }
 }
 
-/// The interval that a text names: two instants with a `/` between them (ISO 8601).
+/// The interval that a text names: two instants with a `/` between them (ISO 8601), or eternity.
 ///
 /// The text is cut at its first `/`, and the part before it is judged first. Without a `/`, and where a part is no instant,
 /// the text is 12; an instant out of range is 11; an end before the start is 13. Two equal instants are an empty interval.
+///
+/// The one text `-146136543-09-08T08:23:32.096Z/146140482-04-24T15:36:27.903Z` is eternity (Apache Druid documentation,
+/// intervals), from -4611686018427387904 to 4611686018427387903, which holds the time of every event. Its ends are no instants.
 #[tactic(auto, unfolding(crate::specs::Interval::interval_of))]
 pub fn parse_interval(text: &str) -> Result<Interval, TimeError>
     ensures { result ≡ interval_of text.now }
+{
+    if text == ETERNITY_TEXT {
+        return Ok(ETERNITY);
+    }
+    between_instants(text)
+}
+
+#[tactic(auto, unfolding(crate::specs::Interval::between_instants))]
+fn between_instants(text: &str) -> Result<Interval, TimeError>
+    ensures { result ≡ between_instants_of text.now }
 {
     let Some((start, end)) = text.split_once('/') else {
         return Err(TimeError::BadInterval);

@@ -2,7 +2,7 @@ ghost use Rattle.std.specs.Prelude.{◌≡◌, IfOk, map, length, string_bytes};
 ghost use Rattle.std.specs.List.{AllByRecursion};
 ghost use Rattle.serde_json.specs.Data.{array, object};
 ghost use Rattle.serde_json.specs.View.{view, members_view, items_view, items_of};
-ghost use Rattle.dr_time.specs.Instant.{IsInstant};
+ghost use Rattle.dr_time.specs.Printed.{IsPrintable};
 ghost use Rattle.dr_query.specs.Answer.{text_of, result_data, with_outputs};
 ghost use Rattle.dr_timeline.specs.Groups.{FitsQuery};
 ghost use Rattle.serde_json.specs.Data.{no_members};

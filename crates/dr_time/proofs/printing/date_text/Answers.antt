@@ -5,7 +5,7 @@ use Rattle.std.proofs.lemmas.Int.{to_z-of_z}
 use Rattle.dr_time.specs.Calendar.{year_at, month_of_year_at, day_of_month_at, since_year_zero}
 use Rattle.dr_time.specs.Printed.{zero_padded}
 use Rattle.dr_time.proofs.PrintedLemmas.{formatted, date_text-pieces, styled_two, styled_four}
-use Rattle.dr_time.proofs.instant.date_text.Goals as goal
+use Rattle.dr_time.proofs.printing.date_text.Goals as goal
 
 pub returns : goal.returns
 returns c =

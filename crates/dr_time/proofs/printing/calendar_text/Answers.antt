@@ -2,8 +2,8 @@
 use Rattle.std.proofs.Common.{◌≡◌, ◌∙◌, ap, unsigned_abs, FitsSigned, w64, rules}
 use Rattle.std.proofs.lemmas.Int.{to_z-of_z}
 use Rattle.dr_time.specs.Printed.{day_number_at, millis_at}
-use Rattle.dr_time.proofs.PrintedLemmas.{instant_text-pieces}
-use Rattle.dr_time.proofs.instant.print_instant.Goals as goal
+use Rattle.dr_time.proofs.PrintedLemmas.{calendar_text-pieces}
+use Rattle.dr_time.proofs.printing.calendar_text.Goals as goal
 
 pub returns : goal.returns
 returns c =
@@ -15,4 +15,4 @@ returns c =
     let millis_is : unsigned_abs c.rem_euclid.result ≡ millis_at c.args.instant = ap unsigned_abs rem_is in
     let date_is = simp day_is at (simp to_z-of_z at c.in_ok-date.ensures) in
     let clock_is = simp millis_is at (simp to_z-of_z at c.in_ok-clock.ensures) in
-    c.from_string.ensures ∙ (c.in_ok-format.ensures.ok ∙ instant_text-pieces c.args.instant _ _ date_is clock_is)
+    c.from_string.ensures ∙ (c.in_ok-format.ensures.ok ∙ calendar_text-pieces c.args.instant _ _ date_is clock_is)

@@ -1,7 +1,7 @@
 -- Each hole shows its part of the time of day.
 use Rattle.std.proofs.Common.{string_bytes, Some, ap}
 use Rattle.dr_time.proofs.PrintedLemmas.{formatted, clock_text-pieces, styled_two, styled_three}
-use Rattle.dr_time.proofs.instant.clock_text.Goals as goal
+use Rattle.dr_time.proofs.printing.clock_text.Goals as goal
 
 pub returns : goal.returns
 returns c =
