@@ -1,4 +1,4 @@
-ghost use Rattle.std.specs.Prelude.{◌≡◌, ◌↔◌, ◌<◌, ◌≤◌, [], None, length, take, IfOk, OnOk, OnErr, IsErrOf, bytes_eq, slice_get, Some};
+ghost use Rattle.std.specs.Prelude.{◌≡◌, ◌↔◌, ◌<◌, ◌≤◌, [], None, length, take, IfOk, OnOk, OnErr, IsErrOf, bytes_eq, slice_get, Some, map, string_bytes};
 ghost use Rattle.std.specs.List.{IsDistinct};
 ghost use Rattle.dr_dict.specs.Dictionary.{number_in, with_text, with_texts};
 
@@ -44,9 +44,22 @@ impl GrowingDict {
     pub fn len(&self) -> usize
         ensures len { result ≡ length self.now.texts }
         ensures within { result ≤ self.now.limit }
+        ensures few { result ≤ 16777216 }
         ensures distinct { IsDistinct bytes_eq self.now.texts }
     {
         self.texts.len()
+    }
+
+    /// The texts by their numbers.
+    pub fn as_slice(&self) -> &[String]
+        ensures { map string_bytes result.now ≡ self.now.texts }
+    {
+        self.texts.as_slice()
+    }
+
+    /// The allocator that the dictionary was made with.
+    pub fn allocator(&self) -> Global {
+        *self.texts.allocator()
     }
 
     /// The number of a text; none where it isn't there. It takes no memory.

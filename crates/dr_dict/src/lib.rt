@@ -4,6 +4,11 @@
 
 mod dict_error;
 mod growing_dict;
+mod sorted_dict;
 
 pub use dict_error::DictError;
 pub use growing_dict::GrowingDict;
+pub use sorted_dict::{SortedDict, renumbering, sorted_is_unique};
+
+#[cfg(test)]
+mod tests;
