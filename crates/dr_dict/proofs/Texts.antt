@@ -30,14 +30,14 @@ module _ {K X : Type 0} (f : K → X) where
 
 module _ {X : Type 0} (p : X → Bool) where
   -- where none passes, the place is the end
-  or_len-none : (xs : List X) → list_any p xs ≡ false → position_or_len p xs ≡ length xs
+  pub or_len-none : (xs : List X) → list_any p xs ≡ false → position_or_len p xs ≡ length xs
   or_len-none [] h = refl
   or_len-none (x ∷ xs) h =
       elim (p x) as (λ b. (b || list_any p xs) ≡ false → cond (not b) (1 + position_or_len p xs) 0 ≡ suc (length xs))
       [ true ↦ λ g. absurd (true≢false g) | false ↦ λ g. ap (λ n. 1 + n) (or_len-none xs g) ∙ omega arith ]
       h
 
-  or_len-some : (xs : List X) → list_any p xs ≡ true → position_or_len p xs < length xs
+  pub or_len-some : (xs : List X) → list_any p xs ≡ true → position_or_len p xs < length xs
   or_len-some [] h = absurd (true≢false (sym h))
   or_len-some (x ∷ xs) h =
       elim (p x) as (λ b. (b || list_any p xs) ≡ true → cond (not b) (1 + position_or_len p xs) 0 < suc (length xs))

@@ -1,0 +1,4 @@
+pub mod Contributing
+pub mod Numbering
+pub mod Keys
+pub mod Decoding

@@ -1,0 +1,14 @@
+//! The rows of an open range of events: an index that finds the row of an event by hashing, and combines the event into it.
+//! Dimension values stand in it as numbers of a dictionary; its rows are handed out sorted, and are the rollup of its events.
+#![tactic(auto)]
+
+mod coded;
+mod coding;
+mod entries;
+mod rollup_error;
+mod unrolled;
+
+pub use coding::{add_texts, code, texts_of};
+pub use entries::Entries;
+pub use rollup_error::RollupError;
+pub use unrolled::unrolled_row;
