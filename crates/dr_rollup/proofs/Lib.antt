@@ -2,3 +2,5 @@ pub mod Contributing
 pub mod Numbering
 pub mod Keys
 pub mod Decoding
+pub mod Rows
+pub mod Growing

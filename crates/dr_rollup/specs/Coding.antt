@@ -3,6 +3,9 @@ use Rattle.std.specs.Prelude.{◌≡◌, ℕ, ℤ, ◌<◌, ◌&&◌, Bool, true
 use Rattle.std.specs.List.{list_any, position_or_len, AllByRecursion, AllZip, IsDistinct}
 use Rattle.std.specs.Ordering.{int_eq}
 use Rattle.std.specs.Cmp.Lexicographic.{pointwise}
+use Rattle.std.specs.Ordering.{eq_by_cmp}
+use Rattle.dr_base.specs.declared.key.Key.{Key}
+use Rattle.dr_base.specs.Order.{key_cmp}
 use Rattle.dr_base.specs.declared.row.Row.{Row}
 use Rattle.dr_dict.specs.Dictionary.{Dictionary, with_text, with_texts}
 use Rattle.indexmap.specs.IndexMap.{spare}
@@ -82,3 +85,6 @@ HasRoom (Apart rows) = length rows.items < rows.cap
 -- what an event adds is combined into the entry at a place
 abbrev pub Combines : List Kind → List ℤ → List Entry → ℕ → List Entry → Type 0
 Combines kinds inputs before place after = (e : Entry) → slice_get before place ≡ Some e → after ≡ slice_set before place (e.0, combine_columns kinds e.1 (contributions kinds inputs))
+
+abbrev pub same_keys : Key → Key → Bool
+same_keys = eq_by_cmp key_cmp
