@@ -126,3 +126,14 @@ texts-known (d ∷ ds) (n ∷ ns) (t ∷ ts) all e =
     let first : text_at d n ≡ t = ap (λ l. get_or l 0 []) e in
     let rest : texts_of ds ns ≡ ts = ap (drop 1) e in
     ap (λ b. b && all_known ds ts) (text-there d.texts t n all.0 first) ∙ texts-known ds ns ts all.1 rest
+
+-- values whose numbers are there are known
+pub numbers-known : (ds : List Dictionary) (ts : List (List ℕ)) → AreNumbers ds (numbers_of ds ts) → all_known ds ts ≡ true
+numbers-known [] ts all = refl
+numbers-known (d ∷ ds) [] all = refl
+numbers-known (d ∷ ds) (t ∷ ts) all = ap (λ b. b && all_known ds ts) (there d t all.0) ∙ numbers-known ds ts all.1
+  where
+    there : (x : Dictionary) (u : List ℕ) → number_or_next x u < length x.texts → list_any (bytes_eq u) x.texts ≡ true
+    there x u lt =
+        elim (list_any (bytes_eq u) x.texts) as (λ b. list_any (bytes_eq u) x.texts ≡ b → b ≡ true)
+        [ true ↦ λ h. refl | false ↦ λ h. absurd (omega (arith, lt, or_len-none (bytes_eq u) x.texts h)) ] refl

@@ -22,7 +22,7 @@ use Rattle.dr_dict.proofs.Texts.{distinct-push}
 use Rattle.dr_rollup.specs.declared.coded.Coded.{Coded}
 use Rattle.dr_rollup.specs.Coding.{Entry, numbers_of, all_known, with_values, texts_of, AreNumbers, AreDistinct, HaveRoom, same_coded, same_keys, row_of}
 use Rattle.dr_rollup.specs.Sound.{IsSound}
-use Rattle.dr_rollup.proofs.Decoding.{texts-added, numbers-within, nothing-added, texts-stay, same-numbers, texts-known}
+use Rattle.dr_rollup.proofs.Decoding.{texts-added, numbers-within, nothing-added, texts-stay, same-numbers, texts-known, numbers-known}
 use Rattle.dr_rollup.proofs.Rows.{rollup-joined, same_keys-comm, rows-counted}
 
 -- ---- lists
@@ -242,3 +242,24 @@ key-by-numbers ds c e h =
     let t : c.time ≡ e.0.time = (Decides-int_eq c.time e.0.time).0 p.0 in
     let n : c.numbers.items ≡ e.0.numbers.items = (bytes_decides c.numbers.items e.0.numbers.items).0 p.1 in
     sym (λ i. record { time = t i; dims = texts_of ds (n i) })
+
+-- the texts of numbers of known values
+pub known-texts : (ds : List Dictionary) (ts : List (List ℕ)) → length ts ≡ length ds → all_known ds ts ≡ true → AreNumbers ds (numbers_of ds ts) × (texts_of ds (numbers_of ds ts) ≡ ts)
+known-texts ds ts len known =
+    let same = nothing-added ds ts known in
+    (subst (λ l. AreNumbers l (numbers_of ds ts)) same (numbers-within ds ts len), ap (λ l. texts_of l (numbers_of ds ts)) (sym same) ∙ texts-added ds ts len)
+
+-- numbers of values of which one is new are no entry's
+pub unlike-new : (ds : List Dictionary) (es : List Entry) (c : Coded) (ts : List (List ℕ)) → c.numbers.items ≡ numbers_of ds ts → all_known ds ts ≡ false → AllByRecursion (λ e. AreNumbers ds e.0.numbers.items) es
+    → AllByRecursion (λ e. same_coded c e.0 ≡ false) es
+unlike-new ds [] c ts is new all = tt
+unlike-new ds (e ∷ es) c ts is new all = (
+    elim (same_coded c e.0) as (λ b. same_coded c e.0 ≡ b → b ≡ false) [
+      | true ↦ λ h.
+          let n : c.numbers.items ≡ e.0.numbers.items = (bytes_decides c.numbers.items e.0.numbers.items).0 (both (int_eq c.time e.0.time) (bytes_eq c.numbers.items e.0.numbers.items) h).1 in
+          absurd (true≢false (sym (numbers-known ds ts (subst (AreNumbers ds) (sym n ∙ is) all.0)) ∙ new))
+      | false ↦ λ h. refl
+    ]
+    refl,
+    unlike-new ds es c ts is new all.1,
+)

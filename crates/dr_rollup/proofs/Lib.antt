@@ -4,3 +4,4 @@ pub mod Keys
 pub mod Decoding
 pub mod Rows
 pub mod Growing
+pub mod Adding

@@ -1,5 +1,5 @@
 -- Keys of rows with the numbers of dictionaries in the place of texts. No public contract cites this file.
-use Rattle.std.specs.Prelude.{◌≡◌, ℕ, ℤ, ◌<◌, ◌&&◌, Bool, true, false, List, [], ◌∷◌, length, bytes_eq, nat_eq, slice_index_or, slice_get, slice_set, Some}
+use Rattle.std.specs.Prelude.{◌≡◌, ℕ, ℤ, ◌<◌, ◌&&◌, Bool, true, false, List, [], ◌∷◌, length, bytes_eq, nat_eq, slice_index_or, slice_get, slice_set, Some, ◌++◌}
 use Rattle.std.specs.List.{list_any, position_or_len, AllByRecursion, AllZip, IsDistinct}
 use Rattle.std.specs.Ordering.{int_eq}
 use Rattle.std.specs.Cmp.Lexicographic.{pointwise}
@@ -88,3 +88,7 @@ Combines kinds inputs before place after = (e : Entry) → slice_get before plac
 
 abbrev pub same_keys : Key → Key → Bool
 same_keys = eq_by_cmp key_cmp
+
+-- an entry of these numbers and metrics is put behind the others
+abbrev pub Puts : List Entry → Coded → List ℤ → List Entry → Type 0
+Puts before coded metrics after = (k : Coded) × (k.time ≡ coded.time) × (k.numbers.items ≡ coded.numbers.items) × (after ≡ before ++ (k, metrics) ∷ [])

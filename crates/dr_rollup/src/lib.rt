@@ -5,10 +5,13 @@
 mod coded;
 mod coding;
 mod entries;
+mod locating;
+mod open_index;
+mod putting;
 mod rollup_error;
+mod sorted_rows;
 mod unrolled;
 
-pub use coding::{add_texts, code, texts_of};
-pub use entries::Entries;
+pub use open_index::OpenIndex;
 pub use rollup_error::RollupError;
 pub use unrolled::unrolled_row;
