@@ -75,7 +75,7 @@ impl GrowingDict {
         requires { number < length self.now.texts }
         ensures { slice_get self.now.texts number ≡ Some result.now }
     {
-        self.texts.as_slice()[number as usize].as_str()
+        self.as_slice()[number as usize].as_str()
     }
 
     /// Adds a text where it is new, and answers its number. An error leaves the dictionary as it was. Refusals: 40

@@ -15,3 +15,6 @@ mod unrolled;
 pub use open_index::OpenIndex;
 pub use rollup_error::RollupError;
 pub use unrolled::unrolled_row;
+
+#[cfg(test)]
+mod tests;
