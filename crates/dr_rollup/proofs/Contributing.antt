@@ -1,0 +1,18 @@
+-- What an event adds, column by column.
+use Rattle.std.proofs.Common.{◌≡◌, ◌∙◌, sym, refl, ap, ℕ, zero, suc, ◌+◌, ◌<◌, ℤ, pos, List, [], ◌∷◌, length, drop, get_or, arith}
+use Rattle.std.proofs.lemmas.List.{get_or-drop}
+use Rattle.dr_agg.specs.declared.kind.Kind.{Kind}
+use Rattle.dr_rollup.specs.Unrolled.{contribution, contributions}
+
+pub length-contributions : (ks : List Kind) (inputs : List ℤ) → length (contributions ks inputs) ≡ length ks
+length-contributions [] inputs = refl
+length-contributions (k ∷ ks) inputs = ap suc (length-contributions ks _)
+
+one_more : (i : ℕ) → 1 + i ≡ suc i
+one_more i = omega arith
+
+pub contribution-at : (ks : List Kind) (inputs : List ℤ) (i : ℕ) (k : Kind) → i < length ks → get_or (contributions ks inputs) i (pos 0) ≡ contribution (get_or ks i k) (get_or inputs i (pos 0))
+contribution-at [] inputs i k lt = absurd (omega arith)
+contribution-at (k ∷ ks) inputs zero d lt = refl
+contribution-at (k ∷ ks) inputs (suc i) d lt =
+    contribution-at ks (drop 1 inputs) i d (omega arith) ∙ ap (contribution (get_or ks i d)) (get_or-drop 1 inputs i (pos 0) ∙ ap (λ n. get_or inputs n (pos 0)) (one_more i))

@@ -1,0 +1,190 @@
+-- Rows in the order of arrival, and their rollup.
+use Rattle.std.proofs.Common.{◌≡◌, ◌∙◌, sym, refl, ap, subst, ℕ, zero, suc, ◌+◌, ◌<◌, ◌≤◌, ◌&&◌, ◌||◌, not, ℤ, Bool, true, false, cond, List, [], ◌∷◌, ◌++◌, map, length, take, drop, get_or, arith, true≢false, if◌then◌else◌, append_assoc, filter}
+use Rattle.std.proofs.lemmas.List.{append-nil, map-append}
+use Rattle.std.specs.List.{list_any, AllByRecursion, IsDistinct}
+use Rattle.std.specs.List.Sorted.{IsPermutation, IsSortedBy, IsStableBy, ties}
+use Rattle.std.specs.declared.cmp.Ordering.{Ordering}
+use Rattle.std.specs.declared.cmp.Ordering.TheVariants.{Less, Equal, Greater}
+use Rattle.std.specs.Ordering.{ordering_reverse, is_lt, is_eq, eq_by_cmp, match_ordering}
+use Rattle.std.proofs.lemmas.List.Sorted.{sorted_far, ranks_by, IsPermutation-to_front, IsPermutation-cons, IsPermutation-append_right}
+use Rattle.dr_base.specs.declared.key.Key.{Key}
+use Rattle.dr_base.specs.declared.row.Row.{Row}
+use Rattle.dr_base.specs.Order.{key_cmp}
+use Rattle.dr_agg.specs.declared.kind.Kind.{Kind}
+use Rattle.dr_agg.specs.Combination.{combine_columns}
+use Rattle.dr_agg.specs.Rollup.{rows_at, combined, together, IsInOrder, IsRollup, joined, add_row, rollup_onto, rollup}
+use Rattle.dr_agg.proofs.KeyOrder.{key_cmp_total, same_key, itself, equal_back, less_back, greater_back}
+use Rattle.dr_agg.proofs.ColumnLaws.{combine_columns-assoc}
+use Rattle.dr_agg.proofs.RollupLaws.{rollup_onto_push, IsRollup-rollup, same_rollup, list_any-rollup}
+use Rattle.dr_agg.proofs.Rearranged.{rollup-IsPermutation}
+use Rattle.dr_rollup.specs.Coding.{same_keys}
+
+-- ---- a row that another of its key is combined into
+
+joined_twice : (kinds : List Kind) (rows : List Row) (x : Row) (m : List ℤ)
+    → add_row true kinds (add_row true kinds rows x) (record { key = x.key; metrics = m }) ≡ add_row true kinds rows (record { key = x.key; metrics = combine_columns kinds x.metrics m })
+unfolding add_row
+joined_twice kinds [] x m =
+    let r : Row = record { key = x.key; metrics = m } in
+    ap (λ o. match_ordering o (r ∷ x ∷ []) (joined kinds x r ∷ []) (x ∷ r ∷ [])) (itself x.key)
+joined_twice kinds (y ∷ ys) x m =
+    let r : Row = record { key = x.key; metrics = m } in
+    let j : Row = record { key = x.key; metrics = combine_columns kinds x.metrics m } in
+    elim (key_cmp x.key y.key) as (λ o. key_cmp x.key y.key ≡ o → add_row true kinds (match_ordering o (x ∷ y ∷ ys) (joined kinds y x ∷ ys) (y ∷ add_row true kinds ys x)) r ≡ match_ordering o (j ∷ y ∷ ys) (joined kinds y j ∷ ys) (y ∷ add_row true kinds ys j)) [
+      | Less ↦ λ t. ap (λ o. match_ordering o (r ∷ x ∷ y ∷ ys) (joined kinds x r ∷ y ∷ ys) (x ∷ add_row true kinds (y ∷ ys) r)) (itself x.key)
+      | Equal ↦ λ t.
+          ap (λ o. match_ordering o (r ∷ joined kinds y x ∷ ys) (joined kinds (joined kinds y x) r ∷ ys) (joined kinds y x ∷ add_row true kinds ys r)) t
+          ∙ (let e = combine_columns-assoc kinds y.metrics x.metrics m in λ i. record { key = y.key; metrics = e i } ∷ ys)
+      | Greater ↦ λ t.
+          ap (λ o. match_ordering o (r ∷ y ∷ add_row true kinds ys x) (joined kinds y r ∷ add_row true kinds ys x) (y ∷ add_row true kinds (add_row true kinds ys x) r)) t ∙ ap (λ l. y ∷ l) (joined_twice kinds ys x m)
+    ]
+    refl
+
+onto_append : (kinds : List Kind) (rows a b : List Row) → rollup_onto true kinds rows (a ++ b) ≡ rollup_onto true kinds (rollup_onto true kinds rows a) b
+unfolding rollup_onto
+onto_append kinds rows [] b = refl
+onto_append kinds rows (e ∷ a) b = onto_append kinds (add_row true kinds rows e) a b
+
+onto_joined : (kinds : List Kind) (rows : List Row) (x : Row) (m : List ℤ) (b : List Row)
+    → rollup_onto true kinds rows (x ∷ record { key = x.key; metrics = m } ∷ b) ≡ rollup_onto true kinds rows (record { key = x.key; metrics = combine_columns kinds x.metrics m } ∷ b)
+unfolding rollup_onto
+onto_joined kinds rows x m b = ap (λ l. rollup_onto true kinds l b) (joined_twice kinds rows x m)
+
+pub rollup-joined : (kinds : List Kind) (a : List Row) (x : Row) (b : List Row) (m : List ℤ)
+    → rollup true kinds (a ++ record { key = x.key; metrics = combine_columns kinds x.metrics m } ∷ b) ≡ add_row true kinds (rollup true kinds (a ++ x ∷ b)) (record { key = x.key; metrics = m })
+rollup-joined kinds a x b m =
+    let r : Row = record { key = x.key; metrics = m } in
+    let moved : IsPermutation (a ++ (x ∷ (b ++ r ∷ []))) (a ++ (x ∷ r ∷ b)) = IsPermutation-append_right a (x ∷ (b ++ r ∷ [])) (x ∷ r ∷ b) (IsPermutation-cons x (b ++ r ∷ []) (r ∷ b) (IsPermutation-to_front b r)) in
+    onto_append kinds [] a (record { key = x.key; metrics = combine_columns kinds x.metrics m } ∷ b)
+    ∙ sym (onto_joined kinds (rollup true kinds a) x m b)
+    ∙ sym (onto_append kinds [] a (x ∷ r ∷ b))
+    ∙ sym (rollup-IsPermutation kinds (a ++ (x ∷ (b ++ r ∷ []))) (a ++ (x ∷ r ∷ b)) moved)
+    ∙ ap (rollup true kinds) (sym (append_assoc a (x ∷ b) (r ∷ [])))
+    ∙ rollup_onto_push true kinds [] (a ++ x ∷ b) r
+
+-- ---- how many rows there are
+
+reversed : (o : Ordering) → is_eq (ordering_reverse o) ≡ is_eq o
+reversed Less = refl
+reversed Equal = refl
+reversed Greater = refl
+
+pub same_keys-comm : (a b : Key) → same_keys a b ≡ same_keys b a
+same_keys-comm a b = ap is_eq (key_cmp_total.antisymm a b) ∙ reversed (key_cmp b a)
+
+all_at : (P : Key → Type 0) (a : List Row) (e : Row) (b : List Row) → AllByRecursion P (map (λ x. x.key) (a ++ e ∷ b)) → P e.key
+all_at P [] e b all = all.0
+all_at P (x ∷ a) e b all = all_at P a e b all.1
+
+new_there : (a : List Row) (e : Row) (b : List Row) → IsDistinct same_keys (map (λ x. x.key) (a ++ e ∷ b)) → list_any (λ x. same_keys e.key x.key) a ≡ false
+unfolding IsDistinct
+new_there [] e b d = refl
+new_there (x ∷ a) e b d =
+    ap (λ t. t || list_any (λ y. same_keys e.key y.key) a) (same_keys-comm e.key x.key ∙ all_at (λ k. same_keys x.key k ≡ false) a e b d.0) ∙ new_there a e b d.1
+
+one_more_row : (combines : Bool) (kinds : List Kind) (rows : List Row) (r : Row) → (combines ≡ true → list_any (λ x. same_keys r.key x.key) rows ≡ false) → length (add_row combines kinds rows r) ≡ suc (length rows)
+unfolding add_row
+one_more_row combines kinds [] r new = refl
+one_more_row combines kinds (x ∷ xs) r new =
+    let behind : (combines ≡ true → list_any (λ y. same_keys r.key y.key) xs ≡ false) → length (x ∷ add_row combines kinds xs r) ≡ suc (suc (length xs)) = λ n. ap suc (one_more_row combines kinds xs r n) in
+    let rest : combines ≡ true → list_any (λ y. same_keys r.key y.key) xs ≡ false = λ c. second_not (same_keys r.key x.key) _ (new c) in
+    elim (key_cmp r.key x.key) as (λ o. key_cmp r.key x.key ≡ o → length (match_ordering o (r ∷ x ∷ xs) (if combines then joined kinds x r ∷ xs else (x ∷ add_row combines kinds xs r)) (x ∷ add_row combines kinds xs r)) ≡ suc (suc (length xs))) [
+      | Less ↦ λ t. refl
+      | Equal ↦ λ t. elim combines as (λ c. combines ≡ c → length (if c then joined kinds x r ∷ xs else (x ∷ add_row combines kinds xs r)) ≡ suc (suc (length xs))) [
+        | true ↦ λ c. absurd (true≢false (sym (ap is_eq t) ∙ first_not (same_keys r.key x.key) _ (new c)))
+        | false ↦ λ c. behind rest
+      ] refl
+      | Greater ↦ λ t. behind rest
+    ]
+    refl
+  where
+    first_not : (a b : Bool) → (a || b) ≡ false → a ≡ false
+    first_not true b h = h
+    first_not false b h = refl
+
+    second_not : (a b : Bool) → (a || b) ≡ false → b ≡ false
+    second_not true b h = absurd (true≢false h)
+    second_not false b h = h
+
+-- the rows are those of a, with one for each of b
+rows_more : (combines : Bool) (kinds : List Kind) (a b : List Row) → (combines ≡ true → IsDistinct same_keys (map (λ x. x.key) (a ++ b))) → length (rollup combines kinds (a ++ b)) ≡ length (rollup combines kinds a) + length b
+rows_more combines kinds a [] d = ap (λ l. length (rollup combines kinds l)) (append-nil a) ∙ omega arith
+rows_more combines kinds a (e ∷ b) d =
+    let split : a ++ e ∷ b ≡ (a ++ e ∷ []) ++ b = sym (append_assoc a (e ∷ []) b) in
+    let d' : combines ≡ true → IsDistinct same_keys (map (λ x. x.key) ((a ++ e ∷ []) ++ b)) = λ c. subst (λ l. IsDistinct same_keys (map (λ x. x.key) l)) split (d c) in
+    let new : combines ≡ true → list_any (λ x. same_keys e.key x.key) (rollup combines kinds a) ≡ false = λ c. list_any-rollup combines kinds (same_keys e.key) a ∙ new_there a e b (d c) in
+    ap (λ l. length (rollup combines kinds l)) split ∙ rows_more combines kinds (a ++ e ∷ []) b d'
+    ∙ ap (λ n. n + length b) (ap length (rollup_onto_push combines kinds [] a e) ∙ one_more_row combines kinds (rollup combines kinds a) e new) ∙ more (length (rollup combines kinds a)) (length b)
+  where
+    more : (m n : ℕ) → suc m + n ≡ m + suc n
+    more m n = omega arith
+
+no_rows : (combines : Bool) (kinds : List Kind) → rollup combines kinds [] ≡ []
+unfolding rollup_onto
+no_rows combines kinds = refl
+
+pub rows-counted : (combines : Bool) (kinds : List Kind) (es : List Row) → (combines ≡ true → IsDistinct same_keys (map (λ x. x.key) es)) → length (rollup combines kinds es) ≡ length es
+rows-counted combines kinds es d = rows_more combines kinds [] es d ∙ ap (λ l. length l + length es) (no_rows combines kinds) ∙ omega arith
+
+-- ---- rows that are sorted
+
+next : (k : ℕ) → suc k + 1 ≡ suc (k + 1)
+next k = omega arith
+
+before : Row → Row → Bool
+before a b = is_lt (key_cmp a.key b.key)
+
+all_from_places : (P : Row → Type 0) (xs : List Row) (d : Row) → ((k : ℕ) → k < length xs → P (get_or xs k d)) → AllByRecursion P xs
+all_from_places P [] d each = tt
+all_from_places P (x ∷ xs) d each = (each 0 (omega arith), all_from_places P xs d (λ k lt. each (suc k) (omega arith)))
+
+in_order : (xs : List Row) → IsSortedBy (λ a b. is_lt (key_cmp a.key b.key)) xs → IsInOrder xs
+in_order [] up = tt
+in_order (x ∷ xs) up = (
+    all_from_places (λ y. is_lt (key_cmp y.key x.key) ≡ false) xs x (λ k lt. sorted_far (λ a b. is_lt (key_cmp a.key b.key)) (ranks_by key_cmp_total (λ (r : Row). r.key)) (x ∷ xs) up 0 (suc k) x (omega arith) (omega arith)),
+    in_order xs (λ k d low lt. subst (λ n. is_lt (key_cmp (get_or (x ∷ xs) n d).key (get_or xs k d).key) ≡ false) (next k) (up (suc k) d (omega arith) (omega arith))),
+)
+
+tied : (q : Key) (r : Row) → ties (λ (a : Row) (b : Row). is_lt (key_cmp a.key b.key)) (record { key = q; metrics = [] }) r ≡ same_keys q r.key
+tied q r =
+    elim (key_cmp q r.key) as (λ o. key_cmp q r.key ≡ o → (not (is_lt o) && not (is_lt (key_cmp r.key q))) ≡ is_eq o) [
+      | Less ↦ λ t. refl
+      | Equal ↦ λ t. ap (λ o. not (is_lt o)) (equal_back q r.key t)
+      | Greater ↦ λ t. ap (λ o. not (is_lt o)) (greater_back q r.key t)
+    ]
+    refl
+
+alike : (p q : Row → Bool) → ((r : Row) → p r ≡ q r) → (rows : List Row) → filter p rows ≡ filter q rows
+alike p q e [] = refl
+alike p q e (r ∷ rows) = λ i. cond (e r i) (r ∷ alike p q e rows i) (alike p q e rows i)
+
+none_alike : (q : Key) (x : Row) (xs : List Row) → key_cmp q x.key ≡ Equal → AllByRecursion (λ k. same_keys x.key k ≡ false) (map (λ y. y.key) xs) → rows_at q xs ≡ []
+none_alike q x [] t all = refl
+none_alike q x (y ∷ xs) t all = ap (λ b. cond b (y ∷ rows_at q xs) (rows_at q xs)) (ap is_eq (key_cmp_total.congr q x.key y.key t) ∙ all.0) ∙ none_alike q x xs t all.1
+
+-- one row of a key stays as it is
+alone : (kinds : List Kind) (q : Key) (es : List Row) → IsDistinct same_keys (map (λ x. x.key) es) → together true kinds (rows_at q es) ≡ rows_at q es
+unfolding IsDistinct
+alone kinds q [] d = refl
+alone kinds q (x ∷ xs) d =
+    elim (key_cmp q x.key) as (λ o. key_cmp q x.key ≡ o → together true kinds (cond (is_eq o) (x ∷ rows_at q xs) (rows_at q xs)) ≡ cond (is_eq o) (x ∷ rows_at q xs) (rows_at q xs)) [
+      | Less ↦ λ t. alone kinds q xs d.1
+      | Equal ↦ λ t. rw (none_alike q x xs t d.0) refl
+      | Greater ↦ λ t. alone kinds q xs d.1
+    ]
+    refl
+
+alone_or_apart : (combines : Bool) (kinds : List Kind) (q : Key) (es : List Row) → (combines ≡ true → IsDistinct same_keys (map (λ x. x.key) es)) → together combines kinds (rows_at q es) ≡ rows_at q es
+alone_or_apart true kinds q es d = alone kinds q es (d refl)
+alone_or_apart false kinds q es d = refl
+
+pub sorted-rollup : (combines : Bool) (kinds : List Kind) (es rows : List Row) → (combines ≡ true → IsDistinct same_keys (map (λ x. x.key) es))
+    → IsSortedBy (λ a b. is_lt (key_cmp a.key b.key)) rows → IsStableBy (λ a b. is_lt (key_cmp a.key b.key)) es rows → rows ≡ rollup combines kinds es
+sorted-rollup combines kinds es rows d up stable =
+    let is : IsRollup combines kinds es rows = record {
+      ordered = in_order rows up;
+      each = λ q.
+      let p : Row → Bool = ties (λ (a : Row) (b : Row). is_lt (key_cmp a.key b.key)) (record { key = q; metrics = [] }) in
+      sym (alike p (λ r. same_keys q r.key) (tied q) rows) ∙ stable (record { key = q; metrics = [] }) ∙ alike p (λ r. same_keys q r.key) (tied q) es ∙ sym (alone_or_apart combines kinds q es d);
+    } in
+    same_rollup combines kinds es rows (rollup combines kinds es) is (IsRollup-rollup combines kinds es)

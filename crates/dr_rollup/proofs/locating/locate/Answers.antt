@@ -1,0 +1,10 @@
+use Rattle.std.proofs.Common.{◌≡◌, ◌∙◌, rules, FitsSigned, w64, to_z, of_z}
+use Rattle.std.proofs.lemmas.Int.{to_z-of_z}
+use Rattle.dr_rollup.proofs.locating.locate.Goals as goal
+
+pub returns-clause-none : goal.returns-clause-none
+returns-clause-none c =
+    let fits : FitsSigned w64 c.truncate-coded.result = search rules in
+    let own : FitsSigned w64 c.args.event.now.time = search rules in
+    let time = simp to_z-of_z at c.truncate-coded.ensures.value in
+    rw (← time, ← c.as_slice.ensures) (rw (to_z-of_z w64 c.truncate-coded.result fits) at c.find_key.ensures.none)

@@ -1,0 +1,5 @@
+pub mod Refusal
+pub mod Unrolled
+pub mod OpenRows
+pub mod Coding
+pub mod Sound
