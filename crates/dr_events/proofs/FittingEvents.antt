@@ -20,6 +20,7 @@ use Rattle.dr_events.specs.EventOf.{object_of, dims_of, inputs_of, event_of}
 use Rattle.dr_events.specs.Fits.{FitsSchema}
 use Rattle.dr_events.proofs.EachColumn.{length-each_from, All-each_from}
 use Rattle.dr_events.proofs.WholeInputs.{FitsSigned-metric_input}
+use Rattle.dr_events.proofs.EventTimes.{inside}
 use Rattle.std.specs.Prelude.{All, FitsSigned}
 use Rattle.std.specs.Int.{w64}
 use Rattle.std.proofs.lemmas.List.Elements.{All-nil}
@@ -40,9 +41,6 @@ length-inputs_of metrics d inputs h = let e = length-each_from (metric_input d) 
 All-inputs_of : (metrics : List Metric) (d : Data) (inputs : List ℤ) → inputs_of metrics d ≡ Ok inputs → All (FitsSigned w64) inputs
 unfolding inputs_of
 All-inputs_of metrics d inputs h = All-each_from (metric_input d) BadMetric (FitsSigned w64) (λ m x e. FitsSigned-metric_input d m x e) [] metrics inputs (All-nil (FitsSigned w64)) h
-
-inside : (z : ℤ) → (int_le first_instant z && int_le z last_instant) ≡ true → IsInstant z
-inside z e = (grind (arith, ints), grind (arith, ints))
 
 IsInstant-in_years : (z t : ℤ) → in_years z ≡ Some t → IsInstant t
 IsInstant-in_years z t h =

@@ -1,4 +1,5 @@
 pub mod EachColumn
 pub mod SignedTexts
 pub mod WholeInputs
+pub mod EventTimes
 pub mod FittingEvents

@@ -1,5 +1,6 @@
 pub mod Refusal
 pub mod Columns
+pub mod WholeNumber
 pub mod EventTime
 pub mod DimensionValue
 pub mod MetricInput

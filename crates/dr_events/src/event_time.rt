@@ -1,10 +1,14 @@
-ghost use Rattle.std.specs.Prelude.{◌≡◌, ◌&&◌, int_le, option_map};
+ghost use Rattle.std.specs.Prelude.{◌≡◌, ◌&&◌, int_le, option_map, option_and_then};
 ghost use Rattle.serde_json.specs.View.{view};
+ghost use Rattle.std.specs.List.{list_all};
+ghost use Rattle.std.specs.Char.{is_ascii_digit};
 ghost use Rattle.dr_events.specs.Refusal.{Gives};
 ghost use Rattle.dr_time.specs.Instant.{first_instant, last_instant};
-ghost use Rattle.dr_events.specs.EventTime.{time_of, event_time};
+ghost use Rattle.dr_events.specs.WholeNumber.{in_64_bits};
+ghost use Rattle.dr_events.specs.EventTime.{whole_time, auto_time, behind_minus, are_1_to_19_digits, of_seconds, in_years, time_of, event_time};
 
 use crate::unparseable::Unparseable;
+use crate::numbers::{plain_number, whole_number};
 use dr_spec::TimeFormat;
 use dr_time::parse_instant;
 use serde_json::Value;
@@ -24,22 +28,84 @@ pub fn event_time(format: TimeFormat, value: Option<&Value>) -> Result<i64, Unpa
         return Err(Unparseable::NoTimestamp);
     };
     match time_of(format, value) {
-        Some(time) if in_years(time) => Ok(time),
+        Some(time) if is_in_years(time) => Ok(time),
         _ => Err(Unparseable::BadTimestamp),
     }
 }
 
-fn in_years(time: i64) -> bool
+fn is_in_years(time: i64) -> bool
     ensures { result ≡ (int_le first_instant time && int_le time last_instant) }
 {
     FIRST_TIME <= time && time <= LAST_TIME
 }
 
+// A number beyond 64 bits lies outside the years too.
 fn time_of(format: TimeFormat, value: &Value) -> Option<i64>
-    ensures { result ≡ time_of format (view value.now) }
+    ensures { option_and_then in_years result ≡ option_and_then in_years (time_of format (view value.now)) }
 {
-    match (format, value) {
-        (TimeFormat::Iso, Value::String(text)) => parse_instant(text.as_str()).ok(),
+    match format {
+        TimeFormat::Iso => match value {
+            Value::String(text) => parse_instant(text.as_str()).ok(),
+            _ => None,
+        },
+        TimeFormat::Millis => whole_time(value),
+        TimeFormat::Posix => posix_time(value),
+        TimeFormat::Auto => auto_time(value),
+    }
+}
+
+fn posix_time(value: &Value) -> Option<i64>
+    ensures { option_and_then in_years result ≡ option_and_then in_years (option_map of_seconds (whole_time (view value.now))) }
+{
+    match whole_time(value) {
+        Some(seconds) => seconds.checked_mul(1000),
+        None => None,
+    }
+}
+
+fn whole_time(value: &Value) -> Option<i64>
+    ensures { result ≡ option_and_then in_64_bits (whole_time (view value.now)) }
+{
+    match value {
+        Value::Number(number) => whole_number(number),
+        Value::String(text) => plain_number(text.as_str()),
         _ => None,
     }
+}
+
+fn auto_time(value: &Value) -> Option<i64>
+    ensures { option_and_then in_years result ≡ option_and_then in_years (auto_time (view value.now)) }
+{
+    match value {
+        Value::Number(number) => whole_number(number),
+        Value::String(text) => {
+            if are_1_to_19_digits(behind_minus(text.as_bytes())) {
+                plain_number(text.as_str())
+            } else {
+                parse_instant(text.as_str()).ok()
+            }
+        }
+        _ => None,
+    }
+}
+
+fn behind_minus(text: &[u8]) -> &[u8]
+    ensures { result.now ≡ behind_minus text.now }
+{
+    match text {
+        [b'-', rest @ ..] => rest,
+        _ => text,
+    }
+}
+
+fn are_1_to_19_digits(text: &[u8]) -> bool
+    ensures { result ≡ are_1_to_19_digits text.now }
+{
+    1 <= text.len() && text.len() <= 19 && are_digits(text)
+}
+
+fn are_digits(text: &[u8]) -> bool
+    ensures { result ≡ list_all is_ascii_digit text.now }
+{
+    text.iter().all(|byte| byte.is_ascii_digit())
 }

@@ -5,6 +5,7 @@
 mod dimension;
 mod event_time;
 mod metric;
+mod numbers;
 mod reading;
 mod unparseable;
 

@@ -1,11 +1,11 @@
-ghost use Rattle.std.specs.Prelude.{◌≡◌, option_map, option_and_then};
-ghost use Rattle.serde_json.specs.View.{view, number_view};
-ghost use Rattle.serde_json.specs.Find.{as_integer};
-ghost use Rattle.dr_events.specs.MetricInput.{in_64_bits, text_input, number_input, metric_input};
+ghost use Rattle.std.specs.Prelude.{◌≡◌, option_map};
+ghost use Rattle.serde_json.specs.View.{view};
+ghost use Rattle.dr_events.specs.MetricInput.{text_input, number_input, metric_input};
 
+use crate::numbers::{signed_number, whole_number};
 use dr_agg::Kind;
 use dr_spec::Metric;
-use serde_json::{Number, Value};
+use serde_json::Value;
 
 /// The input of a metric: 1 for a count, and for every other the number that its field stands for; none where that is bad.
 pub fn metric_input(metric: &Metric, event: &Value) -> Option<i64>
@@ -25,16 +25,10 @@ fn number_input(value: Option<&Value>) -> Option<i64>
 {
     match value {
         None | Some(Value::Null) => Some(0),
-        Some(Value::Number(number)) => whole_input(number),
+        Some(Value::Number(number)) => whole_number(number),
         Some(Value::String(text)) => text_input(text.as_str()),
         Some(Value::Bool(_) | Value::Array(_) | Value::Object(_)) => None,
     }
-}
-
-fn whole_input(number: &Number) -> Option<i64>
-    ensures { result ≡ option_and_then in_64_bits (as_integer (number_view number.now)) }
-{
-    number.as_i64()
 }
 
 fn text_input(text: &str) -> Option<i64>
@@ -43,5 +37,5 @@ fn text_input(text: &str) -> Option<i64>
     if text.is_empty() {
         return Some(0);
     }
-    text.parse().ok()
+    signed_number(text)
 }

@@ -7,6 +7,103 @@ use std::test::Fail;
 const SPEC: &str =
     r#"{"dataSchema":{"dataSource":"w","timestampSpec":{"column":"t","format":"iso"},"dimensionsSpec":{"dimensions":["page","lang"]},"metricsSpec":[{"type":"count","name":"n"},{"type":"longSum","name":"added","fieldName":"a"},{"type":"longMin","name":"lo","fieldName":"a"},{"type":"longMax","name":"hi","fieldName":"a"}],"granularitySpec":{"segmentGranularity":"day","queryGranularity":"none"}}}"#;
 
+// What each value of the time column is read as: milliseconds, `bad` (32), or `none` (31).
+const MILLIS: &str = r#"1704067200000 => 1704067200000
+"1704067200000" => 1704067200000
+-1 => -1
+"-1" => -1
+"-0" => 0
+0 => 0
+"007" => 7
+"00000000000000000000000000000000000000009" => 9
+-62135596800000 => -62135596800000
+-62135596800001 => bad
+253402300799999 => 253402300799999
+253402300800000 => bad
+"253402300799999" => 253402300799999
+"253402300800000" => bad
+"-62135596800000" => -62135596800000
+"-62135596800001" => bad
+9223372036854775807 => bad
+9223372036854775808 => bad
+18446744073709551615 => bad
+18446744073709551616 => bad
+-9223372036854775808 => bad
+"-9223372036854775808" => bad
+"9223372036854775808" => bad
+"-9223372036854775809" => bad
+"18446744073709551616" => bad
+"+7" => bad
+"" => bad
+"-" => bad
+"--1" => bad
+" 1" => bad
+"1 " => bad
+"1.0" => bad
+1.0 => bad
+1e3 => bad
+-0 => bad
+true => bad
+[] => bad
+{} => bad
+"2024-01-01" => bad"#;
+
+const POSIX: &str = r#"1704067200 => 1704067200000
+"1704067200" => 1704067200000
+-1 => -1000
+"-1" => -1000
+"-0" => 0
+-62135596800 => -62135596800000
+-62135596801 => bad
+253402300799 => 253402300799000
+253402300800 => bad
+"-62135596800" => -62135596800000
+"-62135596801" => bad
+9223372036854775 => bad
+9223372036854776 => bad
+9223372036854775807 => bad
+18446744073709551615 => bad
+"18446744073709552" => bad
+"18446744073709551616" => bad
+-9223372036854775808 => bad
+"-9223372036854775808" => bad
+-18446744073709551 => bad
+"+7" => bad
+"" => bad
+1.0 => bad
+1e3 => bad
+-0 => bad
+"2024-01-01" => bad
+null => none"#;
+
+const AUTO: &str = r#"1704067200000 => 1704067200000
+0 => 0
+-1 => -1
+"2024" => 2024
+"-5" => -5
+"-0" => 0
+"0" => 0
+"2024-01-01" => 1704067200000
+"2024-01-01T00:00:00Z" => 1704067200000
+"0000000000000000001" => 1
+"00000000000000000001" => bad
+"-0000000000000000001" => -1
+"-00000000000000000001" => bad
+"9223372036854775807" => bad
+"9999999999999999999" => bad
+"253402300799999" => 253402300799999
+"253402300800000" => bad
+"+7" => bad
+"" => bad
+"-" => bad
+"20240101x" => bad
+1.0 => bad
+1e3 => bad
+-0 => bad
+18446744073709551615 => bad
+false => bad
+null => none"#;
+
 // The time, the dimensions and the inputs of an event.
 fn event_text(alloc: Global, event: &Event) -> Result<String, Fail> {
     let mut text = format!(in alloc; "{}", event.time)?;
@@ -67,6 +164,26 @@ fn refuses_what_is_no_event(rt: HostRuntime) -> Result<(), Fail> {
             "34 BadMetric 1",
         ),
         (r#"{"t":"2024-01-01","a":"1.0"}"#, "34 BadMetric 1"),
+        (
+            r#"{"t":"2024-01-01","a":"-9223372036854775809"}"#,
+            "34 BadMetric 1",
+        ),
+        (
+            r#"{"t":"2024-01-01","a":18446744073709551616}"#,
+            "34 BadMetric 1",
+        ),
+        (
+            r#"{"t":"2024-01-01","lang":18446744073709551616}"#,
+            "33 BadDimension 1",
+        ),
+        (
+            r#"{"t":"2024-01-01","page":-9223372036854775809}"#,
+            "33 BadDimension 0",
+        ),
+        (r#"{"t":"2024-01-01","x":1e400}"#, "30 NotAnObject"),
+        (r#"{"t":[],"t":"2024-01-01","t":null}"#, "31 NoTimestamp"),
+        (r#"{"t":"2024-01-01","a":1e3}"#, "34 BadMetric 1"),
+        (r#"{"t":"2024-01-01","a":"+"}"#, "34 BadMetric 1"),
         (r#"{"t":"2024-01-01","a":"-"}"#, "34 BadMetric 1"),
         (r#"{"t":"2024-01-01","a":" 1"}"#, "34 BadMetric 1"),
     ];
@@ -138,5 +255,50 @@ fn marks_the_event_with_the_seat(rt: HostRuntime) -> Result<(), Fail> {
     let spec = IngestSpec::parse(alloc, SPEC.as_bytes())?;
     let event = read_event(alloc, &spec, 255, br#"{"t":"2024-01-01"}"#)?;
     assert_eq!(rt; event.seat, 255);
+    Ok(())
+}
+
+#[test]
+fn reads_times_in_each_format(rt: HostRuntime) -> Result<(), Fail> {
+    let alloc = rt.alloc();
+    for (format, rows) in [("millis", MILLIS), ("posix", POSIX), ("auto", AUTO)] {
+        let text = format!(in alloc;
+            r#"{{"dataSchema":{{"dataSource":"w","timestampSpec":{{"format":"{format}"}},"dimensionsSpec":{{"dimensions":["page"]}}}}}}"#
+        )?;
+        let spec = IngestSpec::parse(alloc, text.as_bytes())?;
+        for row in rows.lines() {
+            let Some((value, wanted)) = row.split_once(" => ") else {
+                panic!(rt; "{row}");
+            };
+            let line = format!(in alloc; r#"{{"timestamp":{value}}}"#)?;
+            let text = match read_event(alloc, &spec, 0, line.as_bytes()) {
+                Ok(event) => event.time.to_string(alloc)?,
+                Err(Unparseable::BadTimestamp) => String::from_str(alloc, "bad")?,
+                Err(Unparseable::NoTimestamp) => String::from_str(alloc, "none")?,
+                Err(refusal) => refusal_text(alloc, &refusal)?,
+            };
+            assert_eq!(rt; text.as_str(), wanted, "{format} {value}");
+        }
+    }
+    Ok(())
+}
+
+#[test]
+fn nests_127_deep(rt: HostRuntime) -> Result<(), Fail> {
+    let alloc = rt.alloc();
+    // The event itself counts.
+    for (lists, wanted) in [
+        (126, r#"1704067200000 "" "" 1 0 0 0"#),
+        (127, "30 NotAnObject"),
+    ] {
+        let mut line = String::from_str(alloc, r#"{"t":"2024-01-01","x":"#)?;
+        for bracket in ["[", "]"] {
+            for _ in 0..lists {
+                line.push_str(bracket)?;
+            }
+        }
+        line.push_str("}")?;
+        assert_eq!(rt; read_text(alloc, line.as_str())?.as_str(), wanted);
+    }
     Ok(())
 }

@@ -2,7 +2,7 @@ use Rattle.std.proofs.Common.{rules, FitsSigned, w64}
 use Rattle.std.specs.Prelude.{IfSome}
 use Rattle.serde_json.specs.View.{number_view}
 use Rattle.dr_events.proofs.WholeInputs.{whole_input_is}
-use Rattle.dr_events.proofs.metric.whole_input.Goals as goal
+use Rattle.dr_events.proofs.numbers.whole_number.Goals as goal
 
 pub returns : goal.returns
 returns c =
