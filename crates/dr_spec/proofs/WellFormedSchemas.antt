@@ -1,13 +1,13 @@
 -- What is read is well formed.
-use Rattle.std.proofs.Common.{◌≡◌, ◌≢◌, ℕ, ◌+◌, ◌<◌, ◌≤◌, List, [], ◌∷◌, ◌++◌, length, map, get_or, append_assoc, append-nil, Bool, true, false, ◌||◌, cond, bytes_eq, codes, not, nat_lt, nat_le, ◌==◌, ◌&&◌, ℤ, pos, negsuc, Result, Ok, Err, Option, Some, None, is_none, refl, sym, ap, subst, ◌∙◌, arith}
-use Rattle.std.specs.List.{All, AllPairs, list_any}
+use Rattle.std.proofs.Common.{◌≡◌, ◌≢◌, ℕ, ◌<◌, ◌≤◌, List, [], ◌∷◌, ◌++◌, length, get_or, append_assoc, append-nil, Bool, true, false, ◌||◌, cond, bytes_eq, codes, not, nat_lt, nat_le, ◌==◌, ◌&&◌, ℤ, pos, negsuc, Result, Ok, Err, Option, Some, None, is_none, refl, sym, subst, arith}
+use Rattle.std.specs.List.{All, list_any}
 use Rattle.std.specs.Cmp.Lexicographic.{bytes_decides}
 use Rattle.std.proofs.lemmas.List.Folds.{list_any_at}
 use Rattle.std.proofs.lemmas.List.Elements.{All-nil, All-push}
 use Rattle.std.proofs.lemmas.List.Quantifiers.{all_pairs_push}
 use Rattle.std.proofs.lemmas.Bool.Decides.{nat_tests}
 use Rattle.serde_json.specs.Data.{Data, Items, no_items, item}
-use Rattle.dr_base.specs.Reading.{◌>>=◌, passed}
+use Rattle.dr_base.specs.Reading.{passed}
 use Rattle.dr_base.specs.declared.base_error.BaseError.TheVariants.{WrongKind}
 use Rattle.dr_base.specs.Fields.{field, as_list, as_int, as_object, text_field}
 use Rattle.dr_base.specs.Json.{json_of}

@@ -101,8 +101,7 @@ const FAULTS: &str = r#""timestampSpec":[] => refused 3 WrongKind "timestampSpec
 "a":null},"tuningConfig":{"maxRowsInMemory":1.0 => refused 3 WrongKind "maxRowsInMemory"
 "a":null},"tuningConfig":{"maxRetained":-1 => refused 3 WrongKind "maxRetained""#;
 
-const TWO_FAULTS: &str =
-    r#""dataSource":"","timestampSpec":7 => refused 3 WrongKind "dataSource"
+const TWO_FAULTS: &str = r#""dataSource":"","timestampSpec":7 => refused 3 WrongKind "dataSource"
 "timestampSpec":{"format":"nano"},"dimensionsSpec":{} => refused 26 Unsupported "nano"
 "dimensionsSpec":{},"metricsSpec":7 => refused 25 NoDimensions
 "metricsSpec":7,"granularitySpec":7 => refused 3 WrongKind "metricsSpec"
