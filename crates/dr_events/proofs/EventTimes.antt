@@ -9,7 +9,7 @@ use Rattle.dr_events.specs.EventTime.{in_years, of_seconds}
 use Rattle.dr_events.proofs.WholeInputs.{FitsSigned-in_64_bits}
 
 -- what is kept is the number itself
-same-in_64_bits : (z t : ℤ) → in_64_bits z ≡ Some t → z ≡ t
+pub same-in_64_bits : (z t : ℤ) → in_64_bits z ≡ Some t → z ≡ t
 same-in_64_bits (pos n) t h = elim (nat_lt n (2 ^ 63)) as (λ b. (if b then Some (pos n) else None) ≡ Some t → pos n ≡ t) [ true ↦ λ k. cc | false ↦ λ k. cc ] h
 same-in_64_bits (negsuc n) t h = elim (nat_lt n (2 ^ 63)) as (λ b. (if b then Some (negsuc n) else None) ≡ Some t → negsuc n ≡ t) [ true ↦ λ k. cc | false ↦ λ k. cc ] h
 

@@ -8,7 +8,7 @@ use Rattle.std.proofs.lemmas.Str.Parse.{IsNumeralModel, numerals_by_fold, tells_
 use borrow.Author.Tests.{eqb-true, eqb-false, ltb-true, lt-ltb}
 use Rattle.dr_events.specs.WholeNumber.{in_64_bits, spelled_behind, digits_number, signed_number}
 
-own : IsNumeralModel (λ ds. all_ascii_digits ds ≡ true) (spelled_behind 0)
+pub own : IsNumeralModel (λ ds. all_ascii_digits ds ≡ true) (spelled_behind 0)
 own = numerals_by_fold (λ ds. all_ascii_digits ds ≡ true) tells_all_ascii_digits spelled_behind (search rules)
 
 -- digits behind no sign or a plus

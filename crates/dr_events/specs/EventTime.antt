@@ -40,12 +40,16 @@ behind_minus (c ∷ cs) = if c == minus then cs else c ∷ cs
 abbrev pub are_1_to_19_digits : List ℕ → Bool
 are_1_to_19_digits s = nat_le 1 (length s) && (nat_le (length s) 19 && list_all is_ascii_digit s)
 
--- a whole number, or a text of an optional `-` and 1 to 19 digits; any other text is one of ISO 8601
+-- a text of an optional `-` and 1 to 19 digits is that number, and any other text one of ISO 8601
+abbrev pub auto_text : List ℕ → Option ℤ
+auto_text s = if are_1_to_19_digits (behind_minus s) then plain_number s else result_ok (instant_of s)
+
+-- a whole number, or a text
 abbrev pub auto_time : Data → Option ℤ
 auto_time null = None
 auto_time (boolean b) = None
 auto_time (number n) = as_integer n
-auto_time (string s) = if are_1_to_19_digits (behind_minus s) then plain_number s else result_ok (instant_of s)
+auto_time (string s) = auto_text s
 auto_time (array ds) = None
 auto_time (object ms) = None
 

@@ -133,6 +133,14 @@ fn read_text(alloc: Global, line: &str) -> Result<String, Fail> {
     }
 }
 
+// The line with a list as one more member, which is then read as a whole value.
+fn with_a_list(alloc: Global, line: &str) -> Result<String, Fail> {
+    match line.strip_suffix('}') {
+        Some(start) => Ok(format!(in alloc; r#"{start},"a list":[]}}"#)?),
+        None => Ok(String::from_str(alloc, line)?),
+    }
+}
+
 #[test]
 fn refuses_what_is_no_event(rt: HostRuntime) -> Result<(), Fail> {
     let rows = [
@@ -190,6 +198,9 @@ fn refuses_what_is_no_event(rt: HostRuntime) -> Result<(), Fail> {
     for (line, wanted) in &rows {
         let text = read_text(rt.alloc(), line)?;
         assert_eq!(rt; text.as_str(), *wanted, "{line}");
+        let longer = with_a_list(rt.alloc(), line)?;
+        let text = read_text(rt.alloc(), longer.as_str())?;
+        assert_eq!(rt; text.as_str(), *wanted, "{longer}");
     }
     Ok(())
 }
@@ -245,6 +256,9 @@ fn reads_events(rt: HostRuntime) -> Result<(), Fail> {
     for (line, wanted) in &rows {
         let text = read_text(rt.alloc(), line)?;
         assert_eq!(rt; text.as_str(), *wanted, "{line}");
+        let longer = with_a_list(rt.alloc(), line)?;
+        let text = read_text(rt.alloc(), longer.as_str())?;
+        assert_eq!(rt; text.as_str(), *wanted, "{longer}");
     }
     Ok(())
 }
@@ -255,7 +269,27 @@ fn marks_the_event_with_the_seat(rt: HostRuntime) -> Result<(), Fail> {
     let spec = IngestSpec::parse(alloc, SPEC.as_bytes())?;
     let event = read_event(alloc, &spec, 255, br#"{"t":"2024-01-01"}"#)?;
     assert_eq!(rt; event.seat, 255);
+    // A reader may be kept, and takes lines of both forms in turn.
+    let mut reader = EventReader::new(alloc);
+    for line in [
+        r#"{"t":"2024-01-01","lang":"\u00e9"}"#,
+        r#"{"t":"2024-01-01","lang":"\u00e9","x":[]}"#,
+    ] {
+        let event = reader.read(alloc, &spec, 7, line.as_bytes())?;
+        assert_eq!(rt; event.seat, 7);
+        assert_eq!(rt; event.dims.as_slice()[1].as_str(), "é");
+        assert!(rt; reader.read(alloc, &spec, 7, b"[1]").is_err());
+    }
     Ok(())
+}
+
+fn time_text(alloc: Global, spec: &IngestSpec, line: &str) -> Result<String, Fail> {
+    match read_event(alloc, spec, 0, line.as_bytes()) {
+        Ok(event) => Ok(event.time.to_string(alloc)?),
+        Err(Unparseable::BadTimestamp) => Ok(String::from_str(alloc, "bad")?),
+        Err(Unparseable::NoTimestamp) => Ok(String::from_str(alloc, "none")?),
+        Err(refusal) => refusal_text(alloc, &refusal),
+    }
 }
 
 #[test]
@@ -271,12 +305,10 @@ fn reads_times_in_each_format(rt: HostRuntime) -> Result<(), Fail> {
                 panic!(rt; "{row}");
             };
             let line = format!(in alloc; r#"{{"timestamp":{value}}}"#)?;
-            let text = match read_event(alloc, &spec, 0, line.as_bytes()) {
-                Ok(event) => event.time.to_string(alloc)?,
-                Err(Unparseable::BadTimestamp) => String::from_str(alloc, "bad")?,
-                Err(Unparseable::NoTimestamp) => String::from_str(alloc, "none")?,
-                Err(refusal) => refusal_text(alloc, &refusal)?,
-            };
+            let text = time_text(alloc, &spec, line.as_str())?;
+            assert_eq!(rt; text.as_str(), wanted, "{format} {value}");
+            let longer = with_a_list(alloc, line.as_str())?;
+            let text = time_text(alloc, &spec, longer.as_str())?;
             assert_eq!(rt; text.as_str(), wanted, "{format} {value}");
         }
     }
