@@ -1,12 +1,11 @@
 -- Whole numbers as times: what lies beyond 64 bits lies outside the years of events.
-use Rattle.std.proofs.Common.{◌≡◌, ◌∙◌, sym, refl, ap, subst, ℕ, ◌≤◌, ◌<◌, ◌^◌, true, false, ℤ, pos, negsuc, ◌*ℤ◌, Option, Some, None, arith, FitsSigned, w64}
+use Rattle.std.proofs.Common.{◌≡◌, sym, refl, ap, ◌^◌, true, false, ℤ, pos, negsuc, ◌*ℤ◌, Option, Some, None, arith, FitsSigned, w64}
 use Rattle.std.specs.Prelude.{nat_lt, ◌&&◌, int_le, SomeIff, option_map, option_and_then, if◌then◌else◌}
 use Rattle.std.proofs.lemmas.Int.{ints}
-use borrow.Author.Tests.{ltb-true, ltb-false}
+use borrow.Author.Tests.{ltb-false}
 use Rattle.dr_time.specs.Instant.{IsInstant, first_instant, last_instant}
 use Rattle.dr_events.specs.WholeNumber.{in_64_bits}
 use Rattle.dr_events.specs.EventTime.{in_years, of_seconds}
-use Rattle.dr_events.proofs.WholeInputs.{FitsSigned-in_64_bits}
 
 -- what is kept is the number itself
 pub same-in_64_bits : (z t : ℤ) → in_64_bits z ≡ Some t → z ≡ t

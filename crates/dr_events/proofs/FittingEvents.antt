@@ -1,7 +1,6 @@
 -- What is read fits the schema.
 use Rattle.std.proofs.Common.{◌≡◌, ◌∙◌, sym, refl, ap, subst, ℕ, true, false, List, [], length, ℤ, Option, Some, None, Result, Ok, Err, arith}
 use Rattle.std.specs.Prelude.{◌&&◌, int_le, if◌then◌else◌, option_and_then}
-use Rattle.std.proofs.lemmas.Int.{ints}
 use Rattle.serde_json.specs.Data.{Data}
 use Rattle.serde_json.specs.Find.{get}
 use Rattle.dr_base.specs.declared.event.Event.{Event}

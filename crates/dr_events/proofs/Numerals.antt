@@ -1,5 +1,5 @@
 -- Numerals of JSON that are whole: digits behind an optional minus.
-use Rattle.std.proofs.Common.{◌≡◌, ◌∙◌, sym, refl, ap, subst, ℕ, zero, suc, ◌+◌, ◌<◌, ◌≤◌, ◌^◌, List, [], ◌∷◌, ◌++◌, length, get_or, append-nil, Bool, true, false, ℤ, pos, negsuc, neg_ℤ, Option, Some, None, FitsSigned, w64, arith, lt-ltb, le-leb, ne_eqb}
+use Rattle.std.proofs.Common.{◌≡◌, ◌∙◌, sym, refl, ap, subst, ℕ, zero, suc, ◌<◌, ◌≤◌, ◌^◌, List, [], ◌∷◌, ◌++◌, length, get_or, append-nil, Bool, true, false, ℤ, pos, negsuc, neg_ℤ, Option, Some, None, FitsSigned, w64, arith, lt-ltb, le-leb, ne_eqb}
 use Rattle.std.specs.Prelude.{◌==◌, option_map, option_and_then, if◌then◌else◌}
 use Rattle.std.specs.Char.{digit_value}
 use Rattle.std.specs.Fmt.{sign_text}

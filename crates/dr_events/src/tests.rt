@@ -277,7 +277,8 @@ fn marks_the_event_with_the_seat(rt: HostRuntime) -> Result<(), Fail> {
     ] {
         let event = reader.read(alloc, &spec, 7, line.as_bytes())?;
         assert_eq!(rt; event.seat, 7);
-        assert_eq!(rt; event.dims.as_slice()[1].as_str(), "é");
+        let text = event_text(alloc, &event)?;
+        assert_eq!(rt; text.as_str(), r#"1704067200000 "" "é" 1 0 0 0"#);
         assert!(rt; reader.read(alloc, &spec, 7, b"[1]").is_err());
     }
     Ok(())

@@ -1,4 +1,4 @@
-use Rattle.std.proofs.Common.{◌≡◌, ◌≢◌, ◌∙◌, sym, ◌-◌, ◌+◌, ◌<◌, [], length, get_or, false, true, bytes_eq, arith}
+use Rattle.std.proofs.Common.{◌≡◌, ◌≢◌, ◌∙◌, sym, ◌-◌, [], get_or, true, bytes_eq, arith}
 use Rattle.std.specs.Cmp.Lexicographic.{bytes_decides}
 use Rattle.serde_json.specs.Data.{no_members}
 use Rattle.dr_events.specs.declared.scalar.Scalar.TheVariants.{Null}

@@ -1,5 +1,5 @@
 use Rattle.std.proofs.Common.{◌≡◌, ◌∙◌, sym, ap, ◌≤◌, length, pos, Some, FitsSigned, w64, of_z, to_z, arith, rules}
-use Rattle.std.proofs.lemmas.Int.{ints, to_z-of_z}
+use Rattle.std.proofs.lemmas.Int.{to_z-of_z}
 use Rattle.dr_events.proofs.Numerals.{numeral_is}
 use Rattle.dr_events.proofs.flat_reading.whole.Goals as goal
 
