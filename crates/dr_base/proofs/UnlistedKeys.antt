@@ -1,5 +1,5 @@
 -- Keys one after the other, as a loop goes over them.
-use Rattle.std.proofs.Common.{◌≡◌, ◌∙◌, sym, refl, ap, ℕ, suc, Bool, true, false, List, [], ◌∷◌, length, map, Some, None, ◌||◌, eqb, bytes_eq, arith}
+use Rattle.std.proofs.Common.{◌≡◌, refl, ap, ℕ, suc, Bool, true, false, List, [], ◌∷◌, length, map, Some, None, ◌||◌, eqb, bytes_eq, arith}
 use Rattle.std.specs.Prelude.{String, string_bytes, IsTrue, ◌↔◌}
 use Rattle.std.proofs.Math.Dec.{eqb-suc-zero}
 use Rattle.std.specs.List.{list_any}

@@ -1,6 +1,6 @@
 -- Fields of JSON values. A field that holds null counts as absent.
 use Rattle.std.specs.Prelude.{◌≡◌, ℕ, ℤ, Bool, false, List, Option, Some, None, Result, Ok, Err}
-use Rattle.serde_json.specs.Data.{Num, Data, null, boolean, number, string, array, object, Items, Members}
+use Rattle.serde_json.specs.Data.{Data, null, boolean, number, string, array, object, Items, Members}
 use Rattle.serde_json.specs.Find.{get, as_i64}
 use Rattle.dr_base.specs.declared.base_error.BaseError.{BaseError}
 use Rattle.dr_base.specs.declared.base_error.BaseError.TheVariants.{Missing, WrongKind}
@@ -87,6 +87,9 @@ text_field name d = required name (field name d) >>= as_text name
 
 abbrev pub int_field : List ℕ → Data → Result ℤ BaseError
 int_field name d = required name (field name d) >>= as_int name
+
+abbrev pub bool_field : List ℕ → Data → Result Bool BaseError
+bool_field name d = required name (field name d) >>= as_bool name
 
 abbrev pub list_field : List ℕ → Data → Result Items BaseError
 list_field name d = required name (field name d) >>= as_list name

@@ -3,7 +3,7 @@ use Rattle.std.specs.Prelude.{ℕ, List, Bool, true, false, Option, Some, None, 
 use Rattle.dr_base.specs.declared.base_error.BaseError.{BaseError}
 use Rattle.dr_base.specs.declared.base_error.BaseError.TheVariants.{NoMemory, NotJson, Missing, WrongKind}
 use Rattle.dr_base.specs.declared.fault.Arg.{Arg}
-use Rattle.dr_base.specs.declared.fault.Arg.TheVariants.{Name, Index}
+use Rattle.dr_base.specs.declared.fault.Arg.TheVariants.{Name}
 
 abbrev pub number_of : BaseError → ℕ
 number_of NoMemory = 0

@@ -2,7 +2,7 @@ ghost use Rattle.std.specs.Prelude.{◌≡◌, option_map};
 ghost use Rattle.serde_json.specs.View.{view, items_view, members_view};
 ghost use Rattle.serde_json.specs.Data.{Data};
 ghost use Rattle.dr_base.specs.declared.base_error.BaseError.TheVariants.{Missing, WrongKind};
-ghost use Rattle.dr_base.specs.Fields.{Gives, IsRefusal, field, required, as_text, as_list, as_bool, as_int, as_object, text_field, int_field, list_field};
+ghost use Rattle.dr_base.specs.Fields.{Gives, IsRefusal, field, required, as_text, as_list, as_bool, as_int, as_object, text_field, int_field, bool_field, list_field};
 
 use crate::base_error::BaseError;
 use crate::text::Text;
@@ -116,6 +116,13 @@ pub fn int_field(alloc: Global, value: &Value, name: &str) -> Result<i64, BaseEr
     ensures { Gives (λ n. n) result (int_field name.now (view value.now)) }
 {
     int_value(alloc, required(alloc, value, name)?, name)
+}
+
+/// The truth value of a field. Refusals: 2 `Missing` where the field is absent or null, 3 `WrongKind` where it is none.
+pub fn bool_field(alloc: Global, value: &Value, name: &str) -> Result<bool, BaseError>
+    ensures { Gives (λ b. b) result (bool_field name.now (view value.now)) }
+{
+    bool_value(alloc, required(alloc, value, name)?, name)
 }
 
 /// The items of a field's list. Refusals: 2 `Missing` where the field is absent or null, 3 `WrongKind` where it is no

@@ -18,8 +18,8 @@ pub use base_error::BaseError;
 pub use event::Event;
 pub use fault::{Arg, fault_line};
 pub use fields::{
-    bool_value, field, int_field, int_value, list_field, list_value, missing, object, required,
-    text_field, text_value, wrong_kind,
+    bool_field, bool_value, field, int_field, int_value, list_field, list_value, missing, object,
+    required, text_field, text_value, wrong_kind,
 };
 pub use json::parse_json;
 pub use key::Key;

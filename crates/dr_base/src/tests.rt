@@ -107,11 +107,12 @@ fn reads_fields(rt: HostRuntime) -> Result<(), Fail> {
     let alloc = rt.alloc();
     let value = parse_json(
         alloc,
-        b"{\"a\":\"x\",\"b\":null,\"c\":7,\"d\":[1],\"e\":1.0,\"a\":\"y\"}",
+        b"{\"a\":\"x\",\"b\":null,\"c\":7,\"d\":[1],\"e\":1.0,\"f\":true,\"a\":\"y\"}",
     )?;
     assert_eq!(rt; text_field(alloc, &value, "a")?, "y");
     assert_eq!(rt; int_field(alloc, &value, "c")?, 7);
     assert_eq!(rt; list_field(alloc, &value, "d")?.len(), 1);
+    assert!(rt; bool_field(alloc, &value, "f")?);
     assert!(rt; field(&value, "b").is_none());
     for (name, number) in [("b", 2), ("z", 2), ("c", 3)] {
         let Err(error) = text_field(alloc, &value, name) else {
@@ -124,6 +125,8 @@ fn reads_fields(rt: HostRuntime) -> Result<(), Fail> {
         assert_eq!(rt; line.as_str(), wanted.as_str());
     }
     assert!(rt; int_field(alloc, &value, "e").is_err());
+    assert!(rt; bool_field(alloc, &value, "c").is_err());
+    assert!(rt; bool_field(alloc, &value, "b").is_err());
     assert!(rt; object(alloc, &value, "spec").is_ok());
     Ok(())
 }

@@ -1,7 +1,6 @@
 -- What is read fits the schema.
 use Rattle.std.proofs.Common.{◌≡◌, ◌∙◌, sym, refl, ap, subst, ℕ, true, false, List, [], length, ℤ, Option, Some, None, Result, Ok, Err, arith}
 use Rattle.std.specs.Prelude.{◌&&◌, int_le, if◌then◌else◌, option_and_then}
-use Rattle.std.proofs.lemmas.Int.{ints}
 use Rattle.serde_json.specs.Data.{Data}
 use Rattle.serde_json.specs.Find.{get}
 use Rattle.dr_base.specs.declared.event.Event.{Event}
@@ -12,15 +11,18 @@ use Rattle.dr_spec.specs.declared.metric.Metric.{Metric}
 use Rattle.dr_spec.specs.declared.schema.Schema.{Schema}
 use Rattle.dr_spec.specs.declared.time_format.TimeFormat.{TimeFormat}
 use Rattle.dr_events.specs.declared.unparseable.Unparseable.TheVariants.{BadTimestamp, BadDimension, BadMetric}
+use Rattle.dr_events.specs.declared.unparseable.Unparseable.{Unparseable}
+use Rattle.dr_events.specs.Refusal.{Gives}
 use Rattle.dr_events.specs.Columns.{or_refused}
 use Rattle.dr_events.specs.EventTime.{time_of, in_years, event_time}
 use Rattle.dr_events.specs.DimensionValue.{dimension_value}
 use Rattle.dr_events.specs.MetricInput.{metric_input}
-use Rattle.dr_events.specs.EventOf.{object_of, dims_of, inputs_of, event_of}
+use Rattle.dr_events.specs.EventOf.{dims_of, inputs_of, event_in}
 use Rattle.dr_events.specs.Fits.{FitsSchema}
 use Rattle.dr_events.proofs.EachColumn.{length-each_from, All-each_from}
 use Rattle.dr_events.proofs.WholeInputs.{FitsSigned-metric_input}
-use Rattle.std.specs.Prelude.{All, FitsSigned}
+use Rattle.dr_events.proofs.EventTimes.{inside}
+use Rattle.std.specs.Prelude.{All, FitsSigned, IfOk}
 use Rattle.std.specs.Int.{w64}
 use Rattle.std.proofs.lemmas.List.Elements.{All-nil}
 
@@ -41,9 +43,6 @@ All-inputs_of : (metrics : List Metric) (d : Data) (inputs : List ℤ) → input
 unfolding inputs_of
 All-inputs_of metrics d inputs h = All-each_from (metric_input d) BadMetric (FitsSigned w64) (λ m x e. FitsSigned-metric_input d m x e) [] metrics inputs (All-nil (FitsSigned w64)) h
 
-inside : (z : ℤ) → (int_le first_instant z && int_le z last_instant) ≡ true → IsInstant z
-inside z e = (grind (arith, ints), grind (arith, ints))
-
 IsInstant-in_years : (z t : ℤ) → in_years z ≡ Some t → IsInstant t
 IsInstant-in_years z t h =
     elim (int_le first_instant z && int_le z last_instant) as (λ b. (int_le first_instant z && int_le z last_instant) ≡ b → (if b then Some z else None) ≡ Some t → IsInstant t) [
@@ -61,12 +60,10 @@ IsInstant-event_time format (Some d) t h =
     ]
     h
 
--- an event that is read fits the schema
-pub FitsSchema-event_of : (s : Schema) (seat : ℕ) (bytes : List ℕ) (e : Event) → event_of s seat bytes ≡ Ok e → FitsSchema s e
-unfolding event_of
-FitsSchema-event_of s seat bytes e h =
-    after_step (object_of bytes) _ e h (λ d hd h1.
-    after_step (event_time s.time_format (field s.time_column d)) _ e h1 (λ time ht h2.
+FitsSchema-event_in : (s : Schema) (seat : ℕ) (d : Data) (e : Event) → event_in s seat d ≡ Ok e → FitsSchema s e
+unfolding event_in
+FitsSchema-event_in s seat d e h =
+    after_step (event_time s.time_format (field s.time_column d)) _ e h (λ time ht h2.
     after_step (dims_of s.dimensions d) _ e h2 (λ dims hs h3.
     after_step (inputs_of s.metrics d) _ e h3 (λ inputs hi h4.
     let made : Event = record { seat = seat; time = time; dims = dims; inputs = inputs } in
@@ -76,4 +73,9 @@ FitsSchema-event_of s seat bytes e h =
       inputs = ap (λ (x : Event). length x.inputs) (sym same) ∙ length-inputs_of s.metrics d inputs hi;
       in_range = subst (λ (x : Event). All (FitsSigned w64) x.inputs) same (All-inputs_of s.metrics d inputs hi);
       time = subst (λ (x : Event). IsInstant x.time) same (IsInstant-event_time s.time_format (field s.time_column d) time ht);
-    }))))
+    })))
+
+-- an event that is read fits the schema
+pub fits_if_read : (s : Schema) (seat : ℕ) (d : Data) (r : Result Event Unparseable) → Gives (λ e. e) r (event_in s seat d) → IfOk r (FitsSchema s)
+fits_if_read s seat d (Ok e) h = FitsSchema-event_in s seat d e h
+fits_if_read s seat d (Err f) h = tt

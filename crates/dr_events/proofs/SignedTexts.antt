@@ -6,9 +6,9 @@ use Rattle.std.specs.Str.{all_ascii_digits}
 use Rattle.std.specs.Str.Parse.{ParsesSigned}
 use Rattle.std.proofs.lemmas.Str.Parse.{IsNumeralModel, numerals_by_fold, tells_all_ascii_digits, parse_signed_plus, parse_signed_minus, parse_signed_plain}
 use borrow.Author.Tests.{eqb-true, eqb-false, ltb-true, lt-ltb}
-use Rattle.dr_events.specs.MetricInput.{in_64_bits, spelled_behind, digits_number, text_input}
+use Rattle.dr_events.specs.WholeNumber.{in_64_bits, spelled_behind, digits_number, signed_number}
 
-own : IsNumeralModel (λ ds. all_ascii_digits ds ≡ true) (spelled_behind 0)
+pub own : IsNumeralModel (λ ds. all_ascii_digits ds ≡ true) (spelled_behind 0)
 own = numerals_by_fold (λ ds. all_ascii_digits ds ≡ true) tells_all_ascii_digits spelled_behind (search rules)
 
 -- digits behind no sign or a plus
@@ -48,8 +48,7 @@ neg_digits (d ∷ ds) (Err e) h =
     ]
     refl
 
--- a text that isn't empty
-pub parsed_text : {E : Type 0} → (c : ℕ) (cs : List ℕ) (r : Result ℤ E) → ParsesSigned w64 10 (c ∷ cs) r → result_ok r ≡ text_input (c ∷ cs)
+parsed_text : {E : Type 0} → (c : ℕ) (cs : List ℕ) (r : Result ℤ E) → ParsesSigned w64 10 (c ∷ cs) r → result_ok r ≡ option_and_then in_64_bits (signed_number (c ∷ cs))
 parsed_text c cs r h =
     elim (c == 43) as (λ b. (c == 43) ≡ b → result_ok r ≡ option_and_then in_64_bits (if b then option_map pos (digits_number cs) else (if c == 45 then option_map (λ n. neg_ℤ (pos n)) (digits_number cs) else option_map pos (digits_number (c ∷ cs))))) [
       | true ↦ λ t. pos_digits cs r (parse_signed_plus own w64 (c ∷ cs) r h (eqb-true c 43 t))
@@ -62,6 +61,6 @@ parsed_text c cs r h =
     ]
     refl
 
-pub parsed : {E : Type 0} → (bs : List ℕ) (r : Result ℤ E) → ((length bs == 0) ≡ false) → ParsesSigned w64 10 bs r → result_ok r ≡ text_input bs
-parsed [] r some h = cc
-parsed (c ∷ cs) r some h = parsed_text c cs r h
+pub parsed : {E : Type 0} → (bs : List ℕ) (r : Result ℤ E) → ParsesSigned w64 10 bs r → result_ok r ≡ option_and_then in_64_bits (signed_number bs)
+parsed [] r h = pos_digits [] r (parse_signed_plain own w64 [] r h (λ e. cc) (λ e. cc))
+parsed (c ∷ cs) r h = parsed_text c cs r h

@@ -8,7 +8,8 @@ use Rattle.serde_json.specs.Find.{as_i64, as_integer}
 use Rattle.dr_agg.specs.declared.kind.Kind.TheVariants.{Count, LongSum, LongMin, LongMax}
 use Rattle.dr_agg.specs.declared.kind.Kind.{Kind}
 use Rattle.dr_spec.specs.declared.metric.Metric.{Metric}
-use Rattle.dr_events.specs.MetricInput.{in_64_bits, signed_number, text_input, number_input, input_by, input_field, metric_input}
+use Rattle.dr_events.specs.WholeNumber.{in_64_bits, signed_number}
+use Rattle.dr_events.specs.MetricInput.{text_input, number_input, input_by, input_field, metric_input}
 
 in_64_bits-fits : (z : ℤ) → FitsSigned w64 z → in_64_bits z ≡ Some z
 in_64_bits-fits (pos n) fits = rw (lt-ltb n (2 ^ 63) (omega (arith, ints))) refl
@@ -20,7 +21,7 @@ whole_input_is (unsigned n) r e fits = e
 whole_input_is (negative z) r e fits = e ∙ sym (in_64_bits-fits z (subst (λ (o : Option ℤ). IfSome o (FitsSigned w64)) e fits))
 whole_input_is (float x) r e fits = e
 
-FitsSigned-in_64_bits : (z t : ℤ) → in_64_bits z ≡ Some t → FitsSigned w64 t
+pub FitsSigned-in_64_bits : (z t : ℤ) → in_64_bits z ≡ Some t → FitsSigned w64 t
 FitsSigned-in_64_bits (pos n) t h =
     elim (nat_lt n (2 ^ 63)) as (λ b. nat_lt n (2 ^ 63) ≡ b → (if b then Some (pos n) else None) ≡ Some t → FitsSigned w64 t) [
       | true ↦ λ e k. let lt = ltb-true n (2 ^ 63) e in let same : pos n ≡ t = cc in subst (FitsSigned w64) same (omega (arith, ints))

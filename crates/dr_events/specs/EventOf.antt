@@ -37,11 +37,16 @@ dims_of names d = each (λ name. dimension_value (get name d)) BadDimension name
 unfoldable pub inputs_of : List Metric → Data → Result (List ℤ) Unparseable
 inputs_of metrics d = each (metric_input d) BadMetric metrics
 
--- the steps of reading an event, in their order
-unfoldable pub event_of : Schema → ℕ → List ℕ → Result Event Unparseable
-event_of s seat bytes = do
-  d ← object_of bytes
+-- the event of an object, step by step
+unfoldable pub event_in : Schema → ℕ → Data → Result Event Unparseable
+event_in s seat d = do
   time ← event_time s.time_format (field s.time_column d)
   dims ← dims_of s.dimensions d
   inputs ← inputs_of s.metrics d
   Ok (record { seat = seat; time = time; dims = dims; inputs = inputs })
+
+-- the event of a line
+unfoldable pub event_of : Schema → ℕ → List ℕ → Result Event Unparseable
+event_of s seat bytes = do
+  d ← object_of bytes
+  event_in s seat d

@@ -1,7 +1,9 @@
 pub mod Refusal
 pub mod Columns
+pub mod WholeNumber
 pub mod EventTime
 pub mod DimensionValue
 pub mod MetricInput
+pub mod FlatObject
 pub mod EventOf
 pub mod Fits

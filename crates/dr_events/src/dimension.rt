@@ -1,7 +1,9 @@
-ghost use Rattle.std.specs.Prelude.{◌≡◌, IfOk, option_map};
+ghost use Rattle.std.specs.Prelude.{◌≡◌, Some, IfOk, option_map};
 ghost use Rattle.serde_json.specs.View.{view, number_view};
+ghost use Rattle.dr_events.specs.FlatObject.{data_of};
 ghost use Rattle.dr_events.specs.DimensionValue.{dimension_value, whole_text};
 
+use crate::scalar::Scalar;
 use dr_base::Text;
 use serde_json::{Number, Value};
 use std::alloc::{AllocError, Global};
@@ -20,6 +22,19 @@ pub fn dimension_value(alloc: Global, value: Option<&Value>) -> Result<Option<Te
         Some(Value::Array(_) | Value::Object(_)) => return Ok(None),
     };
     Ok(Some(text))
+}
+
+/// The same of a scalar, which always stands for a text.
+pub fn scalar_text(alloc: Global, value: Option<Scalar<'_>>) -> Result<Text, AllocError>
+    ensures { IfOk result (λ text. dimension_value (option_map data_of value.entry) ≡ Some text) }
+{
+    match value {
+        None | Some(Scalar::Null) => Text::from_str(alloc, ""),
+        Some(Scalar::Bool(true)) => Text::from_str(alloc, "true"),
+        Some(Scalar::Bool(false)) => Text::from_str(alloc, "false"),
+        Some(Scalar::Text(text)) => Text::from_str(alloc, text),
+        Some(Scalar::Whole(number)) => Ok(Text::from_string(number.to_string(alloc)?)),
+    }
 }
 
 fn whole_text(alloc: Global, number: &Number) -> Result<Option<Text>, AllocError>

@@ -1,9 +1,16 @@
-ghost use Rattle.std.specs.Prelude.{◌≡◌, ◌&&◌, int_le, option_map};
+ghost use Rattle.std.specs.Prelude.{◌≡◌, ◌&&◌, ℤ, Option, int_le, option_map, option_and_then};
 ghost use Rattle.serde_json.specs.View.{view};
+ghost use Rattle.std.specs.List.{list_all};
+ghost use Rattle.std.specs.Char.{is_ascii_digit};
 ghost use Rattle.dr_events.specs.Refusal.{Gives};
 ghost use Rattle.dr_time.specs.Instant.{first_instant, last_instant};
-ghost use Rattle.dr_events.specs.EventTime.{time_of, event_time};
+ghost use Rattle.dr_events.specs.WholeNumber.{in_64_bits};
+ghost use Rattle.dr_events.specs.FlatObject.{data_of};
+ghost use Rattle.dr_base.specs.Fields.{present};
+ghost use Rattle.dr_events.specs.EventTime.{whole_time, auto_time, auto_text, behind_minus, are_1_to_19_digits, of_seconds, in_years, time_of, event_time};
 
+use crate::numbers::{plain_number, whole_number};
+use crate::scalar::Scalar;
 use crate::unparseable::Unparseable;
 use dr_spec::TimeFormat;
 use dr_time::parse_instant;
@@ -24,22 +31,122 @@ pub fn event_time(format: TimeFormat, value: Option<&Value>) -> Result<i64, Unpa
         return Err(Unparseable::NoTimestamp);
     };
     match time_of(format, value) {
-        Some(time) if in_years(time) => Ok(time),
+        Some(time) if is_in_years(time) => Ok(time),
         _ => Err(Unparseable::BadTimestamp),
     }
 }
 
-fn in_years(time: i64) -> bool
+/// The same of a scalar.
+pub fn scalar_event_time(format: TimeFormat, value: Option<Scalar<'_>>) -> Result<i64, Unparseable>
+    ensures { Gives (λ t. t) result (event_time format (present (option_map data_of value.entry))) }
+{
+    let value = match value {
+        None | Some(Scalar::Null) => return Err(Unparseable::NoTimestamp),
+        Some(value) => value,
+    };
+    match scalar_time(format, value) {
+        Some(time) if is_in_years(time) => Ok(time),
+        _ => Err(Unparseable::BadTimestamp),
+    }
+}
+
+fn is_in_years(time: i64) -> bool
     ensures { result ≡ (int_le first_instant time && int_le time last_instant) }
 {
     FIRST_TIME <= time && time <= LAST_TIME
 }
 
+// A number beyond 64 bits lies outside the years too.
 fn time_of(format: TimeFormat, value: &Value) -> Option<i64>
-    ensures { result ≡ time_of format (view value.now) }
+    ensures { option_and_then in_years result ≡ option_and_then in_years (time_of format (view value.now)) }
+{
+    match format {
+        TimeFormat::Iso => match value {
+            Value::String(text) => parse_instant(text.as_str()).ok(),
+            _ => None,
+        },
+        TimeFormat::Millis => whole_time(value),
+        TimeFormat::Posix => posix_time(value),
+        TimeFormat::Auto => auto_time(value),
+    }
+}
+
+fn scalar_time(format: TimeFormat, value: Scalar<'_>) -> Option<i64>
+    ensures { option_and_then in_years result ≡ option_and_then in_years (time_of format (data_of value.entry)) }
 {
     match (format, value) {
-        (TimeFormat::Iso, Value::String(text)) => parse_instant(text.as_str()).ok(),
+        (TimeFormat::Iso, Scalar::Text(text)) => parse_instant(text).ok(),
+        (TimeFormat::Auto, Scalar::Text(text)) => auto_text(text),
+        (TimeFormat::Millis, Scalar::Text(text)) => plain_number(text),
+        (TimeFormat::Posix, Scalar::Text(text)) => of_seconds(plain_number(text)),
+        (TimeFormat::Millis | TimeFormat::Auto, Scalar::Whole(time)) => Some(time),
+        (TimeFormat::Posix, Scalar::Whole(seconds)) => seconds.checked_mul(1000),
         _ => None,
     }
+}
+
+fn posix_time(value: &Value) -> Option<i64>
+    ensures { option_and_then in_years result ≡ option_and_then in_years (option_map of_seconds (whole_time (view value.now))) }
+{
+    of_seconds(whole_time(value))
+}
+
+fn of_seconds(seconds: Option<i64>) -> Option<i64>
+    ensures { (given : Option ℤ) → seconds ≡ option_and_then in_64_bits given → option_and_then in_years result ≡ option_and_then in_years (option_map of_seconds given) }
+{
+    match seconds {
+        Some(seconds) => seconds.checked_mul(1000),
+        None => None,
+    }
+}
+
+fn whole_time(value: &Value) -> Option<i64>
+    ensures { result ≡ option_and_then in_64_bits (whole_time (view value.now)) }
+{
+    match value {
+        Value::Number(number) => whole_number(number),
+        Value::String(text) => plain_number(text.as_str()),
+        _ => None,
+    }
+}
+
+fn auto_time(value: &Value) -> Option<i64>
+    ensures { option_and_then in_years result ≡ option_and_then in_years (auto_time (view value.now)) }
+{
+    match value {
+        Value::Number(number) => whole_number(number),
+        Value::String(text) => auto_text(text.as_str()),
+        _ => None,
+    }
+}
+
+fn auto_text(text: &str) -> Option<i64>
+    ensures { option_and_then in_years result ≡ option_and_then in_years (auto_text text.now) }
+{
+    if are_1_to_19_digits(behind_minus(text.as_bytes())) {
+        plain_number(text)
+    } else {
+        parse_instant(text).ok()
+    }
+}
+
+fn behind_minus(text: &[u8]) -> &[u8]
+    ensures { result.now ≡ behind_minus text.now }
+{
+    match text {
+        [b'-', rest @ ..] => rest,
+        _ => text,
+    }
+}
+
+fn are_1_to_19_digits(text: &[u8]) -> bool
+    ensures { result ≡ are_1_to_19_digits text.now }
+{
+    1 <= text.len() && text.len() <= 19 && are_digits(text)
+}
+
+fn are_digits(text: &[u8]) -> bool
+    ensures { result ≡ list_all is_ascii_digit text.now }
+{
+    text.iter().all(|byte| byte.is_ascii_digit())
 }

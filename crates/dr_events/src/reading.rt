@@ -1,15 +1,16 @@
 ghost use Rattle.std.specs.Prelude.{◌≡◌, IfOk};
 ghost use Rattle.serde_json.specs.View.{view};
 ghost use Rattle.dr_events.specs.Refusal.{Gives};
-ghost use Rattle.dr_events.specs.EventOf.{object_of, dims_of, inputs_of, event_of};
+ghost use Rattle.dr_events.specs.EventOf.{object_of, dims_of, inputs_of, event_in, event_of};
 ghost use Rattle.dr_events.specs.Fits.{FitsSchema};
 
 use crate::dimension::dimension_value;
+use crate::event_reader::EventReader;
 use crate::event_time::event_time;
 use crate::metric::metric_input;
 use crate::unparseable::Unparseable;
 use dr_base::{BaseError, Event, Numbers, Text, Texts, field, parse_json};
-use dr_spec::{IngestSpec, Metric};
+use dr_spec::{IngestSpec, Metric, Schema};
 use serde_json::Value;
 use std::alloc::Global;
 
@@ -17,7 +18,6 @@ use std::alloc::Global;
 /// and a number for each metric, in the order of the spec. The first refusal of these, in this order, is answered:
 /// 30 `NotAnObject` (no JSON either), 31 `NoTimestamp`, 32 `BadTimestamp`, 33 `BadDimension` and 34 `BadMetric`, both with
 /// the place of the first bad one in the spec, from 0.
-#[tactic(auto, unfolding(crate::specs::EventOf::event_of))]
 pub fn read_event(
     alloc: Global,
     spec: &IngestSpec,
@@ -27,14 +27,25 @@ pub fn read_event(
     ensures event { Gives (λ e. e) result (event_of spec.now seat bytes.now) }
     ensures fits { IfOk result (FitsSchema spec.now) }
 {
-    let schema = spec.schema();
-    let value = object(alloc, bytes)?;
+    EventReader::new(alloc).read(alloc, spec, seat, bytes)
+}
+
+/// The event of an object.
+#[tactic(auto, unfolding(crate::specs::EventOf::event_in))]
+pub fn event_in(
+    alloc: Global,
+    schema: &Schema,
+    seat: u8,
+    value: &Value,
+) -> Result<Event, Unparseable>
+    ensures { Gives (λ e. e) result (event_in schema.now seat (view value.now)) }
+{
     let time = event_time(
         schema.time_format,
-        field(&value, schema.time_column.as_str()),
+        field(value, schema.time_column.as_str()),
     )?;
-    let dims = dimensions(alloc, schema.dimensions.as_slice(), &value)?;
-    let inputs = inputs(alloc, schema.metrics.as_slice(), &value)?;
+    let dims = dimensions(alloc, schema.dimensions.as_slice(), value)?;
+    let inputs = inputs(alloc, schema.metrics.as_slice(), value)?;
     Ok(Event {
         seat,
         time,
@@ -43,8 +54,9 @@ pub fn read_event(
     })
 }
 
+/// The object that a line spells. Refusals: 30 `NotAnObject`.
 #[tactic(auto, unfolding(crate::specs::EventOf::object_of))]
-fn object(alloc: Global, bytes: &[u8]) -> Result<Value, Unparseable>
+pub fn object(alloc: Global, bytes: &[u8]) -> Result<Value, Unparseable>
     ensures { Gives view result (object_of bytes.now) }
 {
     match parse_json(alloc, bytes) {

@@ -7,6 +7,103 @@ use std::test::Fail;
 const SPEC: &str =
     r#"{"dataSchema":{"dataSource":"w","timestampSpec":{"column":"t","format":"iso"},"dimensionsSpec":{"dimensions":["page","lang"]},"metricsSpec":[{"type":"count","name":"n"},{"type":"longSum","name":"added","fieldName":"a"},{"type":"longMin","name":"lo","fieldName":"a"},{"type":"longMax","name":"hi","fieldName":"a"}],"granularitySpec":{"segmentGranularity":"day","queryGranularity":"none"}}}"#;
 
+// What each value of the time column is read as: milliseconds, `bad` (32), or `none` (31).
+const MILLIS: &str = r#"1704067200000 => 1704067200000
+"1704067200000" => 1704067200000
+-1 => -1
+"-1" => -1
+"-0" => 0
+0 => 0
+"007" => 7
+"00000000000000000000000000000000000000009" => 9
+-62135596800000 => -62135596800000
+-62135596800001 => bad
+253402300799999 => 253402300799999
+253402300800000 => bad
+"253402300799999" => 253402300799999
+"253402300800000" => bad
+"-62135596800000" => -62135596800000
+"-62135596800001" => bad
+9223372036854775807 => bad
+9223372036854775808 => bad
+18446744073709551615 => bad
+18446744073709551616 => bad
+-9223372036854775808 => bad
+"-9223372036854775808" => bad
+"9223372036854775808" => bad
+"-9223372036854775809" => bad
+"18446744073709551616" => bad
+"+7" => bad
+"" => bad
+"-" => bad
+"--1" => bad
+" 1" => bad
+"1 " => bad
+"1.0" => bad
+1.0 => bad
+1e3 => bad
+-0 => bad
+true => bad
+[] => bad
+{} => bad
+"2024-01-01" => bad"#;
+
+const POSIX: &str = r#"1704067200 => 1704067200000
+"1704067200" => 1704067200000
+-1 => -1000
+"-1" => -1000
+"-0" => 0
+-62135596800 => -62135596800000
+-62135596801 => bad
+253402300799 => 253402300799000
+253402300800 => bad
+"-62135596800" => -62135596800000
+"-62135596801" => bad
+9223372036854775 => bad
+9223372036854776 => bad
+9223372036854775807 => bad
+18446744073709551615 => bad
+"18446744073709552" => bad
+"18446744073709551616" => bad
+-9223372036854775808 => bad
+"-9223372036854775808" => bad
+-18446744073709551 => bad
+"+7" => bad
+"" => bad
+1.0 => bad
+1e3 => bad
+-0 => bad
+"2024-01-01" => bad
+null => none"#;
+
+const AUTO: &str = r#"1704067200000 => 1704067200000
+0 => 0
+-1 => -1
+"2024" => 2024
+"-5" => -5
+"-0" => 0
+"0" => 0
+"2024-01-01" => 1704067200000
+"2024-01-01T00:00:00Z" => 1704067200000
+"0000000000000000001" => 1
+"00000000000000000001" => bad
+"-0000000000000000001" => -1
+"-00000000000000000001" => bad
+"9223372036854775807" => bad
+"9999999999999999999" => bad
+"253402300799999" => 253402300799999
+"253402300800000" => bad
+"+7" => bad
+"" => bad
+"-" => bad
+"20240101x" => bad
+1.0 => bad
+1e3 => bad
+-0 => bad
+18446744073709551615 => bad
+false => bad
+null => none"#;
+
 // The time, the dimensions and the inputs of an event.
 fn event_text(alloc: Global, event: &Event) -> Result<String, Fail> {
     let mut text = format!(in alloc; "{}", event.time)?;
@@ -33,6 +130,14 @@ fn read_text(alloc: Global, line: &str) -> Result<String, Fail> {
     match read_event(alloc, &spec, 3, line.as_bytes()) {
         Ok(event) => event_text(alloc, &event),
         Err(refusal) => refusal_text(alloc, &refusal),
+    }
+}
+
+// The line with a list as one more member, which is then read as a whole value.
+fn with_a_list(alloc: Global, line: &str) -> Result<String, Fail> {
+    match line.strip_suffix('}') {
+        Some(start) => Ok(format!(in alloc; r#"{start},"a list":[]}}"#)?),
+        None => Ok(String::from_str(alloc, line)?),
     }
 }
 
@@ -67,12 +172,35 @@ fn refuses_what_is_no_event(rt: HostRuntime) -> Result<(), Fail> {
             "34 BadMetric 1",
         ),
         (r#"{"t":"2024-01-01","a":"1.0"}"#, "34 BadMetric 1"),
+        (
+            r#"{"t":"2024-01-01","a":"-9223372036854775809"}"#,
+            "34 BadMetric 1",
+        ),
+        (
+            r#"{"t":"2024-01-01","a":18446744073709551616}"#,
+            "34 BadMetric 1",
+        ),
+        (
+            r#"{"t":"2024-01-01","lang":18446744073709551616}"#,
+            "33 BadDimension 1",
+        ),
+        (
+            r#"{"t":"2024-01-01","page":-9223372036854775809}"#,
+            "33 BadDimension 0",
+        ),
+        (r#"{"t":"2024-01-01","x":1e400}"#, "30 NotAnObject"),
+        (r#"{"t":[],"t":"2024-01-01","t":null}"#, "31 NoTimestamp"),
+        (r#"{"t":"2024-01-01","a":1e3}"#, "34 BadMetric 1"),
+        (r#"{"t":"2024-01-01","a":"+"}"#, "34 BadMetric 1"),
         (r#"{"t":"2024-01-01","a":"-"}"#, "34 BadMetric 1"),
         (r#"{"t":"2024-01-01","a":" 1"}"#, "34 BadMetric 1"),
     ];
     for (line, wanted) in &rows {
         let text = read_text(rt.alloc(), line)?;
         assert_eq!(rt; text.as_str(), *wanted, "{line}");
+        let longer = with_a_list(rt.alloc(), line)?;
+        let text = read_text(rt.alloc(), longer.as_str())?;
+        assert_eq!(rt; text.as_str(), *wanted, "{longer}");
     }
     Ok(())
 }
@@ -128,6 +256,9 @@ fn reads_events(rt: HostRuntime) -> Result<(), Fail> {
     for (line, wanted) in &rows {
         let text = read_text(rt.alloc(), line)?;
         assert_eq!(rt; text.as_str(), *wanted, "{line}");
+        let longer = with_a_list(rt.alloc(), line)?;
+        let text = read_text(rt.alloc(), longer.as_str())?;
+        assert_eq!(rt; text.as_str(), *wanted, "{longer}");
     }
     Ok(())
 }
@@ -138,5 +269,69 @@ fn marks_the_event_with_the_seat(rt: HostRuntime) -> Result<(), Fail> {
     let spec = IngestSpec::parse(alloc, SPEC.as_bytes())?;
     let event = read_event(alloc, &spec, 255, br#"{"t":"2024-01-01"}"#)?;
     assert_eq!(rt; event.seat, 255);
+    // A reader may be kept, and takes lines of both forms in turn.
+    let mut reader = EventReader::new(alloc);
+    for line in [
+        r#"{"t":"2024-01-01","lang":"\u00e9"}"#,
+        r#"{"t":"2024-01-01","lang":"\u00e9","x":[]}"#,
+    ] {
+        let event = reader.read(alloc, &spec, 7, line.as_bytes())?;
+        assert_eq!(rt; event.seat, 7);
+        let text = event_text(alloc, &event)?;
+        assert_eq!(rt; text.as_str(), r#"1704067200000 "" "é" 1 0 0 0"#);
+        assert!(rt; reader.read(alloc, &spec, 7, b"[1]").is_err());
+    }
+    Ok(())
+}
+
+fn time_text(alloc: Global, spec: &IngestSpec, line: &str) -> Result<String, Fail> {
+    match read_event(alloc, spec, 0, line.as_bytes()) {
+        Ok(event) => Ok(event.time.to_string(alloc)?),
+        Err(Unparseable::BadTimestamp) => Ok(String::from_str(alloc, "bad")?),
+        Err(Unparseable::NoTimestamp) => Ok(String::from_str(alloc, "none")?),
+        Err(refusal) => refusal_text(alloc, &refusal),
+    }
+}
+
+#[test]
+fn reads_times_in_each_format(rt: HostRuntime) -> Result<(), Fail> {
+    let alloc = rt.alloc();
+    for (format, rows) in [("millis", MILLIS), ("posix", POSIX), ("auto", AUTO)] {
+        let text = format!(in alloc;
+            r#"{{"dataSchema":{{"dataSource":"w","timestampSpec":{{"format":"{format}"}},"dimensionsSpec":{{"dimensions":["page"]}}}}}}"#
+        )?;
+        let spec = IngestSpec::parse(alloc, text.as_bytes())?;
+        for row in rows.lines() {
+            let Some((value, wanted)) = row.split_once(" => ") else {
+                panic!(rt; "{row}");
+            };
+            let line = format!(in alloc; r#"{{"timestamp":{value}}}"#)?;
+            let text = time_text(alloc, &spec, line.as_str())?;
+            assert_eq!(rt; text.as_str(), wanted, "{format} {value}");
+            let longer = with_a_list(alloc, line.as_str())?;
+            let text = time_text(alloc, &spec, longer.as_str())?;
+            assert_eq!(rt; text.as_str(), wanted, "{format} {value}");
+        }
+    }
+    Ok(())
+}
+
+#[test]
+fn nests_127_deep(rt: HostRuntime) -> Result<(), Fail> {
+    let alloc = rt.alloc();
+    // The event itself counts.
+    for (lists, wanted) in [
+        (126, r#"1704067200000 "" "" 1 0 0 0"#),
+        (127, "30 NotAnObject"),
+    ] {
+        let mut line = String::from_str(alloc, r#"{"t":"2024-01-01","x":"#)?;
+        for bracket in ["[", "]"] {
+            for _ in 0..lists {
+                line.push_str(bracket)?;
+            }
+        }
+        line.push_str("}")?;
+        assert_eq!(rt; read_text(alloc, line.as_str())?.as_str(), wanted);
+    }
     Ok(())
 }

@@ -1,18 +1,18 @@
 -- What is read is well formed.
-use Rattle.std.proofs.Common.{◌≡◌, ◌≢◌, ℕ, ◌+◌, ◌<◌, ◌≤◌, List, [], ◌∷◌, ◌++◌, length, map, get_or, append_assoc, append-nil, Bool, true, false, ◌||◌, cond, bytes_eq, codes, nat_lt, nat_le, ◌==◌, ◌&&◌, ℤ, pos, negsuc, Result, Ok, Err, Option, Some, None, is_none, refl, sym, ap, subst, ◌∙◌, arith}
-use Rattle.std.specs.List.{All, AllPairs, list_any}
+use Rattle.std.proofs.Common.{◌≡◌, ◌≢◌, ℕ, ◌<◌, ◌≤◌, List, [], ◌∷◌, ◌++◌, length, get_or, append_assoc, append-nil, Bool, true, false, ◌||◌, cond, bytes_eq, codes, not, nat_lt, nat_le, ◌==◌, ◌&&◌, ℤ, pos, negsuc, Result, Ok, Err, Option, Some, None, is_none, refl, sym, subst, arith}
+use Rattle.std.specs.List.{All, list_any}
 use Rattle.std.specs.Cmp.Lexicographic.{bytes_decides}
 use Rattle.std.proofs.lemmas.List.Folds.{list_any_at}
 use Rattle.std.proofs.lemmas.List.Elements.{All-nil, All-push}
 use Rattle.std.proofs.lemmas.List.Quantifiers.{all_pairs_push}
 use Rattle.std.proofs.lemmas.Bool.Decides.{nat_tests}
 use Rattle.serde_json.specs.Data.{Data, Items, no_items, item}
-use Rattle.dr_base.specs.Reading.{◌>>=◌, passed}
+use Rattle.dr_base.specs.Reading.{passed}
 use Rattle.dr_base.specs.declared.base_error.BaseError.TheVariants.{WrongKind}
 use Rattle.dr_base.specs.Fields.{field, as_list, as_int, as_object, text_field}
 use Rattle.dr_base.specs.Json.{json_of}
 use Rattle.dr_spec.specs.declared.spec_error.SpecError.{SpecError}
-use Rattle.dr_spec.specs.declared.spec_error.SpecError.TheVariants.{Base, Unsupported, DuplicateName, NoDimensions, TooManyColumns}
+use Rattle.dr_spec.specs.declared.spec_error.SpecError.TheVariants.{Base, Granularity, NotNested, DuplicateName, NoDimensions, TooManyColumns}
 use Rattle.dr_spec.specs.declared.limits.Limits.{Limits}
 use Rattle.dr_spec.specs.declared.metric.Metric.{Metric}
 use Rattle.dr_spec.specs.declared.schema.Schema.{Schema}
@@ -22,10 +22,12 @@ use Rattle.dr_spec.specs.Sections.{section, field_in, items_of_field, not_empty,
 use Rattle.dr_spec.specs.Leniency.{only_listed}
 use Rattle.dr_spec.specs.TimestampSpec.{timestamp_of}
 use Rattle.dr_gran.specs.declared.gran.Gran.{Gran}
-use Rattle.dr_gran.specs.declared.gran.Gran.TheVariants.{Millisecond, Day}
+use Rattle.dr_gran.specs.declared.gran.Gran.TheVariants.{AllTime, Millisecond, Second, Minute, FiveMinute, TenMinute, FifteenMinute, ThirtyMinute, Hour, SixHour, EightHour, Day, Week, Month, Quarter, Year}
 use Rattle.dr_gran.specs.Step.{is_all}
+use Rattle.dr_gran.specs.Nesting.{nests}
+use Rattle.dr_gran.specs.Reading.{gran_of}
 use Rattle.dr_spec.specs.declared.granularity_spec.GranularitySpec.{GranularitySpec}
-use Rattle.dr_spec.specs.GranularitySpec.{granularity_of, segment_granularity_of, query_granularity_of, uniform, rolled_up, is_word, is_word_or_type}
+use Rattle.dr_spec.specs.GranularitySpec.{is_chunk_length, if_supported, segment_granularity_of, query_granularity_of, uniform, granularity_of, nested}
 use Rattle.dr_spec.specs.Each.{each, each_from}
 use Rattle.dr_spec.specs.DimensionsSpec.{dimension_of, one_at_least, listed_names, dimensions_of}
 use Rattle.dr_spec.specs.MetricsSpec.{kind_of, metric_keys, some_text, input_of, metric_of, metrics_of}
@@ -189,25 +191,50 @@ AreInRange-limits_of d limits e =
 
 -- ---- the granularities
 
-some_segment_kind : (d : Option Data) (g : Gran) → segment_granularity_of d ≡ Ok g → is_all g ≡ false
+chunk_length_is_not_all : (g : Gran) → is_chunk_length g ≡ true → is_all g ≡ false
+chunk_length_is_not_all AllTime e = cc
+chunk_length_is_not_all Millisecond e = refl
+chunk_length_is_not_all Second e = refl
+chunk_length_is_not_all Minute e = refl
+chunk_length_is_not_all FiveMinute e = refl
+chunk_length_is_not_all TenMinute e = refl
+chunk_length_is_not_all FifteenMinute e = refl
+chunk_length_is_not_all ThirtyMinute e = refl
+chunk_length_is_not_all Hour e = refl
+chunk_length_is_not_all SixHour e = refl
+chunk_length_is_not_all EightHour e = refl
+chunk_length_is_not_all Day e = refl
+chunk_length_is_not_all Week e = refl
+chunk_length_is_not_all Month e = refl
+chunk_length_is_not_all Quarter e = refl
+chunk_length_is_not_all Year e = refl
+
+-- a granularity that is given is supported where it stands
+is_supported : (supported : Bool) (given : Gran) (d : Data) (g : Gran) → if_supported supported given d ≡ Ok g → (supported ≡ true) × (given ≡ g)
+is_supported true given d g e = (refl, cc)
+is_supported false given d g e = cc
+
+some_chunk_length : (d : Option Data) (g : Gran) → segment_granularity_of d ≡ Ok g → is_chunk_length g ≡ true
 unfolding segment_granularity_of
-some_segment_kind None g e = let same : Day ≡ g = cc in subst (λ g. is_all g ≡ false) same refl
-some_segment_kind (Some d) g e = at (is_word (codes "day") d) e
-  where
-    at : (b : Bool) → cond b (Ok Day) (Err (Unsupported (codes "segmentGranularity"))) ≡ Ok g → is_all g ≡ false
-    at true e = let same : Day ≡ g = cc in subst (λ g. is_all g ≡ false) same refl
-    at false e = cc
+some_chunk_length None g e = let same : Day ≡ g = cc in subst (λ g. is_chunk_length g ≡ true) same refl
+some_chunk_length (Some d) g e =
+    through _ (passed Granularity (gran_of d)) _ g e (λ given _ e.
+    let p = is_supported (is_chunk_length given) given d g e in
+    subst (λ g. is_chunk_length g ≡ true) p.1 p.0)
+
+not_true : (b : Bool) → not b ≡ true → b ≡ false
+not_true true e = cc
+not_true false e = refl
 
 some_query_kind : (d : Option Data) (g : Gran) → query_granularity_of d ≡ Ok g → is_all g ≡ false
 unfolding query_granularity_of
 some_query_kind None g e = let same : Millisecond ≡ g = cc in subst (λ g. is_all g ≡ false) same refl
-some_query_kind (Some d) g e = at (is_word_or_type (codes "none") d) e
-  where
-    at : (b : Bool) → cond b (Ok Millisecond) (Err (Unsupported (codes "queryGranularity"))) ≡ Ok g → is_all g ≡ false
-    at true e = let same : Millisecond ≡ g = cc in subst (λ g. is_all g ≡ false) same refl
-    at false e = cc
+some_query_kind (Some d) g e =
+    through _ (passed Granularity (gran_of d)) _ g e (λ given _ e.
+    let p = is_supported (not (is_all given)) given d g e in
+    subst (λ g. is_all g ≡ false) p.1 (not_true (is_all given) p.0))
 
-some_kinds : (d : Data) (g : GranularitySpec) → granularity_of d ≡ Ok g → (is_all g.segment ≡ false) × (is_all g.query ≡ false)
+some_kinds : (d : Data) (g : GranularitySpec) → granularity_of d ≡ Ok g → (is_chunk_length g.segment ≡ true) × (is_all g.query ≡ false)
 unfolding granularity_of
 some_kinds d g e =
     through _ (passed Base (section (codes "granularitySpec") d)) _ g e (λ s _ e.
@@ -215,11 +242,17 @@ some_kinds d g e =
     through _ (uniform type) _ g e (λ supported _ e.
     through _ (segment_granularity_of (field_in (codes "segmentGranularity") s)) _ g e (λ segment segment_read e.
     through _ (query_granularity_of (field_in (codes "queryGranularity") s)) _ g e (λ query query_read e.
-    through _ (passed Base (bool_or (codes "rollup") true s)) _ g e (λ given _ e.
-    through _ (rolled_up given) _ g e (λ rollup _ e.
+    through _ (passed Base (bool_or (codes "rollup") true s)) _ g e (λ rollup _ e.
     let made : GranularitySpec = record { segment = segment; query = query; rollup = rollup } in
     let same : made ≡ g = cc in
-    subst (λ g. (is_all g.segment ≡ false) × (is_all g.query ≡ false)) same (some_segment_kind _ segment segment_read, some_query_kind _ query query_read))))))))
+    subst (λ g. (is_chunk_length g.segment ≡ true) × (is_all g.query ≡ false)) same (some_chunk_length _ segment segment_read, some_query_kind _ query query_read)))))))
+
+nests_in : (g : GranularitySpec) (u : Unit {0}) → nested g ≡ Ok u → nests g.query g.segment ≡ true
+nests_in g u e = at (nests g.query g.segment) refl e
+  where
+    at : (b : Bool) → nests g.query g.segment ≡ b → cond b (Ok tt) (Err NotNested) ≡ Ok u → nests g.query g.segment ≡ true
+    at true f e = f
+    at false f e = cc
 
 -- ---- the whole
 
@@ -234,6 +267,7 @@ IsWellFormed-spec_of bytes s e =
     through _ (dimensions_of d) _ s e (λ dimensions dimensions_read e.
     through _ (metrics_of d) _ s e (λ metrics metrics_read e.
     through _ (granularity_of d) _ s e (λ granularity granularity_read e.
+    through _ (nested granularity) _ s e (λ nesting nesting_read e.
     through _ (no_transform (field (codes "transformSpec") d)) _ s e (λ transform _ e.
     through _ (distinct_names (column_names dimensions metrics)) _ s e (λ distinct distinct_read e.
     through _ (few_columns dimensions metrics) _ s e (λ few few_read e.
@@ -249,7 +283,9 @@ IsWellFormed-spec_of bytes s e =
       few_dimensions = counts.0;
       few_metrics = counts.1;
       fields = HasItsField-metrics_of d metrics metrics_read;
-      segment_kind = kinds.0;
+      segment_kind = chunk_length_is_not_all granularity.segment kinds.0;
       query_kind = kinds.1;
+      chunk_length = kinds.0;
+      nests_in = nests_in granularity nesting nesting_read;
       limits = AreInRange-limits_of spec limits (Ok-passed (λ f. Base f) (limits_of spec) limits limits_read);
-    }))))))))))))))
+    })))))))))))))))

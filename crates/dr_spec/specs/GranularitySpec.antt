@@ -1,56 +1,65 @@
 -- The section `granularitySpec` (Apache Druid documentation, ingestion spec and query granularities).
-use Rattle.std.specs.Prelude.{ℕ, List, [], ◌∷◌, ◌&&◌, Bool, true, false, codes, Option, Some, None, is_none, Result, Ok, Err, if◌then◌else◌}
+use Rattle.std.specs.Prelude.{ℕ, List, [], ◌∷◌, Bool, true, false, not, codes, Option, Some, None, Result, Ok, Err, if◌then◌else◌}
 use Rattle.std.specs.Str.{str_eq_ignore_ascii_case}
 use Rattle.serde_json.specs.Data.{Data, null, boolean, number, string, array, object}
 use Rattle.dr_gran.specs.declared.gran.Gran.{Gran}
-use Rattle.dr_gran.specs.declared.gran.Gran.TheVariants.{Millisecond, Day}
+use Rattle.dr_gran.specs.declared.gran.Gran.TheVariants.{AllTime, Millisecond, Day}
+use Rattle.dr_gran.specs.declared.gran_error.GranError.TheVariants.{UnsupportedGranularity}
+use Rattle.dr_gran.specs.Step.{is_all}
+use Rattle.dr_gran.specs.Nesting.{nests}
+use Rattle.dr_gran.specs.Reading.{gran_of}
 use Rattle.dr_base.specs.Reading.{◌>>=◌, passed}
 use Rattle.dr_base.specs.Fields.{field}
-use Rattle.dr_base.specs.Unlisted.{unlisted}
 use Rattle.dr_spec.specs.declared.spec_error.SpecError.{SpecError}
-use Rattle.dr_spec.specs.declared.spec_error.SpecError.TheVariants.{Base, Unsupported}
+use Rattle.dr_spec.specs.declared.spec_error.SpecError.TheVariants.{Base, Granularity, NotNested, Unsupported}
 use Rattle.dr_spec.specs.declared.granularity_spec.GranularitySpec.{GranularitySpec}
 use Rattle.dr_spec.specs.Sections.{section, field_in, text_or, bool_or}
 
--- the value is that word, in any case of its ASCII letters
-abbrev pub is_word : List ℕ → Data → Bool
-is_word word null = false
-is_word word (boolean b) = false
-is_word word (number n) = false
-is_word word (string s) = str_eq_ignore_ascii_case s word
-is_word word (array ds) = false
-is_word word (object ms) = false
+abbrev pub text_of : Option Data → List ℕ
+text_of None = []
+text_of (Some null) = []
+text_of (Some (boolean b)) = []
+text_of (Some (number n)) = []
+text_of (Some (string s)) = s
+text_of (Some (array ds)) = []
+text_of (Some (object ms)) = []
 
-abbrev pub is_word_in : List ℕ → Option Data → Bool
-is_word_in word None = false
-is_word_in word (Some d) = is_word word d
+-- the name of a granularity as it is written: a text, or the `type` of an object
+abbrev pub written_name : Data → List ℕ
+written_name null = []
+written_name (boolean b) = []
+written_name (number n) = []
+written_name (string s) = s
+written_name (array ds) = []
+written_name (object ms) = text_of (field (codes "type") (object ms))
 
--- the value is that word, or an object of that type with no other key that asks for something
-abbrev pub is_word_or_type : List ℕ → Data → Bool
-is_word_or_type word null = false
-is_word_or_type word (boolean b) = false
-is_word_or_type word (number n) = false
-is_word_or_type word (string s) = str_eq_ignore_ascii_case s word
-is_word_or_type word (array ds) = false
-is_word_or_type word (object ms) = is_word_in word (field (codes "type") (object ms)) && is_none (unlisted (codes "type" ∷ []) ms)
+-- a chunk is as long as a second up to a year
+abbrev pub is_chunk_length : Gran → Bool
+is_chunk_length AllTime = false
+is_chunk_length Millisecond = false
+is_chunk_length _ = true
+
+-- a granularity that is supported where it stands, or the refusal of its name
+abbrev pub if_supported : Bool → Gran → Data → Result Gran SpecError
+if_supported supported g d = if supported then Ok g else Err (Granularity (UnsupportedGranularity (written_name d)))
+
+-- chunks of a day, where nothing else is said
+unfoldable pub segment_granularity_of : Option Data → Result Gran SpecError
+segment_granularity_of None = Ok Day
+segment_granularity_of (Some d) = do
+  g ← passed Granularity (gran_of d)
+  if_supported (is_chunk_length g) g d
+
+-- times are truncated to all but the one bucket of all times; to a millisecond, where nothing else is said
+unfoldable pub query_granularity_of : Option Data → Result Gran SpecError
+query_granularity_of None = Ok Millisecond
+query_granularity_of (Some d) = do
+  g ← passed Granularity (gran_of d)
+  if_supported (not (is_all g)) g d
 
 -- uniform chunks alone
 abbrev pub uniform : List ℕ → Result (Unit {0}) SpecError
 uniform type = if str_eq_ignore_ascii_case type (codes "uniform") then Ok tt else Err (Unsupported type)
-
--- chunks of a day alone are supported so far
-unfoldable pub segment_granularity_of : Option Data → Result Gran SpecError
-segment_granularity_of None = Ok Day
-segment_granularity_of (Some d) = if is_word (codes "day") d then Ok Day else Err (Unsupported (codes "segmentGranularity"))
-
--- times are not truncated so far
-unfoldable pub query_granularity_of : Option Data → Result Gran SpecError
-query_granularity_of None = Ok Millisecond
-query_granularity_of (Some d) = if is_word_or_type (codes "none") d then Ok Millisecond else Err (Unsupported (codes "queryGranularity"))
-
--- rows are always rolled up so far
-abbrev pub rolled_up : Bool → Result Bool SpecError
-rolled_up rollup = if rollup then Ok true else Err (Unsupported (codes "rollup"))
 
 unfoldable pub granularity_of : Data → Result GranularitySpec SpecError
 granularity_of d = do
@@ -59,9 +68,12 @@ granularity_of d = do
   supported ← uniform type
   segment ← segment_granularity_of (field_in (codes "segmentGranularity") s)
   query ← query_granularity_of (field_in (codes "queryGranularity") s)
-  given ← passed Base (bool_or (codes "rollup") true s)
-  rollup ← rolled_up given
+  rollup ← passed Base (bool_or (codes "rollup") true s)
   Ok (record { segment = segment; query = query; rollup = rollup })
+
+-- each bucket of the query granularity lies in one chunk
+abbrev pub nested : GranularitySpec → Result (Unit {0}) SpecError
+nested g = if nests g.query g.segment then Ok tt else Err NotNested
 
 -- its keys
 abbrev pub granularity_keys : List (List ℕ)

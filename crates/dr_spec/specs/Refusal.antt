@@ -1,17 +1,18 @@
 -- The numbers, names and arguments of the refusals of this crate.
 use Rattle.std.specs.Prelude.{ℕ, List, Bool, false, Option, Some, None, Result, codes}
 use Rattle.dr_base.specs.Refusal as base
+use Rattle.dr_gran.specs.Refusal as gran
 use Rattle.dr_base.specs.Reading.{FailsUnless, GivesUnless}
 use Rattle.dr_base.specs.declared.fault.Arg.{Arg}
 use Rattle.dr_base.specs.declared.fault.Arg.TheVariants.{Name}
 use Rattle.dr_spec.specs.declared.spec_error.SpecError.{SpecError}
-use Rattle.dr_spec.specs.declared.spec_error.SpecError.TheVariants.{Base, UnsupportedDimension, UnsupportedMetric, UnsupportedGranularity, NotNested, DuplicateName, NoDimensions, Unsupported, TooManyColumns}
+use Rattle.dr_spec.specs.declared.spec_error.SpecError.TheVariants.{Base, UnsupportedDimension, UnsupportedMetric, Granularity, NotNested, DuplicateName, NoDimensions, Unsupported, TooManyColumns}
 
 abbrev pub number_of : SpecError → ℕ
 number_of (Base e) = base.number_of e
 number_of (UnsupportedDimension type) = 20
 number_of (UnsupportedMetric type) = 21
-number_of (UnsupportedGranularity name) = 22
+number_of (Granularity e) = gran.number_of e
 number_of NotNested = 23
 number_of (DuplicateName name) = 24
 number_of NoDimensions = 25
@@ -22,7 +23,7 @@ abbrev pub name_of : SpecError → List ℕ
 name_of (Base e) = base.name_of e
 name_of (UnsupportedDimension type) = codes "UnsupportedDimension"
 name_of (UnsupportedMetric type) = codes "UnsupportedMetric"
-name_of (UnsupportedGranularity name) = codes "UnsupportedGranularity"
+name_of (Granularity e) = gran.name_of e
 name_of NotNested = codes "NotNested"
 name_of (DuplicateName name) = codes "DuplicateName"
 name_of NoDimensions = codes "NoDimensions"
@@ -34,7 +35,7 @@ abbrev pub arg_of : SpecError → Option Arg
 arg_of (Base e) = base.arg_of e
 arg_of (UnsupportedDimension type) = Some (Name type)
 arg_of (UnsupportedMetric type) = Some (Name type)
-arg_of (UnsupportedGranularity name) = Some (Name name)
+arg_of (Granularity e) = gran.arg_of e
 arg_of NotNested = None
 arg_of (DuplicateName name) = Some (Name name)
 arg_of NoDimensions = None
@@ -46,7 +47,7 @@ abbrev pub is_memory : SpecError → Bool
 is_memory (Base e) = base.is_memory e
 is_memory (UnsupportedDimension type) = false
 is_memory (UnsupportedMetric type) = false
-is_memory (UnsupportedGranularity name) = false
+is_memory (Granularity e) = gran.is_memory e
 is_memory NotNested = false
 is_memory (DuplicateName name) = false
 is_memory NoDimensions = false

@@ -13,7 +13,7 @@ use Rattle.dr_spec.specs.Leniency.{only_listed, only_listed_in}
 use Rattle.dr_spec.specs.TimestampSpec.{timestamp_of, timestamp_keys}
 use Rattle.dr_spec.specs.DimensionsSpec.{dimensions_of, dimensions_keys}
 use Rattle.dr_spec.specs.MetricsSpec.{metrics_of}
-use Rattle.dr_spec.specs.GranularitySpec.{granularity_of, granularity_keys}
+use Rattle.dr_spec.specs.GranularitySpec.{granularity_of, nested, granularity_keys}
 use Rattle.dr_spec.specs.Columns.{column_names, distinct_names, few_columns}
 use Rattle.dr_spec.specs.TuningConfig.{limits_of}
 
@@ -76,6 +76,7 @@ spec_of bytes = do
   dimensions ← dimensions_of d
   metrics ← metrics_of d
   granularity ← granularity_of d
+  nests ← nested granularity
   transform ← no_transform (field (codes "transformSpec") d)
   distinct ← distinct_names (column_names dimensions metrics)
   few ← few_columns dimensions metrics

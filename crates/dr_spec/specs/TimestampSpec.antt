@@ -5,13 +5,14 @@ use Rattle.dr_base.specs.Reading.{◌>>=◌, passed}
 use Rattle.dr_spec.specs.declared.spec_error.SpecError.{SpecError}
 use Rattle.dr_spec.specs.declared.spec_error.SpecError.TheVariants.{Base, Unsupported}
 use Rattle.dr_spec.specs.declared.time_format.TimeFormat.{TimeFormat}
-use Rattle.dr_spec.specs.declared.time_format.TimeFormat.TheVariants.{Iso}
+use Rattle.dr_spec.specs.declared.time_format.TimeFormat.TheVariants.{Iso, Millis, Posix, Auto}
 use Rattle.dr_spec.specs.declared.timestamp_spec.TimestampSpec.{TimestampSpec}
 use Rattle.dr_spec.specs.Sections.{section, text_or}
 
--- texts of ISO 8601 alone are read so far
+-- the format of a name
 unfoldable pub format_of : List ℕ → Result TimeFormat SpecError
-format_of name = if bytes_eq name (codes "iso") then Ok Iso else Err (Unsupported name)
+format_of name =
+    if bytes_eq name (codes "iso") then Ok Iso else (if bytes_eq name (codes "millis") then Ok Millis else (if bytes_eq name (codes "posix") then Ok Posix else (if bytes_eq name (codes "auto") then Ok Auto else Err (Unsupported name))))
 
 unfoldable pub timestamp_of : Data → Result TimestampSpec SpecError
 timestamp_of d = do

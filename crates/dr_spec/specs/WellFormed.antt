@@ -3,10 +3,12 @@ use Rattle.std.specs.Prelude.{◌≡◌, ◌≢◌, ◌≤◌, ℕ, List, length
 use Rattle.dr_agg.specs.declared.kind.Kind.{Kind}
 use Rattle.dr_agg.specs.declared.kind.Kind.TheVariants.{Count, LongSum, LongMin, LongMax}
 use Rattle.dr_gran.specs.Step.{is_all}
+use Rattle.dr_gran.specs.Nesting.{nests}
 use Rattle.dr_spec.specs.declared.limits.Limits.{Limits}
 use Rattle.dr_spec.specs.declared.metric.Metric.{Metric}
 use Rattle.dr_spec.specs.declared.schema.Schema.{Schema}
 use Rattle.dr_spec.specs.Columns.{column_names}
+use Rattle.dr_spec.specs.GranularitySpec.{is_chunk_length}
 
 -- no name stands twice, and none is that of the time
 pub record AreDistinct (names : List (List ℕ)) : Type 0 where
@@ -41,4 +43,6 @@ pub record IsWellFormed (s : Schema) : Type 0 where
   pub fields : All HasItsField s.metrics
   pub segment_kind : is_all s.segment_granularity ≡ false
   pub query_kind : is_all s.query_granularity ≡ false
+  pub chunk_length : is_chunk_length s.segment_granularity ≡ true
+  pub nests_in : nests s.query_granularity s.segment_granularity ≡ true
   pub limits : AreInRange s.limits

@@ -2,12 +2,12 @@ ghost use Rattle.std.specs.Prelude.{◌≡◌, option_map};
 ghost use Rattle.std.specs.Str.{str_eq_ignore_ascii_case};
 ghost use Rattle.serde_json.specs.View.{view};
 ghost use Rattle.dr_spec.specs.Refusal.{Gives};
-ghost use Rattle.dr_spec.specs.GranularitySpec.{is_word, is_word_or_type, uniform, segment_granularity_of, query_granularity_of, rolled_up, granularity_of};
+ghost use Rattle.dr_spec.specs.GranularitySpec.{text_of, written_name, is_chunk_length, if_supported, segment_granularity_of, query_granularity_of, uniform, granularity_of, nested};
 
 use crate::sections::{bool_or, field_in, section, text_or};
 use crate::spec_error::SpecError;
-use dr_base::{Text, field, first_unlisted};
-use dr_gran::Gran;
+use dr_base::{Text, field};
+use dr_gran::{Gran, GranError};
 use serde_json::Value;
 use std::alloc::Global;
 
@@ -20,7 +20,8 @@ pub struct GranularitySpec {
 }
 
 /// The section `granularitySpec` of a data schema. Refusals: 3 `WrongKind`, 26 `Unsupported` of a type other than
-/// `uniform`, and of `segmentGranularity`, `queryGranularity` and `rollup` where they are not day, none and true.
+/// `uniform`, and 22 `UnsupportedGranularity` of what is no granularity, of `all` and `none` as `segmentGranularity`, and of
+/// `all` as `queryGranularity`.
 #[tactic(auto, unfolding(crate::specs::GranularitySpec::granularity_of))]
 pub fn granularity(alloc: Global, value: &Value) -> Result<GranularitySpec, SpecError>
     ensures { Gives (λ g. g) result (granularity_of (view value.now)) }
@@ -29,12 +30,23 @@ pub fn granularity(alloc: Global, value: &Value) -> Result<GranularitySpec, Spec
     uniform(alloc, text_or(alloc, section, "type", "uniform")?)?;
     let segment = segment_granularity(alloc, field_in(section, "segmentGranularity"))?;
     let query = query_granularity(alloc, field_in(section, "queryGranularity"))?;
-    let rollup = rolled_up(alloc, bool_or(alloc, section, "rollup", true)?)?;
+    let rollup = bool_or(alloc, section, "rollup", true)?;
     Ok(GranularitySpec {
         segment,
         query,
         rollup,
     })
+}
+
+/// Each bucket of the query granularity lies in one chunk. Refusals: 23 `NotNested`.
+pub fn nested(granularity: GranularitySpec) -> Result<(), SpecError>
+    ensures { Gives (λ u. u) result (nested granularity) }
+{
+    if granularity.query.nests_in(granularity.segment) {
+        Ok(())
+    } else {
+        Err(SpecError::NotNested)
+    }
 }
 
 fn uniform(alloc: Global, name: &str) -> Result<(), SpecError>
@@ -47,69 +59,70 @@ fn uniform(alloc: Global, name: &str) -> Result<(), SpecError>
     }
 }
 
+fn equals_in_any_case(text: &str, word: &str) -> bool
+    ensures { result ≡ str_eq_ignore_ascii_case text.now word.now }
+{
+    text.eq_ignore_ascii_case(word)
+}
+
 #[tactic(auto, unfolding(crate::specs::GranularitySpec::segment_granularity_of))]
 fn segment_granularity(alloc: Global, value: Option<&Value>) -> Result<Gran, SpecError>
     ensures { Gives (λ g. g) result (segment_granularity_of (option_map (λ v. view v.now) value.entry)) }
 {
-    match value {
-        None => Ok(Gran::Day),
-        Some(value) => {
-            if is_word(value, "day") {
-                return Ok(Gran::Day);
-            }
-            Err(SpecError::Unsupported(Text::from_str(alloc, "segmentGranularity")?))
-        }
-    }
+    let Some(value) = value else {
+        return Ok(Gran::Day);
+    };
+    let gran = Gran::parse(alloc, value)?;
+    if_supported(alloc, is_chunk_length(gran), gran, value)
 }
 
 #[tactic(auto, unfolding(crate::specs::GranularitySpec::query_granularity_of))]
 fn query_granularity(alloc: Global, value: Option<&Value>) -> Result<Gran, SpecError>
     ensures { Gives (λ g. g) result (query_granularity_of (option_map (λ v. view v.now) value.entry)) }
 {
-    match value {
-        None => Ok(Gran::Millisecond),
-        Some(value) => {
-            if is_word_or_type(value, "none") {
-                return Ok(Gran::Millisecond);
-            }
-            Err(SpecError::Unsupported(Text::from_str(alloc, "queryGranularity")?))
-        }
-    }
+    let Some(value) = value else {
+        return Ok(Gran::Millisecond);
+    };
+    let gran = Gran::parse(alloc, value)?;
+    if_supported(alloc, !gran.is_all(), gran, value)
 }
 
-fn rolled_up(alloc: Global, rollup: bool) -> Result<bool, SpecError>
-    ensures { Gives (λ b. b) result (rolled_up rollup) }
+fn is_chunk_length(gran: Gran) -> bool
+    ensures { result ≡ is_chunk_length gran }
 {
-    if rollup {
-        Ok(true)
-    } else {
-        Err(SpecError::Unsupported(Text::from_str(alloc, "rollup")?))
-    }
+    !matches!(gran, Gran::AllTime | Gran::Millisecond)
 }
 
-fn is_word(value: &Value, word: &str) -> bool
-    ensures { result ≡ is_word word.now (view value.now) }
+fn if_supported(
+    alloc: Global,
+    is_supported: bool,
+    gran: Gran,
+    value: &Value,
+) -> Result<Gran, SpecError>
+    ensures { Gives (λ g. g) result (if_supported is_supported gran (view value.now)) }
 {
-    match value {
-        Value::String(text) => equals_in_any_case(text.as_str(), word),
-        _ => false,
+    if is_supported {
+        return Ok(gran);
     }
+    let name = Text::from_str(alloc, written_name(value))?;
+    Err(SpecError::Granularity(GranError::UnsupportedGranularity(name)))
 }
 
-fn is_word_or_type(value: &Value, word: &str) -> bool
-    ensures { result ≡ is_word_or_type word.now (view value.now) }
+fn written_name(value: &Value) -> &str
+    ensures { result.now ≡ written_name (view value.now) }
 {
     match value {
-        Value::Object(members) => match field(value, "type") {
-            Some(name) => is_word(name, word) && first_unlisted(members, &["type"]).is_none(),
-            None => false,
-        },
-        _ => is_word(value, word),
+        Value::String(name) => name.as_str(),
+        Value::Object(_) => text_of(field(value, "type")),
+        _ => "",
     }
 }
 
-fn equals_in_any_case(text: &str, word: &str) -> bool
-    ensures { result ≡ str_eq_ignore_ascii_case text.now word.now }
+fn text_of(value: Option<&Value>) -> &str
+    ensures { result.now ≡ text_of (option_map (λ v. view v.now) value.entry) }
 {
-    text.eq_ignore_ascii_case(word)
+    match value {
+        Some(Value::String(text)) => text.as_str(),
+        _ => "",
+    }
 }

@@ -10,7 +10,7 @@ use std::marker::Model;
 
 /// An ingestion spec that was read (Apache Druid documentation, ingestion spec). A contract sees its schema, which is well
 /// formed: the names of the columns are distinct, there are 1 to 64 dimensions and at most 64 metrics, each metric but a
-/// count reads a field, and each limit is in its range.
+/// count reads a field, the query granularity nests in the segment granularity, and each limit is in its range.
 #[derive(Debug)]
 pub struct IngestSpec {
     schema: Schema,
@@ -42,9 +42,9 @@ impl IngestSpec {
     /// field that is null counts as absent, and a key that is not listed is taken only with null, false, `[]` or `{}`.
     ///
     /// Refusals, the first that is met in the order of `dataSource`, `timestampSpec`, `dimensionsSpec`, `metricsSpec`,
-    /// `granularitySpec`, `transformSpec`, the names of the columns, their number, unlisted keys and `tuningConfig`: 0
-    /// `NoMemory`, 1 `NotJson`, 2 `Missing`, 3 `WrongKind`, 20 `UnsupportedDimension`, 21 `UnsupportedMetric`, 24
-    /// `DuplicateName`, 25 `NoDimensions`, 26 `Unsupported`, 27 `TooManyColumns`.
+    /// `granularitySpec`, nesting, `transformSpec`, the names of the columns, their number, unlisted keys and `tuningConfig`:
+    /// 0 `NoMemory`, 1 `NotJson`, 2 `Missing`, 3 `WrongKind`, 20 `UnsupportedDimension`, 21 `UnsupportedMetric`, 22
+    /// `UnsupportedGranularity`, 23 `NotNested`, 24 `DuplicateName`, 25 `NoDimensions`, 26 `Unsupported`, 27 `TooManyColumns`.
     pub fn parse(alloc: Global, bytes: &[u8]) -> Result<IngestSpec, SpecError>
         ensures { Gives (λ schema. schema) result (spec_of bytes.now) }
     {

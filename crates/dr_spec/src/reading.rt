@@ -5,7 +5,7 @@ ghost use Rattle.dr_spec.specs.SpecOf.{inner_of, data_schema_of, source_of, is_e
 
 use crate::columns::{distinct_columns, few_columns};
 use crate::dimensions_spec::dimensions;
-use crate::granularity_spec::granularity;
+use crate::granularity_spec::{granularity, nested};
 use crate::leniency::{only_listed, only_listed_in};
 use crate::metrics_spec::metrics;
 use crate::schema::Schema;
@@ -30,6 +30,7 @@ pub fn read_schema(alloc: Global, bytes: &[u8]) -> Result<Schema, SpecError>
     let dimensions = dimensions(alloc, value)?;
     let metrics = metrics(alloc, value)?;
     let granularity = granularity(alloc, value)?;
+    nested(granularity)?;
     no_transform(alloc, field(value, "transformSpec"))?;
     distinct_columns(alloc, &dimensions, &metrics)?;
     few_columns(&dimensions, &metrics)?;

@@ -1,9 +1,10 @@
 ghost use Rattle.std.specs.Prelude.{◌≡◌};
 ghost use Rattle.dr_base.specs.declared.base_error.BaseError.TheVariants.{NoMemory};
-ghost use Rattle.dr_spec.specs.declared.spec_error.SpecError.TheVariants.{Base};
+ghost use Rattle.dr_spec.specs.declared.spec_error.SpecError.TheVariants.{Base, Granularity};
 ghost use Rattle.dr_spec.specs.Refusal.{number_of, name_of, arg_of};
 
 use dr_base::{Arg, BaseError, Text};
+use dr_gran::GranError;
 use std::alloc::{AllocError, AllocFailed};
 use thiserror::Error;
 
@@ -19,9 +20,9 @@ pub enum SpecError {
     /// 21: metrics of that type are not supported.
     #[error("metrics of type {0} are not supported")]
     UnsupportedMetric(Text),
-    /// 22: that granularity is not supported there.
-    #[error("granularity {0} is not supported")]
-    UnsupportedGranularity(Text),
+    /// 22: a value is no granularity, or one that is not supported there.
+    #[error(transparent)]
+    Granularity(GranError),
     /// 23: the buckets of the query granularity do not nest in those of the segment granularity.
     #[error("the query granularity does not nest in the segment granularity")]
     NotNested,
@@ -48,7 +49,7 @@ impl SpecError {
             SpecError::Base(error) => error.number(),
             SpecError::UnsupportedDimension(_) => 20,
             SpecError::UnsupportedMetric(_) => 21,
-            SpecError::UnsupportedGranularity(_) => 22,
+            SpecError::Granularity(error) => error.number(),
             SpecError::NotNested => 23,
             SpecError::DuplicateName(_) => 24,
             SpecError::NoDimensions => 25,
@@ -65,7 +66,7 @@ impl SpecError {
             SpecError::Base(error) => error.name(),
             SpecError::UnsupportedDimension(_) => "UnsupportedDimension",
             SpecError::UnsupportedMetric(_) => "UnsupportedMetric",
-            SpecError::UnsupportedGranularity(_) => "UnsupportedGranularity",
+            SpecError::Granularity(error) => error.name(),
             SpecError::NotNested => "NotNested",
             SpecError::DuplicateName(_) => "DuplicateName",
             SpecError::NoDimensions => "NoDimensions",
@@ -80,9 +81,9 @@ impl SpecError {
     {
         match self {
             SpecError::Base(error) => error.arg(),
+            SpecError::Granularity(error) => error.arg(),
             SpecError::UnsupportedDimension(name)
             | SpecError::UnsupportedMetric(name)
-            | SpecError::UnsupportedGranularity(name)
             | SpecError::DuplicateName(name)
             | SpecError::Unsupported(name) => Some(Arg::Name(name)),
             SpecError::NotNested | SpecError::NoDimensions | SpecError::TooManyColumns => None,
@@ -95,6 +96,14 @@ impl From<BaseError> for SpecError {
 
     fn from(refusal: BaseError) -> SpecError {
         SpecError::Base(refusal)
+    }
+}
+
+impl From<GranError> for SpecError {
+    ghost from_gives = { λ error result. result ≡ Granularity error };
+
+    fn from(refusal: GranError) -> SpecError {
+        SpecError::Granularity(refusal)
     }
 }
 

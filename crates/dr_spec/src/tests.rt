@@ -9,17 +9,48 @@ const SCHEMAS: &str =
 {"dataSchema":{"dataSource":"w","timestampSpec":{"format":"iso"},"dimensionsSpec":{"dimensions":["page"]}}} => Schema { data_source: Text("w"), time_column: Text("timestamp"), time_format: Iso, dimensions: Texts([Text("page")]), metrics: Metrics([]), segment_granularity: Day, query_granularity: Millisecond, rollup: true, limits: Limits { max_rows_in_memory: 1000, max_retained: 1048576, max_commits: 4294967295, max_image_bytes: 1073741824 } }
 {"spec":null,"dataSchema":{"dataSource":"w","timestampSpec":{"format":"iso","column":null},"dimensionsSpec":{"dimensions":[{"type":null,"name":"page"}]},"metricsSpec":null,"granularitySpec":null,"transformSpec":null},"tuningConfig":null} => Schema { data_source: Text("w"), time_column: Text("timestamp"), time_format: Iso, dimensions: Texts([Text("page")]), metrics: Metrics([]), segment_granularity: Day, query_granularity: Millisecond, rollup: true, limits: Limits { max_rows_in_memory: 1000, max_retained: 1048576, max_commits: 4294967295, max_image_bytes: 1073741824 } }
 {"type":1,"spec":{"ioConfig":2,"dataSchema":{"dataSource":"w","timestampSpec":{"format":"iso"},"dimensionsSpec":{"dimensions":["page"]},"metricsSpec":[],"granularitySpec":{"type":null,"segmentGranularity":null,"queryGranularity":null,"rollup":null},"transformSpec":{}},"tuningConfig":{"type":"kafka","maxRowsInMemory":null,"maxRetained":null,"maxCommits":null,"maxImageBytes":null}}} => Schema { data_source: Text("w"), time_column: Text("timestamp"), time_format: Iso, dimensions: Texts([Text("page")]), metrics: Metrics([]), segment_granularity: Day, query_granularity: Millisecond, rollup: true, limits: Limits { max_rows_in_memory: 1000, max_retained: 1048576, max_commits: 4294967295, max_image_bytes: 1073741824 } }
-{"dataSchema":{"dataSource":"w","timestampSpec":{"format":"iso"},"dimensionsSpec":{"dimensions":[{"name":"page","multiValueHandling":9}]},"granularitySpec":{"type":"UniForm","segmentGranularity":"DAY","queryGranularity":{"type":"None","duration":null},"rollup":true}},"tuningConfig":{"maxRowsInMemory":1000}} => Schema { data_source: Text("w"), time_column: Text("timestamp"), time_format: Iso, dimensions: Texts([Text("page")]), metrics: Metrics([]), segment_granularity: Day, query_granularity: Millisecond, rollup: true, limits: Limits { max_rows_in_memory: 1000, max_retained: 1048576, max_commits: 4294967295, max_image_bytes: 1073741824 } }"#;
+{"dataSchema":{"dataSource":"w","timestampSpec":{"format":"iso"},"dimensionsSpec":{"dimensions":[{"name":"page","multiValueHandling":9}]},"granularitySpec":{"type":"UniForm","segmentGranularity":"DAY","queryGranularity":{"type":"None","duration":null},"rollup":true}},"tuningConfig":{"maxRowsInMemory":1000}} => Schema { data_source: Text("w"), time_column: Text("timestamp"), time_format: Iso, dimensions: Texts([Text("page")]), metrics: Metrics([]), segment_granularity: Day, query_granularity: Millisecond, rollup: true, limits: Limits { max_rows_in_memory: 1000, max_retained: 1048576, max_commits: 4294967295, max_image_bytes: 1073741824 } }
+{"dataSchema":{"dataSource":"w","dimensionsSpec":{"dimensions":["page"]}}} => Schema { data_source: Text("w"), time_column: Text("timestamp"), time_format: Auto, dimensions: Texts([Text("page")]), metrics: Metrics([]), segment_granularity: Day, query_granularity: Millisecond, rollup: true, limits: Limits { max_rows_in_memory: 1000, max_retained: 1048576, max_commits: 4294967295, max_image_bytes: 1073741824 } }
+{"dataSchema":{"dataSource":"w","timestampSpec":{"column":null,"format":null},"dimensionsSpec":{"dimensions":["page"]},"granularitySpec":{"segmentGranularity":"Quarter","rollup":false}}} => Schema { data_source: Text("w"), time_column: Text("timestamp"), time_format: Auto, dimensions: Texts([Text("page")]), metrics: Metrics([]), segment_granularity: Quarter, query_granularity: Millisecond, rollup: false, limits: Limits { max_rows_in_memory: 1000, max_retained: 1048576, max_commits: 4294967295, max_image_bytes: 1073741824 } }
+{"spec":{"dataSchema":{"dataSource":"w","timestampSpec":{"column":"","format":"posix"},"dimensionsSpec":{"dimensions":["page"]},"granularitySpec":{"queryGranularity":"hour","rollup":true}}},"dataSchema":7,"tuningConfig":7} => Schema { data_source: Text("w"), time_column: Text(""), time_format: Posix, dimensions: Texts([Text("page")]), metrics: Metrics([]), segment_granularity: Day, query_granularity: Hour, rollup: true, limits: Limits { max_rows_in_memory: 1000, max_retained: 1048576, max_commits: 4294967295, max_image_bytes: 1073741824 } }
+{"dataSchema":{"dataSource":"v","dataSource":"w","timestampSpec":{"column":"t","format":"millis"},"dimensionsSpec":{"dimensions":["page"]},"granularitySpec":{"segmentGranularity":"SIX_hour","queryGranularity":"THIRTY_MINUTE"}}} => Schema { data_source: Text("w"), time_column: Text("t"), time_format: Millis, dimensions: Texts([Text("page")]), metrics: Metrics([]), segment_granularity: SixHour, query_granularity: ThirtyMinute, rollup: true, limits: Limits { max_rows_in_memory: 1000, max_retained: 1048576, max_commits: 4294967295, max_image_bytes: 1073741824 } }"#;
 
-const NOT_SUPPORTED: &str = r#""timestampSpec":{"column":"t"} => refused 26 Unsupported "auto"
-"timestampSpec":{"column":"t","format":"millis"} => refused 26 Unsupported "millis"
-"timestampSpec":null => refused 26 Unsupported "auto"
-"granularitySpec":{"segmentGranularity":"day","queryGranularity":"hour"} => refused 26 Unsupported "queryGranularity"
-"granularitySpec":{"segmentGranularity":"month","queryGranularity":"none"} => refused 26 Unsupported "segmentGranularity"
-"granularitySpec":{"segmentGranularity":"day","queryGranularity":"none","rollup":false} => refused 26 Unsupported "rollup"
-"granularitySpec":{"segmentGranularity":7} => refused 26 Unsupported "segmentGranularity"
+const TIMES: &str = r#""timestampSpec":{"format":"auto"} => spec ok
+"timestampSpec":{"format":"iso"} => spec ok
+"timestampSpec":{"format":"millis"} => spec ok
+"timestampSpec":{"format":"posix"} => spec ok
+"timestampSpec":{"format":"ISO"} => refused 26 Unsupported "ISO"
+"timestampSpec":{"format":"ruby"} => refused 26 Unsupported "ruby"
+"timestampSpec":{"format":""} => refused 26 Unsupported ""
 "granularitySpec":{"type":"arbitrary"} => refused 26 Unsupported "arbitrary"
+"granularitySpec":{"type":"UNIFORM"} => spec ok
+"granularitySpec":{"type":"","segmentGranularity":"all"} => refused 26 Unsupported ""
+"granularitySpec":{"segmentGranularity":"ALL"} => refused 22 UnsupportedGranularity "ALL"
+"granularitySpec":{"segmentGranularity":"none"} => refused 22 UnsupportedGranularity "none"
+"granularitySpec":{"segmentGranularity":{"type":"None"}} => refused 22 UnsupportedGranularity "None"
+"granularitySpec":{"segmentGranularity":{"type":"day"}} => refused 22 UnsupportedGranularity "day"
+"granularitySpec":{"segmentGranularity":{"type":7}} => refused 22 UnsupportedGranularity "granularity"
+"granularitySpec":{"segmentGranularity":7} => refused 22 UnsupportedGranularity "granularity"
+"granularitySpec":{"segmentGranularity":"fortnight"} => refused 22 UnsupportedGranularity "fortnight"
+"granularitySpec":{"segmentGranularity":"none","queryGranularity":"all"} => refused 22 UnsupportedGranularity "none"
+"granularitySpec":{"queryGranularity":"All"} => refused 22 UnsupportedGranularity "All"
+"granularitySpec":{"queryGranularity":{"type":"all"}} => refused 22 UnsupportedGranularity "all"
+"granularitySpec":{"queryGranularity":{"type":"nOne","x":[]}} => spec ok
+"granularitySpec":{"queryGranularity":{"type":"none","x":1}} => refused 22 UnsupportedGranularity "none"
+"granularitySpec":{"queryGranularity":[]} => refused 22 UnsupportedGranularity "granularity"
+"granularitySpec":{"queryGranularity":"all","rollup":1} => refused 22 UnsupportedGranularity "all"
+"granularitySpec":{"rollup":"true"} => refused 3 WrongKind "rollup"
+"granularitySpec":{"rollup":0} => refused 3 WrongKind "rollup"
+"granularitySpec":{"rollup":false} => spec ok
+"granularitySpec":{"segmentGranularity":"fifteen_minute","queryGranularity":"ten_minute"} => refused 23 NotNested
+"granularitySpec":{"segmentGranularity":"thirty_minute","queryGranularity":"ten_minute"} => spec ok
+"granularitySpec":{"segmentGranularity":"month","queryGranularity":"week"} => refused 23 NotNested
+"granularitySpec":{"segmentGranularity":"month","queryGranularity":"day"} => spec ok
+"granularitySpec":{"segmentGranularity":"hour"} => spec ok
+"granularitySpec":{"queryGranularity":"day"} => spec ok
+"granularitySpec":{"queryGranularity":"week"} => refused 23 NotNested
 "transformSpec":[] => refused 26 Unsupported "transformSpec"
+"transformSpec":false => refused 26 Unsupported "transformSpec"
 "transformSpec":{"transforms":[]} => refused 26 Unsupported "transformSpec""#;
 
 const WHOLE_TEXTS: &str = r#" => refused 1 NotJson
@@ -58,7 +89,6 @@ const FAULTS: &str = r#""timestampSpec":[] => refused 3 WrongKind "timestampSpec
 "granularitySpec":"day" => refused 3 WrongKind "granularitySpec"
 "granularitySpec":{"type":1} => refused 3 WrongKind "type"
 "granularitySpec":{"rollup":1} => refused 3 WrongKind "rollup"
-"granularitySpec":{"queryGranularity":{"type":"none","x":1}} => refused 26 Unsupported "queryGranularity"
 "metricsSpec":[{"type":"count","name":"__time"}] => refused 24 DuplicateName "__time"
 "dimensionsSpec":{"dimensions":["__time"]} => refused 24 DuplicateName "__time"
 "dimensionsSpec":{"dimensions":["b","b"]} => refused 24 DuplicateName "b"
@@ -71,19 +101,21 @@ const FAULTS: &str = r#""timestampSpec":[] => refused 3 WrongKind "timestampSpec
 "a":null},"tuningConfig":{"maxRowsInMemory":1.0 => refused 3 WrongKind "maxRowsInMemory"
 "a":null},"tuningConfig":{"maxRetained":-1 => refused 3 WrongKind "maxRetained""#;
 
-const TWO_FAULTS: &str =
-    r#""timestampSpec":{"format":"posix"},"dimensionsSpec":{} => refused 26 Unsupported "posix"
+const TWO_FAULTS: &str = r#""dataSource":"","timestampSpec":7 => refused 3 WrongKind "dataSource"
+"timestampSpec":{"format":"nano"},"dimensionsSpec":{} => refused 26 Unsupported "nano"
 "dimensionsSpec":{},"metricsSpec":7 => refused 25 NoDimensions
 "metricsSpec":7,"granularitySpec":7 => refused 3 WrongKind "metricsSpec"
-"granularitySpec":{"rollup":false},"transformSpec":7 => refused 26 Unsupported "rollup"
+"granularitySpec":{"segmentGranularity":"hour","queryGranularity":"day","rollup":7} => refused 3 WrongKind "rollup"
+"granularitySpec":{"segmentGranularity":"hour","queryGranularity":"day"},"transformSpec":7 => refused 23 NotNested
 "transformSpec":7,"dimensionsSpec":{"dimensions":["a","a"]} => refused 26 Unsupported "transformSpec"
 "dimensionsSpec":{"dimensions":["a","a"]},"x":1 => refused 24 DuplicateName "a"
 "x":1,"timestampSpec":{"format":"iso","a":1} => refused 26 Unsupported "x"
 "timestampSpec":{"format":"iso","x":1},"dimensionsSpec":{"dimensions":["a"],"a":1} => refused 26 Unsupported "x"
 "dimensionsSpec":{"dimensions":["a"],"x":1},"granularitySpec":{"a":1} => refused 26 Unsupported "x"
 "granularitySpec":{"x":1}},"tuningConfig":{"maxCommits":0 => refused 26 Unsupported "x"
-"a":null},"tuningConfig":{"maxCommits":0,"maxImageBytes":0 => refused 3 WrongKind "maxCommits"
-"granularitySpec":{"segmentGranularity":"hour","queryGranularity":"day"} => refused 26 Unsupported "segmentGranularity""#;
+"a":null},"tuningConfig":{"maxRowsInMemory":0,"maxRetained":0 => refused 3 WrongKind "maxRowsInMemory"
+"a":null},"tuningConfig":{"maxRetained":0,"maxCommits":0 => refused 3 WrongKind "maxRetained"
+"a":null},"tuningConfig":{"maxCommits":0,"maxImageBytes":0 => refused 3 WrongKind "maxCommits""#;
 
 /// What the program answers to a spec line.
 fn outcome(alloc: Global, bytes: &[u8]) -> Result<String, Fail> {
@@ -140,9 +172,9 @@ fn reads_schemas(rt: HostRuntime) -> Result<(), Fail> {
 }
 
 #[test]
-fn refuses_what_is_not_supported_yet(rt: HostRuntime) -> Result<(), Fail> {
+fn reads_formats_and_granularities(rt: HostRuntime) -> Result<(), Fail> {
     let alloc = rt.alloc();
-    for line in NOT_SUPPORTED.lines() {
+    for line in TIMES.lines() {
         let Some((sections, wanted)) = line.split_once(" => ") else {
             panic!(rt; "{line}");
         };
@@ -151,6 +183,56 @@ fn refuses_what_is_not_supported_yet(rt: HostRuntime) -> Result<(), Fail> {
             wanted,
             "{sections}"
         );
+    }
+    Ok(())
+}
+
+#[test]
+fn takes_each_chunk_length(rt: HostRuntime) -> Result<(), Fail> {
+    let alloc = rt.alloc();
+    for name in [
+        "second",
+        "minute",
+        "five_minute",
+        "ten_minute",
+        "fifteen_minute",
+        "thirty_minute",
+        "hour",
+        "six_hour",
+        "eight_hour",
+        "day",
+        "week",
+        "month",
+        "quarter",
+        "year",
+    ] {
+        for query in ["none", "second", name] {
+            let sections = format!(in alloc;
+                r#""granularitySpec":{{"segmentGranularity":"{name}","queryGranularity":"{query}"}}"#
+            )?;
+            assert_eq!(rt;
+                outcome_with(alloc, sections.as_str())?.as_str(),
+                "spec ok",
+                "{sections}"
+            );
+        }
+    }
+    Ok(())
+}
+
+#[test]
+fn nests_127_deep(rt: HostRuntime) -> Result<(), Fail> {
+    let alloc = rt.alloc();
+    // The outermost object counts.
+    for (lists, wanted) in [(126, "spec ok"), (127, "refused 1 NotJson")] {
+        let mut sections = String::from_str(alloc, r#""a":null},"ioConfig":"#)?;
+        for bracket in ["[", "]"] {
+            for _ in 0..lists {
+                sections.push_str(bracket)?;
+            }
+        }
+        sections.push_str(r#","tuningConfig":{"#)?;
+        assert_eq!(rt; outcome_with(alloc, sections.as_str())?.as_str(), wanted);
     }
     Ok(())
 }

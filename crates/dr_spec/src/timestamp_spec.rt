@@ -16,7 +16,8 @@ pub struct TimestampSpec {
     pub format: TimeFormat,
 }
 
-/// The section `timestampSpec` of a data schema. Refusals: 3 `WrongKind`, and 26 `Unsupported` of the format.
+/// The section `timestampSpec` of a data schema. Refusals: 3 `WrongKind`, and 26 `Unsupported` of a format that is none of
+/// `iso`, `millis`, `posix` and `auto`.
 #[tactic(auto, unfolding(crate::specs::TimestampSpec::timestamp_of))]
 pub fn timestamp(alloc: Global, value: &Value) -> Result<TimestampSpec, SpecError>
     ensures { Gives (λ t. t) result (timestamp_of (view value.now)) }
@@ -35,9 +36,11 @@ pub fn timestamp(alloc: Global, value: &Value) -> Result<TimestampSpec, SpecErro
 fn time_format(alloc: Global, name: &str) -> Result<TimeFormat, SpecError>
     ensures { Gives (λ f. f) result (format_of name.now) }
 {
-    if name == "iso" {
-        Ok(TimeFormat::Iso)
-    } else {
-        Err(SpecError::Unsupported(Text::from_str(alloc, name)?))
+    match name {
+        "iso" => Ok(TimeFormat::Iso),
+        "millis" => Ok(TimeFormat::Millis),
+        "posix" => Ok(TimeFormat::Posix),
+        "auto" => Ok(TimeFormat::Auto),
+        _ => Err(SpecError::Unsupported(Text::from_str(alloc, name)?)),
     }
 }

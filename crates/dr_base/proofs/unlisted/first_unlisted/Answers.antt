@@ -1,8 +1,4 @@
-use Rattle.std.proofs.Common.{◌≡◌, ◌∙◌, sym, ap, true, false, ◌||◌, bytes_eq, Some}
-use Rattle.std.specs.List.{list_any}
-use Rattle.std.specs.Prelude.{string_bytes}
-use Rattle.serde_json.specs.View.{view}
-use Rattle.dr_base.specs.Unlisted.{is_lenient}
+use Rattle.std.proofs.Common.{◌∙◌, sym}
 use Rattle.dr_base.proofs.UnlistedKeys.{unlisted-passes, unlisted-stops, unlisted-ends}
 use Rattle.dr_base.proofs.unlisted.first_unlisted.Goals as goal
 
