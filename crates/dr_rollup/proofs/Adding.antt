@@ -128,7 +128,7 @@ module _ (s : Schema) (ks : List Kind) (limit : ℕ) (ds : List Dictionary) (c :
               count = same ∙ h.count;
               coded_count = count ∙ sym same;
               sound = subst (λ l. IsSound ks limit s.rollup l (entries_of next)) (sym is_more) (subst (IsSound ks limit s.rollup (with_values ds e.dims)) (sym after)
-              (sound-added ks limit s.rollup ds (entries_of en) h.sound k (contributions ks e.inputs) e.dims dims is new_keys lt (length-contributions ks e.inputs)));
+                  (sound-added ks limit s.rollup ds (entries_of en) h.sound k (contributions ks e.inputs) e.dims dims is new_keys lt (length-contributions ks e.inputs)));
             }
           where
             length_with : (l : List Dictionary) (ts : List (List ℕ)) → length (with_values l ts) ≡ length l

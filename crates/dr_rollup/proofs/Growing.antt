@@ -170,8 +170,8 @@ module _ (kinds : List Kind) (limit : ℕ) (combines : Bool) (ds : List Dictiona
     few = subst (λ n. AllByRecursion (λ d. length d.texts ≤ n) (with_values ds ts)) (sym (length_pushed es (k, m))) (still_few (length es) ds ts so.few);
     distinct = all_distinct ds ts so.distinct;
     numbers = all_pushed (λ e. AreNumbers (with_values ds ts) e.0.numbers.items) es (k, m)
-    (all_implied (λ e. AreNumbers ds e.0.numbers.items) (λ e. AreNumbers (with_values ds ts) e.0.numbers.items) (λ e h. (texts-stay ds ts e.0.numbers.items h).0) es so.numbers)
-    (subst (AreNumbers (with_values ds ts)) (sym is) (numbers-within ds ts len));
+        (all_implied (λ e. AreNumbers ds e.0.numbers.items) (λ e. AreNumbers (with_values ds ts) e.0.numbers.items) (λ e h. (texts-stay ds ts e.0.numbers.items h).0) es so.numbers)
+        (subst (AreNumbers (with_values ds ts)) (sym is) (numbers-within ds ts len));
     fits = all_pushed (λ e. FitsColumns kinds e.1) es (k, m) so.fits fits;
     within = omega (arith, lt, length_pushed es (k, m));
     apart = apart_with;
@@ -201,10 +201,10 @@ equal_keys a b h = same_key a b (decided (key_cmp a b) h)
 pub new-by-value : (ds : List Dictionary) (es : List Entry) (k : Key) → AllByRecursion (λ e. AreNumbers ds e.0.numbers.items) es → all_known ds k.dims ≡ false → AllByRecursion (λ x. same_keys k (row_of ds x).key ≡ false) es
 new-by-value ds [] k all h = tt
 new-by-value ds (e ∷ es) k all h = (
-    elim (same_keys k (row_of ds e).key) as (λ b. same_keys k (row_of ds e).key ≡ b → b ≡ false)
-    [ true ↦ λ g. absurd (true≢false (sym (texts-known ds e.0.numbers.items k.dims all.0 (ap (λ j. j.dims) (sym (equal_keys k (row_of ds e).key g)))) ∙ h)) | false ↦ λ g. refl ]
-    refl,
-    new-by-value ds es k all.1 h,
+  elim (same_keys k (row_of ds e).key) as (λ b. same_keys k (row_of ds e).key ≡ b → b ≡ false)
+      [ true ↦ λ g. absurd (true≢false (sym (texts-known ds e.0.numbers.items k.dims all.0 (ap (λ j. j.dims) (sym (equal_keys k (row_of ds e).key g)))) ∙ h)) | false ↦ λ g. refl ]
+      refl,
+  new-by-value ds es k all.1 h,
 )
 
 coded_alike : (a b : Coded) → a.time ≡ b.time → a.numbers.items ≡ b.numbers.items → same_coded a b ≡ true
@@ -223,15 +223,14 @@ pub new-by-numbers : (ds : List Dictionary) (es : List Entry) (c : Coded) → Ar
     → AllByRecursion (λ e. same_coded c e.0 ≡ false) es → AllByRecursion (λ x. same_keys (record { time = c.time; dims = texts_of ds c.numbers.items }) (row_of ds x).key ≡ false) es
 new-by-numbers ds [] c d own all h = tt
 new-by-numbers ds (e ∷ es) c d own all h =
-    let k : Key = record { time = c.time; dims = texts_of ds c.numbers.items } in
-    (
+    let k : Key = record { time = c.time; dims = texts_of ds c.numbers.items } in (
       elim (same_keys k (row_of ds e).key) as (λ b. same_keys k (row_of ds e).key ≡ b → b ≡ false) [
         | true ↦ λ g.
             let eq : k ≡ (row_of ds e).key = equal_keys k (row_of ds e).key g in
             absurd (true≢false (sym (coded_alike c e.0 (ap (λ j. j.time) eq) (same-numbers ds c.numbers.items e.0.numbers.items d own all.0 (ap (λ j. j.dims) eq))) ∙ h.0))
         | false ↦ λ g. refl
       ]
-      refl,
+          refl,
       new-by-numbers ds es c d own all.1 h.1,
     )
 
@@ -254,12 +253,12 @@ pub unlike-new : (ds : List Dictionary) (es : List Entry) (c : Coded) (ts : List
     → AllByRecursion (λ e. same_coded c e.0 ≡ false) es
 unlike-new ds [] c ts is new all = tt
 unlike-new ds (e ∷ es) c ts is new all = (
-    elim (same_coded c e.0) as (λ b. same_coded c e.0 ≡ b → b ≡ false) [
-      | true ↦ λ h.
-          let n : c.numbers.items ≡ e.0.numbers.items = (bytes_decides c.numbers.items e.0.numbers.items).0 (both (int_eq c.time e.0.time) (bytes_eq c.numbers.items e.0.numbers.items) h).1 in
-          absurd (true≢false (sym (numbers-known ds ts (subst (AreNumbers ds) (sym n ∙ is) all.0)) ∙ new))
-      | false ↦ λ h. refl
-    ]
-    refl,
-    unlike-new ds es c ts is new all.1,
+  elim (same_coded c e.0) as (λ b. same_coded c e.0 ≡ b → b ≡ false) [
+    | true ↦ λ h.
+        let n : c.numbers.items ≡ e.0.numbers.items = (bytes_decides c.numbers.items e.0.numbers.items).0 (both (int_eq c.time e.0.time) (bytes_eq c.numbers.items e.0.numbers.items) h).1 in
+        absurd (true≢false (sym (numbers-known ds ts (subst (AreNumbers ds) (sym n ∙ is) all.0)) ∙ new))
+    | false ↦ λ h. refl
+  ]
+      refl,
+  unlike-new ds es c ts is new all.1,
 )

@@ -29,15 +29,15 @@ IsCoded-more ds ts ns i known d t n lt len is_d is_t is_n so =
     record {
       count = length-set ns i n ∙ so.count;
       numbers = ap (λ l. l ++ numbers_of (drop (i + 1) ds) (drop (i + 1) ts)) (take_more_set ns i n lns)
-      ∙ append_assoc (take i ns) (n ∷ []) (numbers_of (drop (i + 1) ds) (drop (i + 1) ts))
-      ∙ ap (λ m. take i ns ++ m ∷ numbers_of (drop (i + 1) ds) (drop (i + 1) ts)) is_n
-      ∙ ap (λ p. take i ns ++ numbers_of p (t ∷ drop (i + 1) ts)) (sym ds')
-      ∙ ap (λ q. take i ns ++ numbers_of (drop i ds) q) (sym ts')
-      ∙ so.numbers;
+          ∙ append_assoc (take i ns) (n ∷ []) (numbers_of (drop (i + 1) ds) (drop (i + 1) ts))
+          ∙ ap (λ m. take i ns ++ m ∷ numbers_of (drop (i + 1) ds) (drop (i + 1) ts)) is_n
+          ∙ ap (λ p. take i ns ++ numbers_of p (t ∷ drop (i + 1) ts)) (sym ds')
+          ∙ ap (λ q. take i ns ++ numbers_of (drop i ds) q) (sym ts')
+          ∙ so.numbers;
       known = sym (and_assoc known (list_any (bytes_eq t) d.texts) (all_known (drop (i + 1) ds) (drop (i + 1) ts)))
-      ∙ ap (λ p. known && all_known p (t ∷ drop (i + 1) ts)) (sym ds')
-      ∙ ap (λ q. known && all_known (drop i ds) q) (sym ts')
-      ∙ so.known;
+          ∙ ap (λ p. known && all_known p (t ∷ drop (i + 1) ts)) (sym ds')
+          ∙ ap (λ q. known && all_known (drop i ds) q) (sym ts')
+          ∙ so.known;
     }
 
 from_some : (b : Bool) (m n : ℕ) → Some n ≡ cond b (Some m) None → n ≡ m

@@ -141,8 +141,8 @@ all_from_places P (x ∷ xs) d each = (each 0 (omega arith), all_from_places P x
 in_order : (xs : List Row) → IsSortedBy (λ a b. is_lt (key_cmp a.key b.key)) xs → IsInOrder xs
 in_order [] up = tt
 in_order (x ∷ xs) up = (
-    all_from_places (λ y. is_lt (key_cmp y.key x.key) ≡ false) xs x (λ k lt. sorted_far (λ a b. is_lt (key_cmp a.key b.key)) (ranks_by key_cmp_total (λ (r : Row). r.key)) (x ∷ xs) up 0 (suc k) x (omega arith) (omega arith)),
-    in_order xs (λ k d low lt. subst (λ n. is_lt (key_cmp (get_or (x ∷ xs) n d).key (get_or xs k d).key) ≡ false) (next k) (up (suc k) d (omega arith) (omega arith))),
+  all_from_places (λ y. is_lt (key_cmp y.key x.key) ≡ false) xs x (λ k lt. sorted_far (λ a b. is_lt (key_cmp a.key b.key)) (ranks_by key_cmp_total (λ (r : Row). r.key)) (x ∷ xs) up 0 (suc k) x (omega arith) (omega arith)),
+  in_order xs (λ k d low lt. subst (λ n. is_lt (key_cmp (get_or (x ∷ xs) n d).key (get_or xs k d).key) ≡ false) (next k) (up (suc k) d (omega arith) (omega arith))),
 )
 
 tied : (q : Key) (r : Row) → ties (λ (a : Row) (b : Row). is_lt (key_cmp a.key b.key)) (record { key = q; metrics = [] }) r ≡ same_keys q r.key
@@ -184,7 +184,7 @@ sorted-rollup combines kinds es rows d up stable =
     let is : IsRollup combines kinds es rows = record {
       ordered = in_order rows up;
       each = λ q.
-      let p : Row → Bool = ties (λ (a : Row) (b : Row). is_lt (key_cmp a.key b.key)) (record { key = q; metrics = [] }) in
-      sym (alike p (λ r. same_keys q r.key) (tied q) rows) ∙ stable (record { key = q; metrics = [] }) ∙ alike p (λ r. same_keys q r.key) (tied q) es ∙ sym (alone_or_apart combines kinds q es d);
+          let p : Row → Bool = ties (λ (a : Row) (b : Row). is_lt (key_cmp a.key b.key)) (record { key = q; metrics = [] }) in
+          sym (alike p (λ r. same_keys q r.key) (tied q) rows) ∙ stable (record { key = q; metrics = [] }) ∙ alike p (λ r. same_keys q r.key) (tied q) es ∙ sym (alone_or_apart combines kinds q es d);
     } in
     same_rollup combines kinds es rows (rollup combines kinds es) is (IsRollup-rollup combines kinds es)

@@ -126,11 +126,7 @@ fn columns_of(alloc: Global, schema: &Schema) -> Result<Vec<Kind>, AllocError>
         .collect(alloc)
 }
 
-fn empty_dicts(
-    alloc: Global,
-    count: usize,
-    limit: usize,
-) -> Result<Vec<GrowingDict>, AllocError>
+fn empty_dicts(alloc: Global, count: usize, limit: usize) -> Result<Vec<GrowingDict>, AllocError>
     requires { limit ≤ 1048576 }
     ensures count { IfOk result (λ dicts. length dicts.items ≡ count) }
     ensures empty { IfOk result (λ dicts. AllByRecursion (λ d. d ≡ record { limit = limit; texts = [] }) dicts.items) }

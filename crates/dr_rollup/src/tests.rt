@@ -93,20 +93,15 @@ fn event(alloc: Global, time: i64, page: &str, value: i64) -> Result<Event, Fail
 }
 
 // Adds an event to an index of that schema.
-fn add(
-    index: &mut OpenIndex,
-    alloc: Global,
-    time: i64,
-    page: &str,
-    value: i64,
-) -> Result<Result<(), RollupError>, Fail>
+fn add(index: &mut OpenIndex, alloc: Global, time: i64, page: &str, value: i64) -> Result<(), Fail>
     requires dims { length index.old.schema.dimensions ≡ 2 }
     requires metrics { length index.old.schema.metrics ≡ 4 }
     requires time { IsInstant time }
     ensures { index.new.schema ≡ index.old.schema }
 {
     let event = event(alloc, time, page, value)?;
-    Ok(index.add(&event))
+    index.add(&event)?;
+    Ok(())
 }
 
 fn index_of(alloc: Global, rollup: bool, limit: usize) -> Result<OpenIndex, Fail>
@@ -118,68 +113,66 @@ fn index_of(alloc: Global, rollup: bool, limit: usize) -> Result<OpenIndex, Fail
     Ok(OpenIndex::new(alloc, &schema, limit)?)
 }
 
-fn expect_row(rt: &impl Abort, row: &Row, time: i64, page: &str, metrics: &[i64]) {
-    assert_eq!(rt; row.key.time, time);
-    assert_eq!(rt; row.key.dims.len(), 2);
-    let dims = row.key.dims.as_slice();
-    if dims.len() == 2 {
-        assert_eq!(rt; dims[0].as_str(), page);
-        assert_eq!(rt; dims[1].as_str(), "en");
+// Page B at 01:30 and page A at 00:50 and at 00:10, in this order.
+fn three_events(alloc: Global, rollup: bool) -> Result<OpenIndex, Fail>
+    ensures dims { IfOk result (λ i. length i.schema.dimensions ≡ 2) }
+    ensures metrics { IfOk result (λ i. length i.schema.metrics ≡ 4) }
+{
+    let mut index = index_of(alloc, rollup, 3)?;
+    add(&mut index, alloc, MIDNIGHT + 90 * MINUTE, "B", -2)?;
+    add(&mut index, alloc, MIDNIGHT + 50 * MINUTE, "A", 7)?;
+    add(&mut index, alloc, MIDNIGHT + 10 * MINUTE, "A", 5)?;
+    Ok(index)
+}
+
+fn expect_rows(rt: &impl Abort, rows: &[Row], wanted: &[(i64, &str, [i64; 4])]) {
+    assert_eq!(rt; rows.len(), wanted.len());
+    for (row, (time, page, metrics)) in rows.iter().zip(wanted) {
+        assert_eq!(rt; row.key.time, *time);
+        assert_eq!(rt; row.key.dims.len(), 2);
+        for (text, wanted) in row.key.dims.as_slice().iter().zip(&[*page, "en"]) {
+            assert_eq!(rt; text.as_str(), *wanted);
+        }
+        assert_eq!(rt; row.metrics.as_slice(), metrics.as_slice());
     }
-    assert_eq!(rt; row.metrics.as_slice(), metrics);
 }
 
 #[test]
 fn adds_a_known_key_at_the_limit(rt: HostRuntime) -> Result<(), Fail> {
     let alloc = rt.alloc();
     let mut index = index_of(alloc, true, 1)?;
-    assert_eq!(rt; add(&mut index, alloc, MIDNIGHT + 10 * MINUTE, "A", 5)?, Ok(()));
-    assert_eq!(rt; add(&mut index, alloc, MIDNIGHT + 50 * MINUTE, "A", 7)?, Ok(()));
-    let third = add(&mut index, alloc, MIDNIGHT + 90 * MINUTE, "B", -2)?;
-    assert_eq!(rt; third, Err(RollupError::IndexFull));
+    add(&mut index, alloc, MIDNIGHT + 10 * MINUTE, "A", 5)?;
+    add(&mut index, alloc, MIDNIGHT + 50 * MINUTE, "A", 7)?;
+    let third = event(alloc, MIDNIGHT + 90 * MINUTE, "B", -2)?;
+    assert_eq!(rt; index.add(&third), Err(RollupError::IndexFull));
     assert_eq!(rt; index.len(), 1);
-    let rows = index.rows()?;
-    assert_eq!(rt; rows.len(), 1);
-    if rows.len() == 1 {
-        expect_row(&rt, &rows[0], MIDNIGHT, "A", &[2, 12, 5, 7]);
-    }
+    expect_rows(&rt, &index.rows()?, &[(MIDNIGHT, "A", [2, 12, 5, 7])]);
     Ok(())
 }
 
 #[test]
 fn sorts_the_rows(rt: HostRuntime) -> Result<(), Fail> {
     let alloc = rt.alloc();
-    let mut index = index_of(alloc, true, 10)?;
-    assert_eq!(rt; add(&mut index, alloc, MIDNIGHT + 90 * MINUTE, "B", -2)?, Ok(()));
-    assert_eq!(rt; add(&mut index, alloc, MIDNIGHT + 95 * MINUTE, "A", 3)?, Ok(()));
-    assert_eq!(rt; add(&mut index, alloc, MIDNIGHT + 10 * MINUTE, "C", 5)?, Ok(()));
-    assert_eq!(rt; add(&mut index, alloc, MIDNIGHT + 100 * MINUTE, "B", 4)?, Ok(()));
-    let rows = index.rows()?;
-    assert_eq!(rt; rows.len(), 3);
-    if rows.len() == 3 {
-        expect_row(&rt, &rows[0], MIDNIGHT, "C", &[1, 5, 5, 5]);
-        expect_row(&rt, &rows[1], MIDNIGHT + HOUR, "A", &[1, 3, 3, 3]);
-        expect_row(&rt, &rows[2], MIDNIGHT + HOUR, "B", &[2, 2, -2, 4]);
-    }
+    let index = three_events(alloc, true)?;
+    let wanted = [
+        (MIDNIGHT, "A", [2, 12, 5, 7]),
+        (MIDNIGHT + HOUR, "B", [1, -2, -2, -2]),
+    ];
+    expect_rows(&rt, &index.rows()?, &wanted);
     Ok(())
 }
 
 #[test]
 fn keeps_rows_apart_without_rollup(rt: HostRuntime) -> Result<(), Fail> {
     let alloc = rt.alloc();
-    let mut index = index_of(alloc, false, 3)?;
-    assert_eq!(rt; add(&mut index, alloc, MIDNIGHT + 90 * MINUTE, "B", -2)?, Ok(()));
-    assert_eq!(rt; add(&mut index, alloc, MIDNIGHT + 10 * MINUTE, "A", 7)?, Ok(()));
-    assert_eq!(rt; add(&mut index, alloc, MIDNIGHT + 50 * MINUTE, "A", 5)?, Ok(()));
-    let fourth = add(&mut index, alloc, MIDNIGHT + 50 * MINUTE, "A", 5)?;
-    assert_eq!(rt; fourth, Err(RollupError::IndexFull));
-    let rows = index.rows()?;
-    assert_eq!(rt; rows.len(), 3);
-    if rows.len() == 3 {
-        expect_row(&rt, &rows[0], MIDNIGHT, "A", &[1, 7, 7, 7]);
-        expect_row(&rt, &rows[1], MIDNIGHT, "A", &[1, 5, 5, 5]);
-        expect_row(&rt, &rows[2], MIDNIGHT + HOUR, "B", &[1, -2, -2, -2]);
-    }
+    let index = three_events(alloc, false)?;
+    assert_eq!(rt; index.len(), 3);
+    let wanted = [
+        (MIDNIGHT, "A", [1, 7, 7, 7]),
+        (MIDNIGHT, "A", [1, 5, 5, 5]),
+        (MIDNIGHT + HOUR, "B", [1, -2, -2, -2]),
+    ];
+    expect_rows(&rt, &index.rows()?, &wanted);
     Ok(())
 }
 
@@ -189,7 +182,7 @@ fn gives_the_row_of_one_event(rt: HostRuntime) -> Result<(), Fail> {
     let schema = schema(alloc, true)?;
     let event = event(alloc, MIDNIGHT + 90 * MINUTE, "B", -2)?;
     let row = unrolled_row(alloc, &schema, &KINDS, &event)?;
-    expect_row(&rt, &row, MIDNIGHT + HOUR, "B", &[1, -2, -2, -2]);
+    expect_rows(&rt, &[row], &[(MIDNIGHT + HOUR, "B", [1, -2, -2, -2])]);
     Ok(())
 }
 

@@ -93,8 +93,7 @@ returns-in_err-put-clause-full c =
     let numbers = rw c.deref.ensures.value at c.locate-found.ensures.coded in
     let none = rw c.deref.ensures.value at c.in_default.ensures.none in
     let counted = new-count s.schema s.kinds.items s.limit s.dicts.items s.coded s.entries c.self.invariant c.args.event.now _ refl c.locate-found.new.coded c.locate-found.ensures.time numbers dims (none refl) in
-    rw (← c.self.view_is)
-    (
+    rw (← c.self.view_is) (
       λ h. (let same : IndexFull ≡ NoMemory = subst (λ r. IsErrAnd r (λ e. e ≡ NoMemory)) h c.from_residual.ensures.1 in absurd (omega (arith, ap number_of same))),
       λ h. absurd (omega (arith, h, counted, c.len.ensures, c.if-len-self.false)),
     )
