@@ -23,6 +23,8 @@ mod serials;
 mod shared_fragment;
 mod snapshot;
 mod span;
+#[cfg(test)]
+mod tests;
 mod timeline;
 mod timeline_error;
 mod unrolled;

@@ -1,0 +1,407 @@
+ghost use Rattle.std.specs.Prelude.{◌≡◌};
+
+use super::*;
+use dr_events::read_event;
+use dr_query::Query;
+use dr_spec::IngestSpec;
+use std::alloc::Global;
+use std::test::Fail;
+
+const DATA_SCHEMA: &str =
+    r#"{"dataSchema":{"dataSource":"w","timestampSpec":{"column":"t","format":"iso"},"dimensionsSpec":{"dimensions":["page","lang"]},"metricsSpec":[{"type":"count","name":"n"},{"type":"longSum","name":"added","fieldName":"a"},{"type":"longMin","name":"lo","fieldName":"a"},{"type":"longMax","name":"hi","fieldName":"a"}],"granularitySpec":{"segmentGranularity":"day","queryGranularity":"none"}}"#;
+
+const NO_LIMIT: &str = r#"{}"#;
+
+/// The start of the day of the events, and of the next one.
+const DAY: i64 = 1_704_067_200_000;
+
+const NEXT_DAY: i64 = 1_704_153_600_000;
+
+const FIRST: &str = r#"{"t":"2024-01-01T00:10:00Z","page":"A","lang":"en","a":5}"#;
+
+const SECOND: &str = r#"{"t":"2024-01-01T00:50:00Z","page":"A","lang":"en","a":7}"#;
+
+const THIRD: &str = r#"{"t":"2024-01-01T01:30:00Z","page":"B","lang":"en","a":-2}"#;
+
+/// The sum of the added, and how many rows there are.
+const ADDED_AND_ROWS: &str =
+    r#"{"queryType":"timeseries","dataSource":"w","intervals":["2024-01-01/2024-01-02"],"granularity":"all","aggregations":[{"type":"longSum","name":"added","fieldName":"added"},{"type":"count","name":"cnt"}]}"#;
+
+/// The sums of the added and of the events over two intervals that overlap.
+const SUMS_OVER_OVERLAPPING: &str =
+    r#"{"queryType":"timeseries","dataSource":"w","intervals":["2024-01-01/2024-01-02","2024-01-01/2024-01-03"],"granularity":"all","aggregations":[{"type":"longSum","name":"added","fieldName":"added"},{"type":"longSum","name":"n","fieldName":"n"}]}"#;
+
+fn timeline_with(alloc: Global, tuning: &str) -> Result<Timeline, Fail> {
+    let mut text = String::from_str(alloc, DATA_SCHEMA)?;
+    text.push_str(",\"tuningConfig\":")?;
+    text.push_str(tuning)?;
+    text.push_str("}")?;
+    let spec = IngestSpec::parse(alloc, text.as_str().as_bytes())?;
+    Ok(Timeline::new(alloc, spec)?)
+}
+
+fn accept(alloc: Global, timeline: &mut Timeline, event: &str) -> Result<u64, Fail> {
+    let event = read_event(alloc, timeline.spec(), 0, event.as_bytes())?;
+    Ok(timeline.accept(event)?)
+}
+
+/// A timeline with these events.
+fn timeline_of(alloc: Global, tuning: &str, events: &[&str]) -> Result<Timeline, Fail> {
+    let mut timeline = timeline_with(alloc, tuning)?;
+    for event in events {
+        accept(alloc, &mut timeline, event)?;
+    }
+    Ok(timeline)
+}
+
+/// A timeline with these events, the open range of their day sealed after each.
+fn timeline_sealed_after_each(
+    alloc: Global,
+    tuning: &str,
+    events: &[&str],
+) -> Result<Timeline, Fail> {
+    let mut timeline = timeline_with(alloc, tuning)?;
+    for event in events {
+        accept(alloc, &mut timeline, event)?;
+        timeline.seal(DAY)?;
+    }
+    Ok(timeline)
+}
+
+fn merge(alloc: Global, timeline: &mut Timeline, lo: usize, hi: usize) -> Result<u64, TimelineError>
+    ensures { timeline.new.schema ≡ timeline.old.schema }
+{
+    let job = timeline.plan(DAY, lo, hi, Purpose::Merge)?;
+    let fragment = work(alloc, timeline.spec().schema(), &job)?;
+    timeline.commit(&job, fragment)
+}
+
+fn answer(alloc: Global, timeline: &Timeline, query: &str) -> Result<String, Fail> {
+    let query = Query::parse(alloc, query.as_bytes(), timeline.spec().schema())?;
+    let text = timeline.pin()?.answer_one(&query)?;
+    Ok(String::from_utf8(text)?)
+}
+
+fn audit(alloc: Global, timeline: &Timeline, query: &str) -> Result<String, Fail> {
+    let query = Query::parse(alloc, query.as_bytes(), timeline.spec().schema())?;
+    let text = timeline.pin()?.audit(&query)?;
+    Ok(String::from_utf8(text)?)
+}
+
+/// The answer to `ADDED_AND_ROWS` with these values.
+fn added_and_rows(alloc: Global, added: i64, rows: u64) -> Result<String, Fail> {
+    Ok(format!(in alloc;
+        "[{{\"result\":{{\"added\":{added},\"cnt\":{rows}}},\"timestamp\":\"2024-01-01T00:00:00.000Z\"}}]"
+    )?)
+}
+
+fn sealed(from: usize, to: usize, rows: usize) -> RangeInfo {
+    RangeInfo {
+        chunk: DAY,
+        from,
+        to,
+        version: 0,
+        rows,
+        sealed: true,
+    }
+}
+
+fn open(from: usize, to: usize, rows: usize) -> RangeInfo {
+    RangeInfo {
+        chunk: DAY,
+        from,
+        to,
+        version: 0,
+        rows,
+        sealed: false,
+    }
+}
+
+#[test]
+fn answers_the_first_query(rt: HostRuntime) -> Result<(), Fail> {
+    let alloc = rt.alloc();
+    let timeline = timeline_of(alloc, NO_LIMIT, &[FIRST, SECOND, THIRD])?;
+    let text = answer(alloc, &timeline, ADDED_AND_ROWS)?;
+    assert_eq!(rt; text, added_and_rows(alloc, 10, 3)?);
+    let text = audit(alloc, &timeline, ADDED_AND_ROWS)?;
+    assert_eq!(rt; text, added_and_rows(alloc, 10, 3)?);
+    Ok(())
+}
+
+#[test]
+fn numbers_the_events(rt: HostRuntime) -> Result<(), Fail> {
+    let alloc = rt.alloc();
+    let mut timeline = timeline_with(alloc, NO_LIMIT)?;
+    assert_eq!(rt; accept(alloc, &mut timeline, FIRST)?, 0);
+    assert_eq!(rt; accept(alloc, &mut timeline, SECOND)?, 1);
+    let event = read_event(alloc, timeline.spec(), 0, THIRD.as_bytes())?;
+    assert!(rt; timeline.keeps(&event));
+    assert_eq!(rt; timeline.accept(event), Ok(2));
+    Ok(())
+}
+
+#[test]
+fn shows_the_events(rt: HostRuntime) -> Result<(), Fail> {
+    let alloc = rt.alloc();
+    let timeline = timeline_of(alloc, NO_LIMIT, &[FIRST, SECOND, THIRD])?;
+    let snapshot = timeline.pin()?;
+    assert_eq!(rt; snapshot.event_count(), 3);
+    assert_eq!(rt;
+        snapshot.span(),
+        Some((1_704_067_800_000, 1_704_072_600_000))
+    );
+    assert!(rt; snapshot.event(3).is_none());
+    let event = snapshot.event(2).ok_or("no event")?;
+    assert_eq!(rt; event.time, 1_704_072_600_000);
+    let page = event.dims.as_slice().get(0).ok_or("no page")?;
+    assert_eq!(rt; page.as_str(), "B");
+    assert_eq!(rt; event.inputs.get(1), Some(-2));
+    Ok(())
+}
+
+#[test]
+fn answers_without_events(rt: HostRuntime) -> Result<(), Fail> {
+    let alloc = rt.alloc();
+    let timeline = timeline_with(alloc, NO_LIMIT)?;
+    let text = answer(alloc, &timeline, ADDED_AND_ROWS)?;
+    assert_eq!(rt; text.as_str(), "[]");
+    let text = audit(alloc, &timeline, ADDED_AND_ROWS)?;
+    assert_eq!(rt; text.as_str(), "[]");
+    let snapshot = timeline.pin()?;
+    assert_eq!(rt; snapshot.event_count(), 0);
+    assert_eq!(rt; snapshot.span(), None);
+    assert!(rt; snapshot.event(0).is_none());
+    assert!(rt; snapshot.ranges().is_empty());
+    Ok(())
+}
+
+#[test]
+fn refuses_more_events_than_are_retained(rt: HostRuntime) -> Result<(), Fail> {
+    let alloc = rt.alloc();
+    let mut timeline = timeline_of(alloc, r#"{"maxRetained":2}"#, &[FIRST, SECOND])?;
+    let event = read_event(alloc, timeline.spec(), 0, THIRD.as_bytes())?;
+    let refused = timeline.accept(event);
+    assert_eq!(rt; refused, Err(TimelineError::StreamFull));
+    assert_eq!(rt; TimelineError::StreamFull.number(), 90);
+    assert_eq!(rt; TimelineError::StreamFull.name(), "StreamFull");
+    assert_eq!(rt; timeline.pin()?.event_count(), 2);
+    Ok(())
+}
+
+#[test]
+fn keeps_what_was_pinned(rt: HostRuntime) -> Result<(), Fail> {
+    let alloc = rt.alloc();
+    let mut timeline = timeline_of(alloc, NO_LIMIT, &[FIRST])?;
+    let query = Query::parse(alloc, ADDED_AND_ROWS.as_bytes(), timeline.spec().schema())?;
+    let snapshot = timeline.pin()?;
+    accept(alloc, &mut timeline, SECOND)?;
+    let text = String::from_utf8(snapshot.answer_one(&query)?)?;
+    assert_eq!(rt; text, added_and_rows(alloc, 5, 1)?);
+    assert_eq!(rt; snapshot.ranges(), [open(0, 1, 1)].as_slice());
+    let text = answer(alloc, &timeline, ADDED_AND_ROWS)?;
+    assert_eq!(rt; text, added_and_rows(alloc, 12, 2)?);
+    Ok(())
+}
+
+#[test]
+fn counts_an_event_of_two_intervals_once(rt: HostRuntime) -> Result<(), Fail> {
+    let alloc = rt.alloc();
+    let wanted = r#"[{"result":{"added":10,"n":3},"timestamp":"2024-01-01T00:00:00.000Z"}]"#;
+    let events = [FIRST, SECOND, THIRD];
+    let timeline = timeline_of(alloc, NO_LIMIT, &events)?;
+    let text = answer(alloc, &timeline, SUMS_OVER_OVERLAPPING)?;
+    assert_eq!(rt; text.as_str(), wanted);
+    let timeline = timeline_sealed_after_each(alloc, NO_LIMIT, &events)?;
+    let text = answer(alloc, &timeline, SUMS_OVER_OVERLAPPING)?;
+    assert_eq!(rt; text.as_str(), wanted);
+    let text = audit(alloc, &timeline, SUMS_OVER_OVERLAPPING)?;
+    assert_eq!(rt; text.as_str(), wanted);
+    Ok(())
+}
+
+const GREATEST: &str =
+    r#"{"t":"2024-01-01T00:00:00Z","page":"A","lang":"en","a":9223372036854775807}"#;
+
+const ONE: &str = r#"{"t":"2024-01-01T00:00:00Z","page":"A","lang":"en","a":1}"#;
+
+#[test]
+fn wraps_a_sum(rt: HostRuntime) -> Result<(), Fail> {
+    let alloc = rt.alloc();
+    let timeline = timeline_of(alloc, NO_LIMIT, &[GREATEST, ONE])?;
+    let text = answer(alloc, &timeline, ADDED_AND_ROWS)?;
+    assert_eq!(rt; text, added_and_rows(alloc, i64::MIN, 1)?);
+    let text = audit(alloc, &timeline, ADDED_AND_ROWS)?;
+    assert_eq!(rt; text, added_and_rows(alloc, i64::MIN, 2)?);
+    Ok(())
+}
+
+#[test]
+fn wraps_a_sum_over_two_ranges(rt: HostRuntime) -> Result<(), Fail> {
+    let alloc = rt.alloc();
+    let mut timeline = timeline_of(alloc, NO_LIMIT, &[GREATEST])?;
+    timeline.seal(DAY)?;
+    accept(alloc, &mut timeline, ONE)?;
+    let text = answer(alloc, &timeline, ADDED_AND_ROWS)?;
+    assert_eq!(rt; text, added_and_rows(alloc, i64::MIN, 2)?);
+    timeline.seal(DAY)?;
+    assert_eq!(rt; merge(alloc, &mut timeline, 0, 2), Ok(0));
+    let text = answer(alloc, &timeline, ADDED_AND_ROWS)?;
+    assert_eq!(rt; text, added_and_rows(alloc, i64::MIN, 1)?);
+    Ok(())
+}
+
+#[test]
+fn seals_a_range_with_as_many_rows_as_are_held(rt: HostRuntime) -> Result<(), Fail> {
+    let alloc = rt.alloc();
+    let tuning = r#"{"maxRowsInMemory":2}"#;
+    let timeline = timeline_of(alloc, tuning, &[FIRST, SECOND])?;
+    assert_eq!(rt; timeline.pin()?.ranges(), [sealed(0, 2, 2)].as_slice());
+    let timeline = timeline_of(alloc, tuning, &[FIRST, SECOND, THIRD])?;
+    let ranges = [sealed(0, 2, 2), open(2, 3, 1)];
+    assert_eq!(rt; timeline.pin()?.ranges(), ranges.as_slice());
+    let text = answer(alloc, &timeline, ADDED_AND_ROWS)?;
+    assert_eq!(rt; text, added_and_rows(alloc, 10, 3)?);
+    Ok(())
+}
+
+#[test]
+fn holds_rows_that_combine_in_one_range(rt: HostRuntime) -> Result<(), Fail> {
+    let alloc = rt.alloc();
+    let tuning = r#"{"maxRowsInMemory":2}"#;
+    let timeline = timeline_of(alloc, tuning, &[FIRST, FIRST, FIRST])?;
+    assert_eq!(rt; timeline.pin()?.ranges(), [open(0, 3, 1)].as_slice());
+    Ok(())
+}
+
+#[test]
+fn orders_the_ranges_by_chunk(rt: HostRuntime) -> Result<(), Fail> {
+    let alloc = rt.alloc();
+    let next = r#"{"t":"2024-01-02T00:10:00Z","page":"A","lang":"en","a":1}"#;
+    let mut timeline = timeline_of(alloc, NO_LIMIT, &[next, FIRST, SECOND])?;
+    timeline.seal(DAY)?;
+    assert_eq!(rt; timeline.seal(DAY), Err(TimelineError::NothingToSeal));
+    let mut of_next_day = open(0, 1, 1);
+    of_next_day.chunk = NEXT_DAY;
+    let ranges = [sealed(0, 2, 2), of_next_day];
+    assert_eq!(rt; timeline.pin()?.ranges(), ranges.as_slice());
+    Ok(())
+}
+
+#[test]
+fn merges_two_ranges(rt: HostRuntime) -> Result<(), Fail> {
+    let alloc = rt.alloc();
+    let mut timeline = timeline_sealed_after_each(alloc, NO_LIMIT, &[FIRST, FIRST])?;
+    let ranges = [sealed(0, 1, 1), sealed(1, 2, 1)];
+    assert_eq!(rt; timeline.pin()?.ranges(), ranges.as_slice());
+    let text = answer(alloc, &timeline, ADDED_AND_ROWS)?;
+    assert_eq!(rt; text, added_and_rows(alloc, 10, 2)?);
+    assert_eq!(rt; merge(alloc, &mut timeline, 0, 2), Ok(0));
+    assert_eq!(rt; timeline.pin()?.ranges(), [sealed(0, 2, 1)].as_slice());
+    let text = answer(alloc, &timeline, ADDED_AND_ROWS)?;
+    assert_eq!(rt; text, added_and_rows(alloc, 10, 1)?);
+    let text = audit(alloc, &timeline, ADDED_AND_ROWS)?;
+    assert_eq!(rt; text, added_and_rows(alloc, 10, 2)?);
+    Ok(())
+}
+
+#[test]
+fn keeps_the_pinned_ranges(rt: HostRuntime) -> Result<(), Fail> {
+    let alloc = rt.alloc();
+    let mut timeline = timeline_sealed_after_each(alloc, NO_LIMIT, &[FIRST])?;
+    accept(alloc, &mut timeline, FIRST)?;
+    let schema = timeline.spec().schema();
+    let query = Query::parse(alloc, ADDED_AND_ROWS.as_bytes(), schema)?;
+    let snapshot = timeline.pin()?;
+    timeline.seal(DAY)?;
+    assert_eq!(rt; merge(alloc, &mut timeline, 0, 2), Ok(0));
+    let ranges = [sealed(0, 1, 1), open(1, 2, 1)];
+    assert_eq!(rt; snapshot.ranges(), ranges.as_slice());
+    let text = String::from_utf8(snapshot.answer_one(&query)?)?;
+    assert_eq!(rt; text, added_and_rows(alloc, 10, 2)?);
+    Ok(())
+}
+
+#[test]
+fn refuses_a_job_whose_ranges_were_merged(rt: HostRuntime) -> Result<(), Fail> {
+    let alloc = rt.alloc();
+    let mut timeline = timeline_sealed_after_each(alloc, NO_LIMIT, &[FIRST, FIRST])?;
+    let job = timeline.plan(DAY, 0, 2, Purpose::Merge)?;
+    let fragment = work(alloc, timeline.spec().schema(), &job)?;
+    assert_eq!(rt; merge(alloc, &mut timeline, 0, 2), Ok(0));
+    let refused = timeline.commit(&job, fragment);
+    assert_eq!(rt; refused, Err(TimelineError::Stale));
+    assert_eq!(rt; TimelineError::Stale.number(), 93);
+    assert_eq!(rt; TimelineError::Stale.name(), "Stale");
+    assert_eq!(rt; timeline.pin()?.ranges(), [sealed(0, 2, 1)].as_slice());
+    Ok(())
+}
+
+#[test]
+fn finds_the_ranges_of_a_job_where_they_stand_now(rt: HostRuntime) -> Result<(), Fail> {
+    let alloc = rt.alloc();
+    let events = [FIRST, FIRST, SECOND, SECOND];
+    let mut timeline = timeline_sealed_after_each(alloc, NO_LIMIT, &events)?;
+    let job = timeline.plan(DAY, 2, 4, Purpose::Merge)?;
+    let fragment = work(alloc, timeline.spec().schema(), &job)?;
+    assert_eq!(rt; merge(alloc, &mut timeline, 0, 2), Ok(0));
+    assert_eq!(rt; timeline.commit(&job, fragment), Ok(0));
+    let ranges = [sealed(0, 2, 1), sealed(2, 4, 1)];
+    assert_eq!(rt; timeline.pin()?.ranges(), ranges.as_slice());
+    Ok(())
+}
+
+#[test]
+fn refuses_places_without_a_range(rt: HostRuntime) -> Result<(), Fail> {
+    let alloc = rt.alloc();
+    let mut timeline = timeline_sealed_after_each(alloc, NO_LIMIT, &[FIRST])?;
+    let refused = Err(TimelineError::NoSuchRange);
+    assert_eq!(rt; merge(alloc, &mut timeline, 0, 2), refused);
+    assert_eq!(rt; merge(alloc, &mut timeline, 1, 1), refused);
+    assert_eq!(rt; TimelineError::NoSuchRange.number(), 92);
+    assert_eq!(rt; TimelineError::NoSuchRange.name(), "NoSuchRange");
+    Ok(())
+}
+
+#[test]
+fn refuses_to_seal_nothing(rt: HostRuntime) -> Result<(), Fail> {
+    let alloc = rt.alloc();
+    let mut timeline = timeline_sealed_after_each(alloc, NO_LIMIT, &[FIRST])?;
+    let refused = Err(TimelineError::NothingToSeal);
+    assert_eq!(rt; timeline.seal(DAY), refused);
+    assert_eq!(rt; timeline.seal(NEXT_DAY), refused);
+    assert_eq!(rt; TimelineError::NothingToSeal.number(), 91);
+    assert_eq!(rt; TimelineError::NothingToSeal.name(), "NothingToSeal");
+    assert_eq!(rt; timeline.pin()?.ranges(), [sealed(0, 1, 1)].as_slice());
+    Ok(())
+}
+
+#[test]
+fn refuses_more_commits_than_there_may_be(rt: HostRuntime) -> Result<(), Fail> {
+    let alloc = rt.alloc();
+    let tuning = r#"{"maxCommits":1}"#;
+    let mut timeline = timeline_sealed_after_each(alloc, tuning, &[FIRST])?;
+    assert_eq!(rt; merge(alloc, &mut timeline, 0, 1), Ok(0));
+    let refused = merge(alloc, &mut timeline, 0, 1);
+    assert_eq!(rt; refused, Err(TimelineError::CommitsFull));
+    assert_eq!(rt; TimelineError::CommitsFull.number(), 95);
+    assert_eq!(rt; TimelineError::CommitsFull.name(), "CommitsFull");
+    assert_eq!(rt; timeline.pin()?.ranges(), [sealed(0, 1, 1)].as_slice());
+    Ok(())
+}
+
+#[test]
+fn extends_what_was_pinned_before(rt: HostRuntime) -> Result<(), Fail> {
+    let alloc = rt.alloc();
+    let mut timeline = timeline_of(alloc, NO_LIMIT, &[FIRST])?;
+    let before = timeline.pin()?;
+    timeline.seal(DAY)?;
+    accept(alloc, &mut timeline, SECOND)?;
+    let after = timeline.pin()?;
+    assert!(rt; after.extends(&before));
+    assert!(rt; before.extends(&before));
+    assert!(rt; !before.extends(&after));
+    let other = timeline_of(alloc, NO_LIMIT, &[SECOND])?.pin()?;
+    assert!(rt; !after.extends(&other));
+    assert!(rt; !other.extends(&before));
+    Ok(())
+}
