@@ -6,7 +6,7 @@ use Rattle.std.specs.declared.cmp.Ordering.TheVariants.{Less, Equal, Greater}
 use Rattle.std.specs.Ordering.{int_cmp, int_eq, is_eq, match_ordering}
 use Rattle.std.specs.FinMap.{int_cmp-IsAntisymmetric}
 use Rattle.dr_timeline.specs.declared.chunk.Chunk.{Chunk}
-use Rattle.dr_timeline.specs.AtKey.{at_key}
+use Rattle.dr_timeline.specs.AtKey.{at_key, item_at}
 use Rattle.dr_timeline.specs.Chunks.{with_value}
 use Rattle.dr_timeline.specs.State.{Cut, Range, sealed_in}
 use Rattle.dr_timeline.specs.Steps.{at_chunk, open_cut}
@@ -32,18 +32,6 @@ sealed_in-cuts (c ∷ cs) k =
     elim (int_cmp k c.start) as (λ o. match_ordering o [] (ranges_of c) (sealed_in k (map cut_of cs)) ≡ ranges_of (match_ordering o (no_chunk k) c (chunk_at k cs)))
     [ Less ↦ refl | Equal ↦ refl | Greater ↦ sealed_in-cuts cs k ]
 
--- the starts of the changed chunks
-pub starts-at_start : (cs : List Chunk) (k : ℤ) (change : Chunk → Chunk) → ((c : Chunk) → (change c).start ≡ c.start) → map (λ c. c.start) (at_start change k cs) ≡ with_value k (map (λ c. c.start) cs)
-unfolding at_key with_value
-starts-at_start [] k change keeps = ap (λ j. j ∷ []) (keeps (no_chunk k))
-starts-at_start (c ∷ cs) k change keeps =
-    elim (int_cmp k c.start) as (λ o. map (λ c. c.start) (match_ordering o (change (no_chunk k) ∷ c ∷ cs) (change c ∷ cs) (c ∷ at_start change k cs))
-    ≡ match_ordering o (k ∷ c.start ∷ map (λ c. c.start) cs) (c.start ∷ map (λ c. c.start) cs) (c.start ∷ with_value k (map (λ c. c.start) cs))) [
-      | Less ↦ ap (λ j. j ∷ c.start ∷ map (λ c. c.start) cs) (keeps (no_chunk k))
-      | Equal ↦ ap (λ j. j ∷ map (λ c. c.start) cs) (keeps c)
-      | Greater ↦ ap (λ js. c.start ∷ js) (starts-at_start cs k change keeps)
-    ]
-
 -- a chunk that stands there is no new one
 pub starts-here : (cs : List Chunk) (k : ℤ) (i : ℕ) (change : Chunk → Chunk) → ((c : Chunk) → (change c).start ≡ c.start) → i < length cs → AllByRecursion (λ d. int_cmp k d.start ≡ Greater) (take i cs) → IsFirst k (drop i cs)
     → map (λ c. c.start) (at_start change k cs) ≡ map (λ c. c.start) cs
@@ -64,35 +52,75 @@ total-at_start (c ∷ cs) k change =
       | Greater ↦ let so_far = total-at_start cs k change in omega arith
     ]
 
+-- ---- items of a list that rises by a key
+
+has-below : (q : ℤ) (ks : List ℤ) → AllByRecursion (λ j. int_cmp q j ≡ Less) ks → has q ks ≡ false
+has-below q [] h = refl
+has-below q (k ∷ ks) h = λ i. is_eq (h.0 i) || has-below q ks h.1 i
+
+-- what holds of the item of a key
+pub All-item_at : {A : Type 0} (key : A → ℤ) (fresh : A) (P : A → Type 0) (xs : List A) (k : ℤ) → key fresh ≡ k → AllByRecursion P xs → (has k (map key xs) ≡ false → P fresh) → IsStrictlySortedBy int_cmp (map key xs)
+    → P (item_at key fresh k xs) × (key (item_at key fresh k xs) ≡ k)
+unfolding IsStrictlySortedBy
+All-item_at key fresh P [] k at all none rising = (none refl, at)
+All-item_at key fresh P (x ∷ xs) k at all none rising =
+    elim (int_cmp k (key x)) as (λ o. int_cmp k (key x) ≡ o → P (match_ordering o fresh x (item_at key fresh k xs)) × (key (match_ordering o fresh x (item_at key fresh k xs)) ≡ k)) [
+      | Less ↦ λ h. (none (has-below k (key x ∷ map key xs) (h, All-below k (key x) (map key xs) h rising.0)), at)
+      | Equal ↦ λ h. (all.0, sym (int_cmp-IsAntisymmetric k (key x) h))
+      | Greater ↦ λ h. All-item_at key fresh P xs k at all.1 (λ f. none (ap (λ o. is_eq o || has k (map key xs)) h ∙ f)) rising.1
+    ] refl
+
+-- what holds of each item, of the changed one and of those of other keys
+pub All-at_key : {A : Type 0} (key : A → ℤ) (fresh : A) (P Q : A → Type 0) (xs : List A) (k : ℤ) (change : A → A) → ((x : A) → int_eq k (key x) ≡ false → P x → Q x) → Q (change (item_at key fresh k xs)) → AllByRecursion P xs → IsStrictlySortedBy int_cmp (map key xs)
+    → AllByRecursion Q (at_key key fresh change k xs)
+unfolding at_key IsStrictlySortedBy
+All-at_key key fresh P Q [] k change other here all rising = (here, tt)
+All-at_key {A = A} key fresh P Q (x ∷ xs) k change other here all rising =
+    elim (int_cmp k (key x)) as (λ o. int_cmp k (key x) ≡ o → Q (change (match_ordering o fresh x (item_at key fresh k xs))) → AllByRecursion Q (match_ordering o (change fresh ∷ x ∷ xs) (change x ∷ xs) (x ∷ at_key key fresh change k xs))) [
+      | Less ↦ λ h q. (q, others (x ∷ xs) (h, All-below k (key x) (map key xs) h rising.0) all)
+      | Equal ↦ λ h q.
+          let same : k ≡ key x = int_cmp-IsAntisymmetric k (key x) h in
+          (q, others xs (subst (λ (z : ℤ). AllByRecursion (λ j. int_cmp z j ≡ Less) (map key xs)) (sym same) rising.0) all.1)
+      | Greater ↦ λ h q. (other x (ap is_eq h) all.0, All-at_key key fresh P Q xs k change other q all.1 rising.1)
+    ] refl here
+  where
+    others : (ys : List A) → AllByRecursion (λ j. int_cmp k j ≡ Less) (map key ys) → AllByRecursion P ys → AllByRecursion Q ys
+    others [] below all = tt
+    others (y ∷ ys) below all = (other y (ap is_eq below.0) all.0, others ys below.1 all.1)
+
+-- the keys of the changed items
+pub keys-at_key : {A : Type 0} (key : A → ℤ) (fresh : A) (xs : List A) (k : ℤ) (change : A → A) → ((x : A) → key (change x) ≡ key x) → key fresh ≡ k → map key (at_key key fresh change k xs) ≡ with_value k (map key xs)
+unfolding at_key with_value
+keys-at_key key fresh [] k change keeps at = ap (λ j. j ∷ []) (keeps fresh ∙ at)
+keys-at_key key fresh (x ∷ xs) k change keeps at =
+    elim (int_cmp k (key x)) as (λ o. map key (match_ordering o (change fresh ∷ x ∷ xs) (change x ∷ xs) (x ∷ at_key key fresh change k xs)) ≡ match_ordering o (k ∷ key x ∷ map key xs) (key x ∷ map key xs) (key x ∷ with_value k (map key xs))) [
+      | Less ↦ ap (λ j. j ∷ key x ∷ map key xs) (keeps fresh ∙ at)
+      | Equal ↦ ap (λ j. j ∷ map key xs) (keeps x)
+      | Greater ↦ ap (λ js. key x ∷ js) (keys-at_key key fresh xs k change keeps at)
+    ]
+
+-- a key that is there is no new one
+pub with_value-there : (k : ℤ) (ks : List ℤ) → has k ks ≡ true → IsStrictlySortedBy int_cmp ks → with_value k ks ≡ ks
+unfolding with_value IsStrictlySortedBy
+with_value-there k [] there rising = cc
+with_value-there k (j ∷ js) there rising =
+    elim (int_cmp k j) as (λ o. int_cmp k j ≡ o → (is_eq o || has k js) ≡ true → match_ordering o (k ∷ j ∷ js) (j ∷ js) (j ∷ with_value k js) ≡ j ∷ js) [
+      | Less ↦ λ h t. let none = has-below k js (All-below k j js h rising.0) in cc
+      | Equal ↦ λ h t. refl
+      | Greater ↦ λ h t. ap (λ l. j ∷ l) (with_value-there k js t rising.1)
+    ] refl there
+
+-- ---- chunks
+
 -- what holds of the chunk there
 pub All-chunk_at : (P : Chunk → Type 0) (cs : List Chunk) (k : ℤ) → AllByRecursion P cs → (has k (map (λ c. c.start) cs) ≡ false → P (no_chunk k)) → IsStrictlySortedBy int_cmp (map (λ c. c.start) cs) → P (chunk_at k cs) × ((chunk_at k cs).start ≡ k)
-unfolding IsStrictlySortedBy
-All-chunk_at P [] k all none rising = (none refl, refl)
-All-chunk_at P (c ∷ cs) k all none rising =
-    elim (int_cmp k c.start) as (λ o. int_cmp k c.start ≡ o → P (match_ordering o (no_chunk k) c (chunk_at k cs)) × ((match_ordering o (no_chunk k) c (chunk_at k cs)).start ≡ k)) [
-      | Less ↦ λ h. (none (has-below k (c.start ∷ map (λ c. c.start) cs) (h, All-below k c.start (map (λ c. c.start) cs) h rising.0)), refl)
-      | Equal ↦ λ h. (all.0, sym (int_cmp-IsAntisymmetric k c.start h))
-      | Greater ↦ λ h. All-chunk_at P cs k all.1 (λ f. none (ap (λ o. is_eq o || has k (map (λ c. c.start) cs)) h ∙ f)) rising.1
-    ] refl
-  where
-    has-below : (q : ℤ) (ks : List ℤ) → AllByRecursion (λ j. int_cmp q j ≡ Less) ks → has q ks ≡ false
-    has-below q [] h = refl
-    has-below q (k ∷ ks) h = λ i. is_eq (h.0 i) || has-below q ks h.1 i
+All-chunk_at P cs k all none rising = All-item_at (λ c. c.start) (no_chunk k) P cs k refl all none rising
 
 -- what holds of each chunk, of the changed one and of those that start elsewhere
 pub All-at_start : (P Q : Chunk → Type 0) (cs : List Chunk) (k : ℤ) (change : Chunk → Chunk) → ((c : Chunk) → int_eq k c.start ≡ false → P c → Q c) → Q (change (chunk_at k cs)) → AllByRecursion P cs → IsStrictlySortedBy int_cmp (map (λ c. c.start) cs)
     → AllByRecursion Q (at_start change k cs)
-unfolding at_key IsStrictlySortedBy
-All-at_start P Q [] k change other here all rising = (here, tt)
-All-at_start P Q (c ∷ cs) k change other here all rising =
-    elim (int_cmp k c.start) as (λ o. int_cmp k c.start ≡ o → Q (change (match_ordering o (no_chunk k) c (chunk_at k cs))) → AllByRecursion Q (match_ordering o (change (no_chunk k) ∷ c ∷ cs) (change c ∷ cs) (c ∷ at_start change k cs))) [
-      | Less ↦ λ h q. (q, others (c ∷ cs) (h, All-below k c.start (map (λ c. c.start) cs) h rising.0) all)
-      | Equal ↦ λ h q.
-          let same : k ≡ c.start = int_cmp-IsAntisymmetric k c.start h in
-          (q, others cs (subst (λ (z : ℤ). AllByRecursion (λ j. int_cmp z j ≡ Less) (map (λ c. c.start) cs)) (sym same) rising.0) all.1)
-      | Greater ↦ λ h q. (other c (ap is_eq h) all.0, All-at_start P Q cs k change other q all.1 rising.1)
-    ] refl here
-  where
-    others : (cs : List Chunk) → AllByRecursion (λ j. int_cmp k j ≡ Less) (map (λ c. c.start) cs) → AllByRecursion P cs → AllByRecursion Q cs
-    others [] below all = tt
-    others (c ∷ cs) below all = (other c (ap is_eq below.0) all.0, others cs below.1 all.1)
+All-at_start P Q cs k change other here all rising = All-at_key (λ c. c.start) (no_chunk k) P Q cs k change other here all rising
+
+-- the starts of the changed chunks
+pub starts-at_start : (cs : List Chunk) (k : ℤ) (change : Chunk → Chunk) → ((c : Chunk) → (change c).start ≡ c.start) → map (λ c. c.start) (at_start change k cs) ≡ with_value k (map (λ c. c.start) cs)
+starts-at_start cs k change keeps = keys-at_key (λ (c : Chunk). c.start) (no_chunk k) cs k change keeps refl

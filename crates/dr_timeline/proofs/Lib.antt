@@ -13,3 +13,6 @@ pub mod Matching
 pub mod Pinning
 pub mod Keeping
 pub mod Standing
+pub mod Running
+pub mod CutSteps
+pub mod RawRuns

@@ -7,3 +7,8 @@ unfoldable pub at_key : {A : Type 0} → (A → ℤ) → A → (A → A) → ℤ
 at_key key fresh change k [] = change fresh ∷ []
 at_key key fresh change k (x ∷ xs) =
     match_ordering (int_cmp k (key x)) (change fresh ∷ x ∷ xs) (change x ∷ xs) (x ∷ at_key key fresh change k xs)
+
+-- the item of that key; where there is none, the fresh one
+abbrev pub item_at : {A : Type 0} → (A → ℤ) → A → ℤ → List A → A
+item_at key fresh k [] = fresh
+item_at key fresh k (x ∷ xs) = match_ordering (int_cmp k (key x)) fresh x (item_at key fresh k xs)

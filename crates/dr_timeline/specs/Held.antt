@@ -1,7 +1,7 @@
 -- What a timeline keeps of its chunks: the rows of each range. No public contract cites this file.
 use Rattle.std.specs.Prelude.{◌≡◌, ℕ, ℤ, ◌+◌, ◌-◌, ◌<◌, ◌≤◌, Bool, nat_le, nat_lt, true, false, List, [], ◌∷◌, ◌++◌, length, map, take, drop, get_or, suc, if◌then◌else◌}
 use Rattle.std.specs.List.{AllByRecursion}
-use Rattle.std.specs.Ordering.{int_cmp, match_ordering}
+use Rattle.std.specs.Ordering.{int_cmp}
 use Rattle.std.specs.declared.cmp.Ordering.TheVariants.{Less, Equal, Greater}
 use Rattle.dr_base.specs.declared.event.Event.{Event}
 use Rattle.dr_base.specs.declared.row.Row.{Row}
@@ -20,7 +20,7 @@ use Rattle.dr_timeline.specs.declared.range_info.RangeInfo.{RangeInfo}
 use Rattle.dr_timeline.specs.declared.sealed_range.SealedRange.{SealedRange}
 use Rattle.dr_timeline.specs.Unrolled.{rolled_up}
 use Rattle.dr_timeline.specs.Chunks.{chunk_list, chunks}
-use Rattle.dr_timeline.specs.AtKey.{at_key}
+use Rattle.dr_timeline.specs.AtKey.{at_key, item_at}
 use Rattle.dr_timeline.specs.State.{Range, Cut, State, Tile, open_from, open_events}
 use Rattle.dr_timeline.specs.Steps.{fragment_of}
 
@@ -137,8 +137,7 @@ at_start change k cs = at_key (λ c. c.start) (no_chunk k) change k cs
 
 -- the chunk that starts so; where there is none, one without events
 abbrev pub chunk_at : ℤ → List Chunk → Chunk
-chunk_at k [] = no_chunk k
-chunk_at k (c ∷ cs) = match_ordering (int_cmp k c.start) (no_chunk k) c (chunk_at k cs)
+chunk_at k cs = item_at (λ c. c.start) (no_chunk k) k cs
 
 -- the job's ranges stand at that place among the sealed ranges of its chunk
 pub record StandsIn (sealed : List SealedRange) (job : Job) (place : ℕ) : Type 0 where

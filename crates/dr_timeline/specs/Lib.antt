@@ -8,6 +8,8 @@ pub mod Steps
 pub mod Segments
 pub mod RawAnswer
 pub mod Laws
+pub mod Run
+pub mod Headline
 pub mod Held
 pub mod Pieces
 pub mod Shown

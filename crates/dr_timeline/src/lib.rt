@@ -3,8 +3,10 @@
 #![tactic(auto)]
 
 mod answer_text;
+mod bytes;
 mod chunk;
 mod chunks;
+mod core_run;
 mod fold;
 mod fragment;
 mod fragments;
@@ -16,6 +18,7 @@ mod place;
 mod planned;
 mod purpose;
 mod range_info;
+mod reply;
 mod rows;
 mod sealed_range;
 mod sealed_ranges;
@@ -23,12 +26,15 @@ mod serials;
 mod shared_fragment;
 mod snapshot;
 mod span;
+mod step;
 #[cfg(test)]
 mod tests;
 mod timeline;
 mod timeline_error;
 mod unrolled;
 
+pub use bytes::Bytes;
+pub use core_run::run_core_one;
 pub use fragment::Fragment;
 pub use fragments::Fragments;
 pub use job::Job;
@@ -36,9 +42,11 @@ pub use joining::work;
 pub use laws::answers_over_cuts;
 pub use purpose::Purpose;
 pub use range_info::RangeInfo;
+pub use reply::Reply;
 pub use rows::Rows;
 pub use serials::Serials;
 pub use shared_fragment::SharedFragment;
 pub use snapshot::Snapshot;
+pub use step::Step;
 pub use timeline::Timeline;
 pub use timeline_error::TimelineError;

@@ -6,6 +6,7 @@ ghost use Rattle.dr_timeline.specs.Held.{info_of, infos_of_chunk, fragments_of_c
 ghost use Rattle.dr_timeline.specs.Joined.{joined_fragment, FitsJob};
 ghost use Rattle.dr_timeline.specs.Segments.{pinned};
 ghost use Rattle.dr_events.specs.Fits.{FitsSchema};
+ghost use Rattle.dr_spec.specs.WellFormed.{IsWellFormed};
 
 use crate::chunk::Chunk;
 use crate::chunks::Chunks;
@@ -54,7 +55,8 @@ impl Model for Timeline {
 impl Timeline {
     /// A timeline with no event yet. The only error is that memory ran out.
     pub fn new(alloc: Global, spec: IngestSpec) -> Result<Timeline, AllocError>
-        ensures { IfOk result (λ timeline. timeline ≡ empty_state spec) }
+        ensures empty { IfOk result (λ timeline. timeline ≡ empty_state spec) }
+        ensures well_formed { IfOk result (λ timeline. IsWellFormed timeline.schema) }
     {
         let kinds = columns_of(alloc, spec.schema())?;
         Ok(Timeline {
