@@ -195,13 +195,13 @@ fn refuses_more_events_than_are_retained(rt: HostRuntime) -> Result<(), Fail> {
     assert_eq!(rt; TimelineError::StreamFull.name(), "StreamFull");
     assert_eq!(rt; timeline.pin()?.event_count(), 2);
     Ok(())
-    let query = query_of(alloc, &timeline, ADDED_AND_ROWS)?;
+}
 
 #[test]
 fn keeps_what_was_pinned(rt: HostRuntime) -> Result<(), Fail> {
     let alloc = rt.alloc();
     let mut timeline = timeline_of(alloc, NO_LIMIT, &[FIRST])?;
-    let query = Query::parse(alloc, ADDED_AND_ROWS.as_bytes(), timeline.spec().schema())?;
+    let query = query_of(alloc, &timeline, ADDED_AND_ROWS)?;
     let snapshot = timeline.pin()?;
     accept(alloc, &mut timeline, SECOND)?;
     let text = text_of(snapshot.answer_one(&query))?;
