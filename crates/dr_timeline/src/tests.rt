@@ -1,8 +1,9 @@
-ghost use Rattle.std.specs.Prelude.{◌≡◌};
+ghost use Rattle.std.specs.Prelude.{◌≡◌, IfOk};
+ghost use Rattle.dr_query.specs.MadeFor.{MadeFor};
 
 use super::*;
 use dr_events::read_event;
-use dr_query::Query;
+use dr_query::{AnswerError, Query};
 use dr_spec::IngestSpec;
 use std::alloc::Global;
 use std::test::Fail;
@@ -32,10 +33,7 @@ const SUMS_OVER_OVERLAPPING: &str =
     r#"{"queryType":"timeseries","dataSource":"w","intervals":["2024-01-01/2024-01-02","2024-01-01/2024-01-03"],"granularity":"all","aggregations":[{"type":"longSum","name":"added","fieldName":"added"},{"type":"longSum","name":"n","fieldName":"n"}]}"#;
 
 fn timeline_with(alloc: Global, tuning: &str) -> Result<Timeline, Fail> {
-    let mut text = String::from_str(alloc, DATA_SCHEMA)?;
-    text.push_str(",\"tuningConfig\":")?;
-    text.push_str(tuning)?;
-    text.push_str("}")?;
+    let text = format!(in alloc; "{DATA_SCHEMA},\"tuningConfig\":{tuning}}}")?;
     let spec = IngestSpec::parse(alloc, text.as_str().as_bytes())?;
     Ok(Timeline::new(alloc, spec)?)
 }
@@ -76,23 +74,28 @@ fn merge(alloc: Global, timeline: &mut Timeline, lo: usize, hi: usize) -> Result
     timeline.commit(&job, fragment)
 }
 
-fn answer(alloc: Global, timeline: &Timeline, query: &str) -> Result<String, Fail> {
-    let query = Query::parse(alloc, query.as_bytes(), timeline.spec().schema())?;
-    let text = timeline.pin()?.answer_one(&query)?;
+fn query_of(alloc: Global, timeline: &Timeline, query: &str) -> Result<Query, Fail>
+    ensures { IfOk result (MadeFor timeline.now.schema) }
+{
+    let schema = timeline.spec().schema();
+    Ok(Query::parse(alloc, query.as_bytes(), schema)?)
+}
+
+fn text_of(answer: Result<Vec<u8>, AnswerError>) -> Result<String, Fail> {
+    let text = answer?;
     Ok(String::from_utf8(text)?)
+}
+
+fn answer(alloc: Global, timeline: &Timeline, query: &str) -> Result<String, Fail> {
+    let query = query_of(alloc, timeline, query)?;
+    let snapshot = timeline.pin()?;
+    text_of(snapshot.answer_one(&query))
 }
 
 fn audit(alloc: Global, timeline: &Timeline, query: &str) -> Result<String, Fail> {
-    let query = Query::parse(alloc, query.as_bytes(), timeline.spec().schema())?;
-    let text = timeline.pin()?.audit(&query)?;
-    Ok(String::from_utf8(text)?)
-}
-
-/// The answer to `ADDED_AND_ROWS` with these values.
-fn added_and_rows(alloc: Global, added: i64, rows: u64) -> Result<String, Fail> {
-    Ok(format!(in alloc;
-        "[{{\"result\":{{\"added\":{added},\"cnt\":{rows}}},\"timestamp\":\"2024-01-01T00:00:00.000Z\"}}]"
-    )?)
+    let query = query_of(alloc, timeline, query)?;
+    let snapshot = timeline.pin()?;
+    text_of(snapshot.audit(&query))
 }
 
 fn sealed(from: usize, to: usize, rows: usize) -> RangeInfo {
@@ -122,9 +125,15 @@ fn answers_the_first_query(rt: HostRuntime) -> Result<(), Fail> {
     let alloc = rt.alloc();
     let timeline = timeline_of(alloc, NO_LIMIT, &[FIRST, SECOND, THIRD])?;
     let text = answer(alloc, &timeline, ADDED_AND_ROWS)?;
-    assert_eq!(rt; text, added_and_rows(alloc, 10, 3)?);
+    assert_eq!(rt;
+        text.as_str(),
+        r#"[{"result":{"added":10,"cnt":3},"timestamp":"2024-01-01T00:00:00.000Z"}]"#
+    );
     let text = audit(alloc, &timeline, ADDED_AND_ROWS)?;
-    assert_eq!(rt; text, added_and_rows(alloc, 10, 3)?);
+    assert_eq!(rt;
+        text.as_str(),
+        r#"[{"result":{"added":10,"cnt":3},"timestamp":"2024-01-01T00:00:00.000Z"}]"#
+    );
     Ok(())
 }
 
@@ -192,14 +201,20 @@ fn refuses_more_events_than_are_retained(rt: HostRuntime) -> Result<(), Fail> {
 fn keeps_what_was_pinned(rt: HostRuntime) -> Result<(), Fail> {
     let alloc = rt.alloc();
     let mut timeline = timeline_of(alloc, NO_LIMIT, &[FIRST])?;
-    let query = Query::parse(alloc, ADDED_AND_ROWS.as_bytes(), timeline.spec().schema())?;
+    let query = query_of(alloc, &timeline, ADDED_AND_ROWS)?;
     let snapshot = timeline.pin()?;
     accept(alloc, &mut timeline, SECOND)?;
-    let text = String::from_utf8(snapshot.answer_one(&query)?)?;
-    assert_eq!(rt; text, added_and_rows(alloc, 5, 1)?);
+    let text = text_of(snapshot.answer_one(&query))?;
+    assert_eq!(rt;
+        text.as_str(),
+        r#"[{"result":{"added":5,"cnt":1},"timestamp":"2024-01-01T00:00:00.000Z"}]"#
+    );
     assert_eq!(rt; snapshot.ranges(), [open(0, 1, 1)].as_slice());
     let text = answer(alloc, &timeline, ADDED_AND_ROWS)?;
-    assert_eq!(rt; text, added_and_rows(alloc, 12, 2)?);
+    assert_eq!(rt;
+        text.as_str(),
+        r#"[{"result":{"added":12,"cnt":2},"timestamp":"2024-01-01T00:00:00.000Z"}]"#
+    );
     Ok(())
 }
 
@@ -229,9 +244,15 @@ fn wraps_a_sum(rt: HostRuntime) -> Result<(), Fail> {
     let alloc = rt.alloc();
     let timeline = timeline_of(alloc, NO_LIMIT, &[GREATEST, ONE])?;
     let text = answer(alloc, &timeline, ADDED_AND_ROWS)?;
-    assert_eq!(rt; text, added_and_rows(alloc, i64::MIN, 1)?);
+    assert_eq!(rt;
+        text.as_str(),
+        r#"[{"result":{"added":-9223372036854775808,"cnt":1},"timestamp":"2024-01-01T00:00:00.000Z"}]"#
+    );
     let text = audit(alloc, &timeline, ADDED_AND_ROWS)?;
-    assert_eq!(rt; text, added_and_rows(alloc, i64::MIN, 2)?);
+    assert_eq!(rt;
+        text.as_str(),
+        r#"[{"result":{"added":-9223372036854775808,"cnt":2},"timestamp":"2024-01-01T00:00:00.000Z"}]"#
+    );
     Ok(())
 }
 
@@ -242,11 +263,17 @@ fn wraps_a_sum_over_two_ranges(rt: HostRuntime) -> Result<(), Fail> {
     timeline.seal(DAY)?;
     accept(alloc, &mut timeline, ONE)?;
     let text = answer(alloc, &timeline, ADDED_AND_ROWS)?;
-    assert_eq!(rt; text, added_and_rows(alloc, i64::MIN, 2)?);
+    assert_eq!(rt;
+        text.as_str(),
+        r#"[{"result":{"added":-9223372036854775808,"cnt":2},"timestamp":"2024-01-01T00:00:00.000Z"}]"#
+    );
     timeline.seal(DAY)?;
     assert_eq!(rt; merge(alloc, &mut timeline, 0, 2), Ok(0));
     let text = answer(alloc, &timeline, ADDED_AND_ROWS)?;
-    assert_eq!(rt; text, added_and_rows(alloc, i64::MIN, 1)?);
+    assert_eq!(rt;
+        text.as_str(),
+        r#"[{"result":{"added":-9223372036854775808,"cnt":1},"timestamp":"2024-01-01T00:00:00.000Z"}]"#
+    );
     Ok(())
 }
 
@@ -260,7 +287,10 @@ fn seals_a_range_with_as_many_rows_as_are_held(rt: HostRuntime) -> Result<(), Fa
     let ranges = [sealed(0, 2, 2), open(2, 3, 1)];
     assert_eq!(rt; timeline.pin()?.ranges(), ranges.as_slice());
     let text = answer(alloc, &timeline, ADDED_AND_ROWS)?;
-    assert_eq!(rt; text, added_and_rows(alloc, 10, 3)?);
+    assert_eq!(rt;
+        text.as_str(),
+        r#"[{"result":{"added":10,"cnt":3},"timestamp":"2024-01-01T00:00:00.000Z"}]"#
+    );
     Ok(())
 }
 
@@ -294,13 +324,22 @@ fn merges_two_ranges(rt: HostRuntime) -> Result<(), Fail> {
     let ranges = [sealed(0, 1, 1), sealed(1, 2, 1)];
     assert_eq!(rt; timeline.pin()?.ranges(), ranges.as_slice());
     let text = answer(alloc, &timeline, ADDED_AND_ROWS)?;
-    assert_eq!(rt; text, added_and_rows(alloc, 10, 2)?);
+    assert_eq!(rt;
+        text.as_str(),
+        r#"[{"result":{"added":10,"cnt":2},"timestamp":"2024-01-01T00:00:00.000Z"}]"#
+    );
     assert_eq!(rt; merge(alloc, &mut timeline, 0, 2), Ok(0));
     assert_eq!(rt; timeline.pin()?.ranges(), [sealed(0, 2, 1)].as_slice());
     let text = answer(alloc, &timeline, ADDED_AND_ROWS)?;
-    assert_eq!(rt; text, added_and_rows(alloc, 10, 1)?);
+    assert_eq!(rt;
+        text.as_str(),
+        r#"[{"result":{"added":10,"cnt":1},"timestamp":"2024-01-01T00:00:00.000Z"}]"#
+    );
     let text = audit(alloc, &timeline, ADDED_AND_ROWS)?;
-    assert_eq!(rt; text, added_and_rows(alloc, 10, 2)?);
+    assert_eq!(rt;
+        text.as_str(),
+        r#"[{"result":{"added":10,"cnt":2},"timestamp":"2024-01-01T00:00:00.000Z"}]"#
+    );
     Ok(())
 }
 
@@ -309,15 +348,17 @@ fn keeps_the_pinned_ranges(rt: HostRuntime) -> Result<(), Fail> {
     let alloc = rt.alloc();
     let mut timeline = timeline_sealed_after_each(alloc, NO_LIMIT, &[FIRST])?;
     accept(alloc, &mut timeline, FIRST)?;
-    let schema = timeline.spec().schema();
-    let query = Query::parse(alloc, ADDED_AND_ROWS.as_bytes(), schema)?;
+    let query = query_of(alloc, &timeline, ADDED_AND_ROWS)?;
     let snapshot = timeline.pin()?;
     timeline.seal(DAY)?;
     assert_eq!(rt; merge(alloc, &mut timeline, 0, 2), Ok(0));
     let ranges = [sealed(0, 1, 1), open(1, 2, 1)];
     assert_eq!(rt; snapshot.ranges(), ranges.as_slice());
-    let text = String::from_utf8(snapshot.answer_one(&query)?)?;
-    assert_eq!(rt; text, added_and_rows(alloc, 10, 2)?);
+    let text = text_of(snapshot.answer_one(&query))?;
+    assert_eq!(rt;
+        text.as_str(),
+        r#"[{"result":{"added":10,"cnt":2},"timestamp":"2024-01-01T00:00:00.000Z"}]"#
+    );
     Ok(())
 }
 
