@@ -62,9 +62,9 @@ cuts-opened schema es cuts e are =
     record {
       chunks = keys-at_key (λ (c : Cut). c.chunk) (open_cut k) cuts k (λ c. c) (λ c. refl) refl ∙ ap (with_value k) are.chunks ∙ sym (values_onto-push (chunk schema) [] es e);
       tiled = All-at_key (λ c. c.chunk) (open_cut k) (IsTiled schema es) (IsTiled schema (es ++ e ∷ [])) cuts k (λ c. c)
-      (λ c other h. subst (λ (l : List Event). Tile 0 (length l) c.sealed) (sym (other-list schema es e c.chunk other)) h)
-      (tile-more 0 (length (chunk_list schema es (cut_at k cuts).chunk)) (length (chunk_list schema (es ++ e ∷ []) (cut_at k cuts).chunk)) (cut_at k cuts).sealed longer at.0)
-      are.tiled (rising-cuts schema es cuts are);
+          (λ c other h. subst (λ (l : List Event). Tile 0 (length l) c.sealed) (sym (other-list schema es e c.chunk other)) h)
+          (tile-more 0 (length (chunk_list schema es (cut_at k cuts).chunk)) (length (chunk_list schema (es ++ e ∷ []) (cut_at k cuts).chunk)) (cut_at k cuts).sealed longer at.0)
+          are.tiled (rising-cuts schema es cuts are);
     }
   where
     length-push : (l : List Event) → length l ≤ length (l ++ e ∷ [])
@@ -87,7 +87,7 @@ cuts-after_seal s k serial are some =
     record {
       chunks = keys-at_key (λ (c : Cut). c.chunk) (open_cut k) s.cuts k (with_seal (length l) serial) (λ c. refl) refl ∙ with_value-there k (map (λ c. c.chunk) s.cuts) (there s.schema s.stream s.cuts k are list) (rising-cuts s.schema s.stream s.cuts are) ∙ are.chunks;
       tiled = All-at_key (λ c. c.chunk) (open_cut k) (IsTiled s.schema s.stream) (IsTiled s.schema s.stream) s.cuts k (with_seal (length l) serial) (λ c other h. h)
-      (subst (λ (j : ℤ). Tile 0 (length (chunk_list s.schema s.stream j)) (c.sealed ++ new ∷ [])) (sym at.1) longer) are.tiled (rising-cuts s.schema s.stream s.cuts are);
+          (subst (λ (j : ℤ). Tile 0 (length (chunk_list s.schema s.stream j)) (c.sealed ++ new ∷ [])) (sym at.1) longer) are.tiled (rising-cuts s.schema s.stream s.cuts are);
     }
   where
     itself : (n : ℕ) → n ≤ n
@@ -140,7 +140,7 @@ cuts-after_merge s job place are stands =
     record {
       chunks = keys-at_key (λ (c : Cut). c.chunk) (open_cut k) s.cuts k (replaced place n new) (λ c. refl) refl ∙ with_value-there k (map (λ c. c.chunk) s.cuts) (there s.schema s.stream s.cuts k are list) (rising-cuts s.schema s.stream s.cuts are) ∙ are.chunks;
       tiled = All-at_key (λ c. c.chunk) (open_cut k) (IsTiled s.schema s.stream) (IsTiled s.schema s.stream) s.cuts k (replaced place n new) (λ c other h. h)
-      (subst (λ (j : ℤ). Tile 0 (length (chunk_list s.schema s.stream j)) (take place c.sealed ++ (new ∷ drop (place + n) c.sealed))) (sym at.1) longer) are.tiled (rising-cuts s.schema s.stream s.cuts are);
+          (subst (λ (j : ℤ). Tile 0 (length (chunk_list s.schema s.stream j)) (take place c.sealed ++ (new ∷ drop (place + n) c.sealed))) (sym at.1) longer) are.tiled (rising-cuts s.schema s.stream s.cuts are);
     }
   where
     tile-none : (rs : List Range) → Tile 0 0 rs → length rs ≡ 0

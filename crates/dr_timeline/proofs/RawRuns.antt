@@ -40,9 +40,9 @@ cuts-if_full : (s : State) (k : ℤ) → 1 ≤ s.schema.limits.max_rows_in_memor
     → (b : Bool) → nat_le s.schema.limits.max_rows_in_memory (length (rolled_up s.schema (open_in s k))) ≡ b → AreCuts s.schema s.stream (cond b (sealed_at k s) s).cuts
 cuts-if_full s k least are true full =
     cuts-after_seal s k s.serials are (λ none.
-      let count : length (rolled_up s.schema (open_in s k)) ≡ 0 = ap (λ (es : List Event). length (rolled_up s.schema es)) none ∙ ap (λ (rs : List Row). length rs) (no-rows s.schema) in
-      let many : s.schema.limits.max_rows_in_memory ≤ length (rolled_up s.schema (open_in s k)) = grind (arith, nat_tests) in
-      absurd (omega arith))
+    let count : length (rolled_up s.schema (open_in s k)) ≡ 0 = ap (λ (es : List Event). length (rolled_up s.schema es)) none ∙ ap (λ (rs : List Row). length rs) (no-rows s.schema) in
+    let many : s.schema.limits.max_rows_in_memory ≤ length (rolled_up s.schema (open_in s k)) = grind (arith, nat_tests) in
+    absurd (omega arith))
 cuts-if_full s k least are false full = are
 
 if-stream : (s : State) (k : ℤ) (b : Bool) → (cond b (sealed_at k s) s).stream ≡ s.stream
@@ -232,8 +232,8 @@ pub run-raw : (schema : Schema) (es : List Event) (ess : List (List Event)) (old
 run-raw schema es ess old new [] rs least fits h g = tt
 run-raw schema es ess old new (s ∷ ss) [] least fits h g = tt
 run-raw schema es ess old new (s ∷ ss) (r ∷ rs) least fits h g = (
-    step-raw schema es ess old h.0 s r fits.0 h.1 g,
-    run-raw schema (es ++ accepted_by s r) (ess ++ pinned_by es s r) h.0 new ss rs least fits.1 h.2 (moves-run schema es ess old h.0 s r least h.1 g),
+  step-raw schema es ess old h.0 s r fits.0 h.1 g,
+  run-raw schema (es ++ accepted_by s r) (ess ++ pinned_by es s r) h.0 new ss rs least fits.1 h.2 (moves-run schema es ess old h.0 s r least h.1 g),
 )
 
 -- a run from a timeline without events

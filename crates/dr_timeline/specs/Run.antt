@@ -65,7 +65,7 @@ TakesCommit old None reply new = Becomes reply new NoSuch old
 TakesCommit old (Some job) reply new =
     (((place : ℕ) → StandsAt old.timeline job place → ⊥) × Becomes reply new (Refused (number_of Stale)) old)
     ⊎ ((((place : ℕ) × StandsAt old.timeline job place) × (old.timeline.schema.limits.max_commits ≤ old.timeline.commits) × Becomes reply new (Refused (number_of CommitsFull)) old)
-      ⊎ ((old.timeline.commits < old.timeline.schema.limits.max_commits) × ((version : ℕ) × (next : State) × Commits old.timeline job version next × Becomes reply new (Committed version) (with_timeline next old))))
+    ⊎ ((old.timeline.commits < old.timeline.schema.limits.max_commits) × ((version : ℕ) × (next : State) × Commits old.timeline job version next × Becomes reply new (Committed version) (with_timeline next old))))
 
 -- a query on a snapshot is answered over its own rows, and an audit over its raw events
 abbrev pub TakesAsk : CoreState → Option Pinned → Query → Reply → CoreState → Type 0

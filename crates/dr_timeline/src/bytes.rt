@@ -28,4 +28,12 @@ impl Bytes {
     {
         self.0.as_slice()
     }
+
+    /// The list of the bytes. It takes no memory.
+    pub fn into_vec(self) -> Vec<u8>
+        ensures { result.items ≡ self }
+    {
+        let Bytes(list) = self;
+        list
+    }
 }

@@ -15,7 +15,7 @@ step-reply-requires c =
 
 pub loop-step-preserved : goal.loop-step-preserved
 loop-step-preserved c = (
-    moves-schema c.loop-step.self c.step-reply.new.self c.step-item.result c.step-reply.result c.step-reply.ensures ∙ c.loop-step.invariant.0,
-    rw (take_more c.args.steps.now c.loop-step.step-index c.step-item.result c.loop-step-test.true, ← c.step-item.is, c.in_ok-push.ensures.items)
-    (run_more c.args.self.now c.loop-step.self c.step-reply.new.self (take c.loop-step.step-index c.args.steps.now) c.loop-step.replies.items c.step-item.result c.step-reply.result c.loop-step.invariant.1 c.step-reply.ensures),
+  moves-schema c.loop-step.self c.step-reply.new.self c.step-item.result c.step-reply.result c.step-reply.ensures ∙ c.loop-step.invariant.0,
+  rw (take_more c.args.steps.now c.loop-step.step-index c.step-item.result c.loop-step-test.true, ← c.step-item.is, c.in_ok-push.ensures.items)
+      (run_more c.args.self.now c.loop-step.self c.step-reply.new.self (take c.loop-step.step-index c.args.steps.now) c.loop-step.replies.items c.step-item.result c.step-reply.result c.loop-step.invariant.1 c.step-reply.ensures),
 )
