@@ -18,6 +18,7 @@ use simdutf8::compat::from_utf8;
 use std::alloc::{AllocError, Global};
 
 /// The members of the object that a line spells, in the order of the line, where each is a scalar; none for any other line.
+/// To answer none for every line would be right as well, and slow: a line with no answer here is read as a JSON value.
 pub fn flat_line<'a>(
     alloc: Global,
     bytes: &'a [u8],

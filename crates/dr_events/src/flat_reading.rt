@@ -14,7 +14,8 @@ use std::alloc::{AllocError, Global};
 const FEW_MEMBERS: usize = 16;
 
 /// The members of the object that a text spells, in the order of the text, where each is a scalar; none for any other text.
-/// The texts of the members are borrowed from the text, or from the scratch where they have escapes.
+/// The texts of the members are borrowed from the text, or from the scratch where they have escapes. To answer none for every
+/// text would be right as well, and slow.
 pub fn flat_object<'a>(
     alloc: Global,
     text: &'a str,
