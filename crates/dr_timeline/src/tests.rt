@@ -431,20 +431,27 @@ fn refuses_more_commits_than_there_may_be(rt: HostRuntime) -> Result<(), Fail> {
     Ok(())
 }
 
+/// Whether a snapshot with the first events extends one with the others, and the other way round. The ranges of the first
+/// are sealed, those of the others aren't.
+fn extends_both_ways(
+    alloc: Global,
+    events: &[&str],
+    others: &[&str],
+) -> Result<(bool, bool), Fail> {
+    let first = timeline_sealed_after_each(alloc, NO_LIMIT, events)?.pin()?;
+    let other = timeline_of(alloc, NO_LIMIT, others)?.pin()?;
+    Ok((first.extends(&other), other.extends(&first)))
+}
+
 #[test]
 fn extends_what_was_pinned_before(rt: HostRuntime) -> Result<(), Fail> {
     let alloc = rt.alloc();
-    let mut timeline = timeline_of(alloc, NO_LIMIT, &[FIRST])?;
-    let before = timeline.pin()?;
-    timeline.seal(DAY)?;
-    accept(alloc, &mut timeline, SECOND)?;
-    let after = timeline.pin()?;
-    assert!(rt; after.extends(&before));
-    assert!(rt; before.extends(&before));
-    assert!(rt; !before.extends(&after));
-    let other = timeline_of(alloc, NO_LIMIT, &[SECOND])?.pin()?;
-    assert!(rt; !after.extends(&other));
-    assert!(rt; !other.extends(&before));
+    let ways = extends_both_ways(alloc, &[FIRST, SECOND], &[FIRST])?;
+    assert_eq!(rt; ways, (true, false));
+    let ways = extends_both_ways(alloc, &[FIRST, SECOND], &[FIRST, SECOND])?;
+    assert_eq!(rt; ways, (true, true));
+    let ways = extends_both_ways(alloc, &[FIRST, SECOND], &[SECOND])?;
+    assert_eq!(rt; ways, (false, false));
     Ok(())
 }
 
