@@ -13,7 +13,7 @@ ghost use Rattle.dr_cli.specs.Replies.{IsAnswer, Moves, MovesBy, Opens, seen};
 use crate::cli_error::CliError;
 use crate::reply::Reply;
 use dr_base::{Arg, fault_line};
-use dr_events::{Unparseable, read_event};
+use dr_events::{EventReader, Unparseable};
 use dr_query::{AnswerError, Query};
 use dr_spec::IngestSpec;
 use dr_timeline::Timeline;
@@ -40,12 +40,17 @@ pub fn open_timeline(alloc: Global, line: &[u8]) -> Result<Timeline, Reply>
 /// The reply to a later line: `+ EVENT` or `query JSON`.
 /// Refusals: 101 `BadCommand` for another line; 90 `StreamFull` for an event; those of [`Query::parse`] and 81
 /// `ResultTooLarge` for a query.
-pub fn answer_line(alloc: Global, timeline: &mut Timeline, line: &[u8]) -> Reply
+pub fn answer_line(
+    alloc: Global,
+    events: &mut EventReader,
+    timeline: &mut Timeline,
+    line: &[u8],
+) -> Reply
     requires { length line.now ≤ longest_line }
     ensures { Moves timeline.old line.now (seen result) timeline.new }
 {
     if let Some(event) = event_in(line) {
-        return answer_event(alloc, timeline, event);
+        return answer_event(alloc, events, timeline, event);
     }
     match line.strip_prefix(b"query ") {
         Some(query) => answer_query(alloc, timeline, query),
@@ -63,10 +68,15 @@ fn event_in(line: &[u8]) -> Option<&[u8]>
     line.strip_prefix(b"+ ")
 }
 
-fn answer_event(alloc: Global, timeline: &mut Timeline, text: &[u8]) -> Reply
+fn answer_event(
+    alloc: Global,
+    events: &mut EventReader,
+    timeline: &mut Timeline,
+    text: &[u8],
+) -> Reply
     ensures { MovesBy (answer_event timeline.old text.now) timeline.old (seen result) timeline.new }
 {
-    match read_event(alloc, timeline.spec(), SEAT, text) {
+    match events.read(alloc, timeline.spec(), SEAT, text) {
         Ok(event) => match timeline.accept(event) {
             Ok(number) => Reply::Accepted(number),
             Err(error) => refused(alloc, error.number(), error.name(), None),

@@ -12,6 +12,7 @@ use crate::line_reader::LineReader;
 use crate::line_writer::{LineWriter, write_out};
 use crate::next_line::NextLine;
 use crate::reply::Reply;
+use dr_events::EventReader;
 use dr_timeline::Timeline;
 use std::alloc::{AllocError, Global};
 use std::io::{Read, Write};
@@ -142,10 +143,11 @@ fn answer_lines<R: Read, W: Write>(
     ensures failed_read { IfOk result (λ refuses. (failures_of reader.new ≡ failures_of reader.old) ⊎ (refuses ≡ true)) }
     ensures failures { failures_of writer.new ≡ failures_after (failures_of writer.old) result }
 {
+    let mut events = EventReader::new(alloc);
     let mut is_refused = false;
     'lines: loop {
         flush_unless_line(lines, output, writer)?;
-        let reply = match next_reply(alloc, timeline, lines, reader) {
+        let reply = match next_reply(alloc, &mut events, timeline, lines, reader) {
             Some(Ok(reply)) => reply,
             Some(Err(fault)) => {
                 Reply::Fault(fault).put(output, writer)?;
@@ -180,6 +182,7 @@ fn flush_unless_line<W: Write>(
 // The reply to the next line, or none at the end of the input.
 fn next_reply<R: Read>(
     alloc: Global,
+    events: &mut EventReader,
     timeline: &mut Timeline,
     lines: &mut LineReader,
     reader: &mut Counted<R>,
@@ -190,7 +193,7 @@ fn next_reply<R: Read>(
     ensures failed_read { (failures_of reader.new ≡ failures_of reader.old) ⊎ (result ≡ Some (Err CliError.ReadFault)) }
 {
     match lines.next_line(reader) {
-        NextLine::Line => Some(Ok(answer_line(alloc, timeline, lines.line()))),
+        NextLine::Line => Some(Ok(answer_line(alloc, events, timeline, lines.line()))),
         NextLine::TooLong => Some(Ok(Reply::Fault(CliError::LineTooLong))),
         NextLine::End => None,
         NextLine::Failed => Some(Err(CliError::ReadFault)),

@@ -1,16 +1,19 @@
-use Rattle.std.proofs.Common.{◌≡◌, ◌⊎◌, inl, inr, ◌∙◌, Option, Some, Result, Ok, Err}
+use Rattle.std.proofs.Common.{◌≡◌, ◌⊎◌, refl, inl, inr, ◌∙◌, Option, Some, Result, Ok, Err}
 use Rattle.dr_cli.specs.declared.cli_error.CliError.TheVariants.{ReadFault}
 use Rattle.dr_cli.specs.Failures.{failures_of, inner_of}
 use Rattle.dr_cli.specs.Lines.{left_to_read}
 use Rattle.dr_cli.specs.Script.{answers}
 use Rattle.dr_cli.specs.Replies.{Answering, seen}
-use Rattle.dr_cli.proofs.ScriptSteps.{flushes, answers_line, ends, fails}
+use Rattle.dr_cli.proofs.ScriptSteps.{begins, flushes, answers_line, ends, fails}
 use Rattle.dr_cli.proofs.script.answer_lines.Goals as goal
 
 -- a reply that isn't that of a failed read
 read_well : {P X E : Type 0} (reply : X) (e : E) → P ⊎ (◌≡◌ {A = Option (Result X E)} (Some (Ok reply)) (Some (Err e))) → P
 read_well reply e (inl same) = same
 read_well reply e (inr failed) = let bad : ⊥ = cc in absurd bad
+
+pub lines-init : goal.lines-init
+lines-init g c = record { answering = begins _ _ _ _; failures = refl; reads = refl }
 
 pub lines-preserved : goal.lines-preserved
 lines-preserved g c =
