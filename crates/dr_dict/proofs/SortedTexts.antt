@@ -1,7 +1,7 @@
 -- Distinct texts are sorted in one way.
-use Rattle.std.proofs.Common.{◌≡◌, ◌∙◌, sym, refl, ap, subst, ℕ, zero, suc, ◌+◌, ◌<◌, Bool, true, false, ◌||◌, List, [], ◌∷◌, ◌++◌, map, take, length, get_or, slice_get, Option, Some, Contains, Fits, w32, bytes_eq, arith, true≢false, ◌≤◌}
+use Rattle.std.proofs.Common.{◌≡◌, ◌∙◌, sym, refl, ap, subst, ℕ, zero, suc, ◌+◌, ◌<◌, true, false, ◌||◌, List, [], ◌∷◌, ◌++◌, map, take, length, get_or, slice_get, Some, Contains, Fits, w32, bytes_eq, arith, true≢false, ◌≤◌}
 use Rattle.std.specs.List.{list_any, AllByRecursion, AllZip, IsDistinct}
-use Rattle.std.specs.List.Sorted.{IsPermutation, IsSorted, IsSortedBy, IsNonDecreasingBy, IsPartitionPoint}
+use Rattle.std.specs.List.Sorted.{IsSorted, IsSortedBy, IsNonDecreasingBy, IsPartitionPoint}
 use Rattle.std.specs.declared.cmp.Ordering.TheVariants.{Less, Equal, Greater}
 use Rattle.std.specs.Ordering.{nat_cmp, is_lt, ordering_reverse, ordering_index}
 use Rattle.std.specs.Cmp.Lexicographic.{slice_cmp, nat_list_cmp_total, nat_list_eq_equiv, bytes_decides}
@@ -80,8 +80,8 @@ next k = omega arith
 in_order : (xs : List (List ℕ)) → IsSorted (slice_cmp nat_cmp) xs → IsInOrder xs
 in_order [] up = tt
 in_order (x ∷ xs) up = (
-    all_from_places (λ y. is_lt (slice_cmp nat_cmp y x) ≡ false) xs (λ k lt. sorted_far (λ a b. is_lt (slice_cmp nat_cmp a b)) (ranks_by nat_list_cmp_total (λ a. a)) (x ∷ xs) up 0 (suc k) [] (omega arith) (omega arith)),
-    in_order xs (λ k d low lt. subst (λ n. is_lt (slice_cmp nat_cmp (get_or (x ∷ xs) n d) (get_or xs k d)) ≡ false) (next k) (up (suc k) d (omega arith) (omega arith))),
+  all_from_places (λ y. is_lt (slice_cmp nat_cmp y x) ≡ false) xs (λ k lt. sorted_far (λ a b. is_lt (slice_cmp nat_cmp a b)) (ranks_by nat_list_cmp_total (λ a. a)) (x ∷ xs) up 0 (suc k) [] (omega arith) (omega arith)),
+  in_order xs (λ k d low lt. subst (λ n. is_lt (slice_cmp nat_cmp (get_or (x ∷ xs) n d) (get_or xs k d)) ≡ false) (next k) (up (suc k) d (omega arith) (omega arith))),
 )
 
 pub sorted-unique : (texts sorted others : List (List ℕ)) → IsDistinct bytes_eq texts → IsSortedOf texts sorted → IsSortedOf texts others → sorted ≡ others

@@ -86,5 +86,4 @@ fn place_of(sorted: &[&str], text: &str) -> usize
 /// Law: distinct texts are sorted in one way.
 pub fn sorted_is_unique()
     ensures { SortedIsUnique }
-{
-}
+{}
