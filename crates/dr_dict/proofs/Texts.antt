@@ -1,9 +1,9 @@
 -- Lists of distinct texts, and the place of one.
-use Rattle.std.proofs.Common.{◌≡◌, ◌∙◌, sym, refl, ap, ℕ, ◌+◌, ◌<◌, ◌≤◌, Bool, true, false, cond, not, nat_lt, ◌||◌, List, [], ◌∷◌, ◌++◌, map, length, take, Option, None, Some, bytes_eq, arith, is_some, lt-ltb, le-ltb, unwrap_or, true≢false, subst, if◌then◌else◌, suc, zero}
+use Rattle.std.proofs.Common.{◌≡◌, ◌∙◌, sym, refl, ap, ℕ, ◌+◌, ◌<◌, Bool, true, false, cond, not, nat_lt, ◌||◌, List, [], ◌∷◌, ◌++◌, map, length, take, None, Some, bytes_eq, arith, is_some, lt-ltb, le-ltb, true≢false, subst, if◌then◌else◌, suc, zero}
 use Rattle.std.specs.List.{position, position_or_len, list_any, AllByRecursion, IsDistinct}
 use Rattle.std.specs.Cmp.Lexicographic.{nat_list_eq_equiv}
 use Rattle.std.proofs.lemmas.List.{length-map}
-use Rattle.std.proofs.lemmas.List.{map-append, take-map}
+use Rattle.std.proofs.lemmas.List.{map-append}
 use Rattle.indexmap.specs.IndexSet.{insert_key}
 use Rattle.dr_dict.specs.Dictionary.{number_in, with_text}
 

@@ -1,5 +1,5 @@
 -- Dictionaries of the values of a dimension (Apache Druid documentation, segments: dictionary encoding).
-use Rattle.std.specs.Prelude.{ℕ, Bool, List, [], ◌∷◌, ◌++◌, Option, None, Some, bytes_eq, take, if◌then◌else◌}
+use Rattle.std.specs.Prelude.{ℕ, List, [], ◌∷◌, ◌++◌, Option, bytes_eq, if◌then◌else◌}
 use Rattle.std.specs.List.{position, list_any}
 
 -- distinct texts in the order in which they first came, and how many there may be

@@ -1,15 +1,13 @@
 -- What an event changes in an open index.
-use Rattle.std.proofs.Common.{◌≡◌, ◌∙◌, sym, refl, ap, subst, ℕ, zero, suc, ◌+◌, ◌<◌, ◌≤◌, ℤ, Bool, true, false, List, [], ◌∷◌, ◌++◌, map, length, slice_get, slice_set, Option, Some, None, arith, bytes_eq}
+use Rattle.std.proofs.Common.{◌≡◌, ◌∙◌, sym, refl, ap, subst, ℕ, zero, suc, ◌<◌, ◌≤◌, ℤ, true, false, List, [], ◌∷◌, ◌++◌, map, length, slice_get, Some, arith, bytes_eq}
 use Rattle.std.proofs.lemmas.List.{map-append, length-map}
 use Rattle.std.specs.List.{AllByRecursion, IsDistinct}
 use Rattle.dr_base.specs.declared.event.Event.{Event}
-use Rattle.dr_base.specs.declared.key.Key.{Key}
 use Rattle.dr_base.specs.declared.row.Row.{Row}
 use Rattle.dr_gran.specs.Step.{is_all}
 use Rattle.dr_gran.specs.Truncation.{truncation}
 use Rattle.dr_dict.proofs.Texts.{distinct-nil}
 use Rattle.dr_agg.specs.declared.kind.Kind.{Kind}
-use Rattle.dr_agg.specs.Combination.{combine_columns, FitsColumns}
 use Rattle.dr_agg.specs.Rollup.{add_row, rollup, rollup_onto}
 use Rattle.dr_agg.proofs.RollupLaws.{rollup_onto_push}
 use Rattle.dr_spec.specs.declared.schema.Schema.{Schema}
@@ -18,10 +16,10 @@ use Rattle.dr_dict.specs.Dictionary.{Dictionary}
 use Rattle.dr_rollup.specs.declared.coded.Coded.{Coded}
 use Rattle.dr_rollup.specs.declared.entries.Entries.{Entries}
 use Rattle.dr_rollup.specs.Unrolled.{contributions, unrolled, rolled_up}
-use Rattle.dr_rollup.specs.Coding.{Entry, entries_of, is_combined, numbers_of, with_values, row_of, same_keys, Combines, AreNumbers, AreDistinct}
+use Rattle.dr_rollup.specs.Coding.{Entry, entries_of, is_combined, numbers_of, with_values, row_of, same_keys, Combines}
 use Rattle.dr_rollup.specs.Sound.{IsSound, Holds, rows_of}
 use Rattle.dr_rollup.proofs.Contributing.{length-contributions}
-use Rattle.dr_rollup.proofs.Rows.{rows-counted, sorted-rollup}
+use Rattle.dr_rollup.proofs.Rows.{rows-counted}
 use Rattle.dr_rollup.proofs.Growing.{sound-combined, rows-combined, sound-added, rows-added, count-added}
 
 member : {X : Type 0} (xs : List X) (i : ℕ) → i < length xs → (x : X) × (slice_get xs i ≡ Some x)

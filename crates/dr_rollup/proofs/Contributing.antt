@@ -1,5 +1,5 @@
 -- What an event adds, column by column.
-use Rattle.std.proofs.Common.{◌≡◌, ◌∙◌, sym, refl, ap, ℕ, zero, suc, ◌+◌, ◌<◌, ℤ, pos, List, [], ◌∷◌, length, drop, get_or, arith}
+use Rattle.std.proofs.Common.{◌≡◌, ◌∙◌, refl, ap, ℕ, zero, suc, ◌+◌, ◌<◌, ℤ, pos, List, [], ◌∷◌, length, drop, get_or, arith}
 use Rattle.std.proofs.lemmas.List.{get_or-drop}
 use Rattle.dr_agg.specs.declared.kind.Kind.{Kind}
 use Rattle.dr_rollup.specs.Unrolled.{contribution, contributions}

@@ -1,11 +1,11 @@
 -- The texts of numbers, while dictionaries grow.
-use Rattle.std.proofs.Common.{◌≡◌, ◌∙◌, sym, refl, ap, subst, ℕ, zero, suc, ◌+◌, ◌<◌, ◌≤◌, ◌&&◌, ◌||◌, Bool, true, false, cond, not, List, [], ◌∷◌, ◌++◌, length, take, drop, get_or, bytes_eq, arith, true≢false, if◌then◌else◌}
+use Rattle.std.proofs.Common.{◌≡◌, ◌∙◌, sym, refl, ap, subst, ℕ, zero, suc, ◌+◌, ◌<◌, ◌&&◌, ◌||◌, Bool, true, false, cond, not, List, [], ◌∷◌, ◌++◌, length, drop, get_or, bytes_eq, arith, true≢false, if◌then◌else◌}
 use Rattle.std.proofs.lemmas.List.{get_or_append_left, get_or_at}
-use Rattle.std.specs.List.{position_or_len, list_any, AllByRecursion, AllZip, IsDistinct}
+use Rattle.std.specs.List.{position_or_len, list_any, AllByRecursion, IsDistinct}
 use Rattle.std.specs.Cmp.Lexicographic.{bytes_decides, nat_list_eq_equiv}
 use Rattle.dr_dict.specs.Dictionary.{Dictionary, with_text, with_texts}
 use Rattle.dr_dict.proofs.Texts.{or_len-none, or_len-some}
-use Rattle.dr_rollup.specs.Coding.{number_or_next, numbers_of, all_known, with_values, text_at, texts_of, AreNumbers, AreDistinct, HaveRoom}
+use Rattle.dr_rollup.specs.Coding.{number_or_next, numbers_of, all_known, with_values, text_at, texts_of, AreNumbers, AreDistinct}
 
 -- ---- one dictionary
 

@@ -1,7 +1,6 @@
 -- An open index with one more event.
-use Rattle.std.proofs.Common.{◌≡◌, ◌∙◌, sym, refl, ap, subst, ℕ, zero, suc, ◌+◌, ◌<◌, ◌≤◌, ◌&&◌, ◌||◌, ℤ, Bool, true, false, cond, List, [], ◌∷◌, ◌++◌, map, length, take, drop, get_or, slice_get, slice_set, Option, Some, None, is_some, unwrap_or, arith, true≢false, if◌then◌else◌, bytes_eq, nat_eq}
-use Rattle.std.proofs.lemmas.List.{map-append, map-set, set_split, take-append-drop, drop_more}
-use Rattle.std.proofs.lemmas.Option.{slice_get_within, get_or_from_slice_get}
+use Rattle.std.proofs.Common.{◌≡◌, ◌∙◌, sym, refl, ap, subst, ℕ, zero, suc, ◌<◌, ◌≤◌, ◌&&◌, ℤ, Bool, true, false, List, [], ◌∷◌, ◌++◌, map, length, take, drop, slice_get, slice_set, Some, is_some, unwrap_or, arith, true≢false, if◌then◌else◌, bytes_eq}
+use Rattle.std.proofs.lemmas.List.{map-append}
 use Rattle.std.proofs.lemmas.Bool.Decides.{Decides-int_eq}
 use Rattle.std.specs.List.{list_any, AllByRecursion, IsDistinct}
 use Rattle.std.specs.Ordering.{int_eq, is_eq}
@@ -14,10 +13,10 @@ use Rattle.dr_base.specs.Order.{key_cmp}
 use Rattle.dr_agg.specs.declared.kind.Kind.{Kind}
 use Rattle.dr_agg.specs.Combination.{combine_columns, FitsColumns}
 use Rattle.dr_agg.specs.Rollup.{add_row, rollup}
-use Rattle.dr_agg.proofs.KeyOrder.{same_key, itself}
+use Rattle.dr_agg.proofs.KeyOrder.{same_key}
 use Rattle.dr_agg.proofs.ColumnLaws.{length-combine_columns}
 use Rattle.dr_agg.proofs.RollupLaws.{rollup_onto_push}
-use Rattle.dr_dict.specs.Dictionary.{Dictionary, with_text, with_texts}
+use Rattle.dr_dict.specs.Dictionary.{Dictionary, with_text}
 use Rattle.dr_dict.proofs.Texts.{distinct-push}
 use Rattle.dr_rollup.specs.declared.coded.Coded.{Coded}
 use Rattle.dr_rollup.specs.Coding.{Entry, numbers_of, all_known, with_values, texts_of, AreNumbers, AreDistinct, HaveRoom, same_coded, same_keys, row_of}

@@ -1,12 +1,12 @@
 -- Values as numbers of dictionaries, and back.
-use Rattle.std.proofs.Common.{◌≡◌, ◌∙◌, sym, refl, ap, subst, ℕ, zero, suc, ◌+◌, ◌<◌, ◌≤◌, ◌&&◌, Bool, true, false, cond, nat_lt, List, [], ◌∷◌, ◌++◌, length, take, drop, get_or, slice_get, Option, None, Some, is_some, unwrap_or, bytes_eq, arith, append_assoc, true≢false, if◌then◌else◌}
+use Rattle.std.proofs.Common.{◌≡◌, ◌∙◌, sym, refl, ap, subst, ℕ, zero, suc, ◌+◌, ◌<◌, ◌&&◌, Bool, true, false, cond, nat_lt, List, [], ◌∷◌, ◌++◌, length, take, drop, get_or, slice_get, None, Some, is_some, unwrap_or, bytes_eq, arith, append_assoc, true≢false, if◌then◌else◌}
 use Rattle.std.proofs.Math.ListN.{set, length-set}
 use Rattle.std.proofs.lemmas.List.{drop_more, take_more_set, take_all, take_at, get_or_default, get_or-set_same, set-set, set-get_or}
-use Rattle.std.specs.List.{position, position_or_len, list_any}
+use Rattle.std.specs.List.{position_or_len, list_any}
 use Rattle.std.proofs.lemmas.Option.{get_or_from_slice_get}
 use Rattle.dr_dict.specs.Dictionary.{Dictionary, number_in, with_text, with_texts}
 use Rattle.dr_dict.proofs.Texts.{some-position, or_len-none}
-use Rattle.dr_rollup.specs.Coding.{number_or_next, numbers_of, all_known, with_values, text_at, texts_of, AreNumbers}
+use Rattle.dr_rollup.specs.Coding.{number_or_next, numbers_of, all_known, text_at, texts_of, AreNumbers}
 
 -- ---- numbers, as a loop writes them
 

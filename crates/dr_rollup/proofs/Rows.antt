@@ -1,19 +1,19 @@
 -- Rows in the order of arrival, and their rollup.
-use Rattle.std.proofs.Common.{◌≡◌, ◌∙◌, sym, refl, ap, subst, ℕ, zero, suc, ◌+◌, ◌<◌, ◌≤◌, ◌&&◌, ◌||◌, not, ℤ, Bool, true, false, cond, List, [], ◌∷◌, ◌++◌, map, length, take, drop, get_or, arith, true≢false, if◌then◌else◌, append_assoc, filter}
-use Rattle.std.proofs.lemmas.List.{append-nil, map-append}
+use Rattle.std.proofs.Common.{◌≡◌, ◌∙◌, sym, refl, ap, subst, ℕ, suc, ◌+◌, ◌<◌, ◌&&◌, ◌||◌, not, ℤ, Bool, true, false, cond, List, [], ◌∷◌, ◌++◌, map, length, get_or, arith, true≢false, if◌then◌else◌, append_assoc, filter}
+use Rattle.std.proofs.lemmas.List.{append-nil}
 use Rattle.std.specs.List.{list_any, AllByRecursion, IsDistinct}
 use Rattle.std.specs.List.Sorted.{IsPermutation, IsSortedBy, IsStableBy, ties}
 use Rattle.std.specs.declared.cmp.Ordering.{Ordering}
 use Rattle.std.specs.declared.cmp.Ordering.TheVariants.{Less, Equal, Greater}
-use Rattle.std.specs.Ordering.{ordering_reverse, is_lt, is_eq, eq_by_cmp, match_ordering}
+use Rattle.std.specs.Ordering.{ordering_reverse, is_lt, is_eq, match_ordering}
 use Rattle.std.proofs.lemmas.List.Sorted.{sorted_far, ranks_by, IsPermutation-to_front, IsPermutation-cons, IsPermutation-append_right}
 use Rattle.dr_base.specs.declared.key.Key.{Key}
 use Rattle.dr_base.specs.declared.row.Row.{Row}
 use Rattle.dr_base.specs.Order.{key_cmp}
 use Rattle.dr_agg.specs.declared.kind.Kind.{Kind}
 use Rattle.dr_agg.specs.Combination.{combine_columns}
-use Rattle.dr_agg.specs.Rollup.{rows_at, combined, together, IsInOrder, IsRollup, joined, add_row, rollup_onto, rollup}
-use Rattle.dr_agg.proofs.KeyOrder.{key_cmp_total, same_key, itself, equal_back, less_back, greater_back}
+use Rattle.dr_agg.specs.Rollup.{rows_at, together, IsInOrder, IsRollup, joined, add_row, rollup_onto, rollup}
+use Rattle.dr_agg.proofs.KeyOrder.{key_cmp_total, itself, equal_back, greater_back}
 use Rattle.dr_agg.proofs.ColumnLaws.{combine_columns-assoc}
 use Rattle.dr_agg.proofs.RollupLaws.{rollup_onto_push, IsRollup-rollup, same_rollup, list_any-rollup}
 use Rattle.dr_agg.proofs.Rearranged.{rollup-IsPermutation}

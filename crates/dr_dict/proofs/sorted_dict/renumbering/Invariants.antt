@@ -1,4 +1,4 @@
-use Rattle.std.proofs.Common.{◌≡◌, map, take, string_bytes, slice_get, Some}
+use Rattle.std.proofs.Common.{map, take, string_bytes}
 use Rattle.dr_dict.specs.Sorted.{IsRenumbering}
 use Rattle.dr_dict.proofs.sorted_dict.renumbering.Given as goal
 

@@ -1,4 +1,3 @@
-use Rattle.std.proofs.Common.{sym}
 use Rattle.dr_rollup.proofs.Numbering.{IsCoded-known, IsCoded-new}
 use Rattle.dr_rollup.proofs.coding.code.Goals.{in-Some, in-None}
 use Rattle.dr_rollup.proofs.coding.code.Goals as goal

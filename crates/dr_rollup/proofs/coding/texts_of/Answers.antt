@@ -1,4 +1,3 @@
-use Rattle.std.proofs.Common.{◌≡◌, ◌∙◌, ap, sym}
 use Rattle.dr_rollup.proofs.Numbering.{number-below, texts_of-more}
 use Rattle.dr_rollup.proofs.coding.texts_of.Goals as goal
 

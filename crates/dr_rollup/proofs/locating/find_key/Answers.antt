@@ -1,7 +1,6 @@
 use Rattle.std.proofs.Common.{◌≡◌, ◌∙◌, sym, ap, true, false, None, Some, IfSome, slice_get, subst}
 use Rattle.std.specs.List.{AllByRecursion}
-use Rattle.dr_base.specs.declared.key.Key.{Key}
-use Rattle.dr_rollup.specs.Coding.{Entry, entries_of, numbers_of, texts_of, row_of, same_keys, same_coded, AreNumbers}
+use Rattle.dr_rollup.specs.Coding.{Entry, entries_of, texts_of, row_of, same_keys, same_coded, AreNumbers}
 use Rattle.dr_rollup.proofs.Growing.{new-by-value, new-by-numbers, key-by-numbers, known-texts, unlike-new}
 use Rattle.dr_rollup.proofs.locating.find_key.Goals as goal
 

@@ -1,4 +1,4 @@
-use Rattle.std.proofs.Common.{◌∙◌, ap, ◌++◌, ◌∷◌, [], refl}
+use Rattle.std.proofs.Common.{refl}
 use Rattle.dr_rollup.proofs.putting.put.Goals as goal
 
 pub returns-clause-entries : goal.returns-clause-entries

@@ -1,4 +1,4 @@
-use Rattle.std.proofs.Common.{rules, FitsSigned, w64, get_or, pos, ◌∙◌, sym, ap}
+use Rattle.std.proofs.Common.{rules, FitsSigned, w64, get_or, pos}
 use Rattle.std.proofs.lemmas.Int.{to_z-of_z}
 use Rattle.dr_agg.specs.declared.kind.Kind.TheVariants.{Count}
 use Rattle.dr_agg.specs.Combination.{combine_columns}

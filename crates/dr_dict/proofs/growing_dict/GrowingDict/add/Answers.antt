@@ -1,8 +1,7 @@
-use Rattle.std.proofs.Common.{◌≡◌, ◌∙◌, ap, arith, ◌<◌, ◌≤◌, ◌+◌, length, map, string_bytes, subst, bytes_eq, sym, None, Some, Bool, true, false, if◌then◌else◌}
+use Rattle.std.proofs.Common.{◌≡◌, ◌∙◌, ap, arith, ◌<◌, ◌≤◌, ◌+◌, length, map, string_bytes, sym, None, Some, Bool, true, false, if◌then◌else◌}
 use Rattle.std.proofs.lemmas.List.{length-map}
-use Rattle.std.specs.List.{IsDistinct}
 use Rattle.dr_dict.specs.Dictionary.{number_in, with_text, with_texts}
-use Rattle.dr_dict.proofs.Texts.{with_text-known, with_text-fresh, number-fresh, distinct-with_text, mapped-insert_key}
+use Rattle.dr_dict.proofs.Texts.{with_text-known, number-fresh, distinct-with_text, mapped-insert_key}
 use Rattle.dr_dict.proofs.growing_dict.GrowingDict.add.Goals as goal
 
 pub returns-in-Some-clause-ok : goal.returns-in-Some-clause-ok

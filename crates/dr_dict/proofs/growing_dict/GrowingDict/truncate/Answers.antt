@@ -1,6 +1,5 @@
-use Rattle.std.proofs.Common.{◌≡◌, ◌∙◌, ◌≤◌, ap, arith, map, string_bytes, sym, length, take, min}
+use Rattle.std.proofs.Common.{◌∙◌, ◌≤◌, ap, arith, string_bytes, sym, length}
 use Rattle.std.proofs.lemmas.List.{take-map, length-take}
-use Rattle.dr_dict.specs.Dictionary.{with_texts}
 use Rattle.dr_dict.proofs.Texts.{distinct-take}
 use Rattle.dr_dict.proofs.growing_dict.GrowingDict.truncate.Goals as goal
 

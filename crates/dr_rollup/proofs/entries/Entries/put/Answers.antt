@@ -1,6 +1,5 @@
-use Rattle.std.proofs.Common.{◌∙◌, refl, ap}
-use Rattle.std.specs.Result.{OnOk}
-use Rattle.dr_rollup.specs.Coding.{same_coded, entries_of}
+use Rattle.std.proofs.Common.{◌∙◌, refl}
+use Rattle.dr_rollup.specs.Coding.{same_coded}
 use Rattle.dr_rollup.proofs.Keys.{inserted-last}
 use Rattle.dr_rollup.proofs.entries.Entries.put.Goals as goal
 

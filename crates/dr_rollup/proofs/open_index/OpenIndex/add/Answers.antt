@@ -1,13 +1,11 @@
-use Rattle.std.proofs.Common.{◌≡◌, ◌∙◌, ◌<◌, ◌≤◌, sym, refl, ap, subst, arith, length, List, suc, true≢false}
+use Rattle.std.proofs.Common.{◌≡◌, ◌∙◌, ◌<◌, sym, refl, ap, subst, arith, length, true≢false}
 use Rattle.std.specs.Result.{IsErrAnd, is_ok}
-use Rattle.dr_base.specs.declared.row.Row.{Row}
 use Rattle.dr_agg.specs.Rollup.{add_row}
 use Rattle.dr_spec.specs.Columns.{kinds_of}
 use Rattle.dr_rollup.specs.declared.rollup_error.RollupError.TheVariants.{NoMemory, IndexFull}
 use Rattle.dr_rollup.specs.Refusal.{number_of}
 use Rattle.dr_rollup.specs.Unrolled.{unrolled}
 use Rattle.dr_rollup.specs.Coding.{entries_of}
-use Rattle.dr_rollup.specs.OpenRows.{rows_with, with_rows}
 use Rattle.dr_rollup.specs.Sound.{rows_of, Holds}
 use Rattle.dr_rollup.proofs.Growing.{with-room}
 use Rattle.dr_rollup.proofs.Adding.{length-numbers_of, rolls-up, entries-counted, coded-again, as-before, found-holds, found-rows, new-count, new-rows, new-holds}

@@ -1,4 +1,4 @@
-use Rattle.std.proofs.Common.{◌∙◌, sym, ap, length, map}
+use Rattle.std.proofs.Common.{◌∙◌, sym, map}
 use Rattle.std.proofs.lemmas.List.{length-map}
 use Rattle.dr_rollup.specs.Coding.{entries_of, row_of}
 use Rattle.dr_rollup.proofs.Rows.{rows-counted}

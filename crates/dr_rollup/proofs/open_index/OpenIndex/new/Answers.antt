@@ -1,6 +1,4 @@
-use Rattle.std.proofs.Common.{◌∙◌, sym, ap, subst, false}
-use Rattle.dr_gran.specs.Step.{is_all}
-use Rattle.dr_spec.specs.Columns.{kinds_of}
+use Rattle.std.proofs.Common.{◌∙◌}
 use Rattle.dr_rollup.proofs.Adding.{nothing-holds, nothing-rows}
 use Rattle.dr_rollup.proofs.open_index.OpenIndex.new.Goals as goal
 
