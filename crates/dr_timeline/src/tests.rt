@@ -74,11 +74,10 @@ fn merge(alloc: Global, timeline: &mut Timeline, lo: usize, hi: usize) -> Result
     timeline.commit(&job, fragment)
 }
 
-fn query_of(alloc: Global, timeline: &Timeline, query: &str) -> Result<Query, Fail>
-    ensures { IfOk result (MadeFor timeline.now.schema) }
+fn query_of(alloc: Global, snapshot: &Snapshot, query: &str) -> Result<Query, Fail>
+    ensures { IfOk result (MadeFor snapshot.now.schema) }
 {
-    let schema = timeline.spec().schema();
-    Ok(Query::parse(alloc, query.as_bytes(), schema)?)
+    Ok(Query::parse(alloc, query.as_bytes(), &snapshot.schema)?)
 }
 
 fn text_of(answer: Result<Vec<u8>, AnswerError>) -> Result<String, Fail> {
@@ -86,16 +85,22 @@ fn text_of(answer: Result<Vec<u8>, AnswerError>) -> Result<String, Fail> {
     Ok(String::from_utf8(text)?)
 }
 
-fn answer(alloc: Global, timeline: &Timeline, query: &str) -> Result<String, Fail> {
-    let query = query_of(alloc, timeline, query)?;
-    let snapshot = timeline.pin()?;
+fn answer_over(alloc: Global, snapshot: &Snapshot, query: &str) -> Result<String, Fail> {
+    let query = query_of(alloc, snapshot, query)?;
     text_of(snapshot.answer_one(&query))
 }
 
-fn audit(alloc: Global, timeline: &Timeline, query: &str) -> Result<String, Fail> {
-    let query = query_of(alloc, timeline, query)?;
-    let snapshot = timeline.pin()?;
+fn answer(alloc: Global, timeline: &Timeline, query: &str) -> Result<String, Fail> {
+    answer_over(alloc, &timeline.pin()?, query)
+}
+
+fn audit_over(alloc: Global, snapshot: &Snapshot, query: &str) -> Result<String, Fail> {
+    let query = query_of(alloc, snapshot, query)?;
     text_of(snapshot.audit(&query))
+}
+
+fn audit(alloc: Global, timeline: &Timeline, query: &str) -> Result<String, Fail> {
+    audit_over(alloc, &timeline.pin()?, query)
 }
 
 fn sealed(from: usize, to: usize, rows: usize) -> RangeInfo {
@@ -197,23 +202,24 @@ fn refuses_more_events_than_are_retained(rt: HostRuntime) -> Result<(), Fail> {
     Ok(())
 }
 
+/// A snapshot that was pinned between the first event and the second.
+fn pinned_between_events(alloc: Global) -> Result<Snapshot, Fail> {
+    let mut timeline = timeline_of(alloc, NO_LIMIT, &[FIRST])?;
+    let snapshot = timeline.pin()?;
+    accept(alloc, &mut timeline, SECOND)?;
+    Ok(snapshot)
+}
+
 #[test]
 fn keeps_what_was_pinned(rt: HostRuntime) -> Result<(), Fail> {
     let alloc = rt.alloc();
-    let mut timeline = timeline_of(alloc, NO_LIMIT, &[FIRST])?;
-    let query = query_of(alloc, &timeline, ADDED_AND_ROWS)?;
-    let snapshot = timeline.pin()?;
-    accept(alloc, &mut timeline, SECOND)?;
-    let text = text_of(snapshot.answer_one(&query))?;
+    let snapshot = pinned_between_events(alloc)?;
+    assert_eq!(rt; snapshot.event_count(), 1);
+    assert_eq!(rt; snapshot.ranges(), [open(0, 1, 1)].as_slice());
+    let text = answer_over(alloc, &snapshot, ADDED_AND_ROWS)?;
     assert_eq!(rt;
         text.as_str(),
         r#"[{"result":{"added":5,"cnt":1},"timestamp":"2024-01-01T00:00:00.000Z"}]"#
-    );
-    assert_eq!(rt; snapshot.ranges(), [open(0, 1, 1)].as_slice());
-    let text = answer(alloc, &timeline, ADDED_AND_ROWS)?;
-    assert_eq!(rt;
-        text.as_str(),
-        r#"[{"result":{"added":12,"cnt":2},"timestamp":"2024-01-01T00:00:00.000Z"}]"#
     );
     Ok(())
 }
@@ -323,13 +329,28 @@ fn merges_two_ranges(rt: HostRuntime) -> Result<(), Fail> {
     let mut timeline = timeline_sealed_after_each(alloc, NO_LIMIT, &[FIRST, FIRST])?;
     let ranges = [sealed(0, 1, 1), sealed(1, 2, 1)];
     assert_eq!(rt; timeline.pin()?.ranges(), ranges.as_slice());
+    assert_eq!(rt; merge(alloc, &mut timeline, 0, 2), Ok(0));
+    assert_eq!(rt; timeline.pin()?.ranges(), [sealed(0, 2, 1)].as_slice());
+    Ok(())
+}
+
+#[test]
+fn answers_over_two_ranges(rt: HostRuntime) -> Result<(), Fail> {
+    let alloc = rt.alloc();
+    let timeline = timeline_sealed_after_each(alloc, NO_LIMIT, &[FIRST, FIRST])?;
     let text = answer(alloc, &timeline, ADDED_AND_ROWS)?;
     assert_eq!(rt;
         text.as_str(),
         r#"[{"result":{"added":10,"cnt":2},"timestamp":"2024-01-01T00:00:00.000Z"}]"#
     );
-    assert_eq!(rt; merge(alloc, &mut timeline, 0, 2), Ok(0));
-    assert_eq!(rt; timeline.pin()?.ranges(), [sealed(0, 2, 1)].as_slice());
+    Ok(())
+}
+
+#[test]
+fn answers_over_a_merged_range(rt: HostRuntime) -> Result<(), Fail> {
+    let alloc = rt.alloc();
+    let mut timeline = timeline_sealed_after_each(alloc, NO_LIMIT, &[FIRST, FIRST])?;
+    merge(alloc, &mut timeline, 0, 2)?;
     let text = answer(alloc, &timeline, ADDED_AND_ROWS)?;
     assert_eq!(rt;
         text.as_str(),
@@ -343,18 +364,23 @@ fn merges_two_ranges(rt: HostRuntime) -> Result<(), Fail> {
     Ok(())
 }
 
+/// A snapshot that was pinned before its open range was sealed and its ranges were merged.
+fn pinned_before_a_merge(alloc: Global) -> Result<Snapshot, Fail> {
+    let mut timeline = timeline_sealed_after_each(alloc, NO_LIMIT, &[FIRST])?;
+    accept(alloc, &mut timeline, FIRST)?;
+    let snapshot = timeline.pin()?;
+    timeline.seal(DAY)?;
+    merge(alloc, &mut timeline, 0, 2)?;
+    Ok(snapshot)
+}
+
 #[test]
 fn keeps_the_pinned_ranges(rt: HostRuntime) -> Result<(), Fail> {
     let alloc = rt.alloc();
-    let mut timeline = timeline_sealed_after_each(alloc, NO_LIMIT, &[FIRST])?;
-    accept(alloc, &mut timeline, FIRST)?;
-    let query = query_of(alloc, &timeline, ADDED_AND_ROWS)?;
-    let snapshot = timeline.pin()?;
-    timeline.seal(DAY)?;
-    assert_eq!(rt; merge(alloc, &mut timeline, 0, 2), Ok(0));
+    let snapshot = pinned_before_a_merge(alloc)?;
     let ranges = [sealed(0, 1, 1), open(1, 2, 1)];
     assert_eq!(rt; snapshot.ranges(), ranges.as_slice());
-    let text = text_of(snapshot.answer_one(&query))?;
+    let text = answer_over(alloc, &snapshot, ADDED_AND_ROWS)?;
     assert_eq!(rt;
         text.as_str(),
         r#"[{"result":{"added":10,"cnt":2},"timestamp":"2024-01-01T00:00:00.000Z"}]"#
