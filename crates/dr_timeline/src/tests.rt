@@ -44,6 +44,14 @@ fn accept(alloc: Global, timeline: &mut Timeline, event: &str) -> Result<u64, Fa
     Ok(timeline.accept(event)?)
 }
 
+fn seal(timeline: &mut Timeline) -> Result<(), Fail> {
+    Ok(timeline.seal(DAY)?)
+}
+
+fn pin(timeline: &Timeline) -> Result<Snapshot, Fail> {
+    Ok(timeline.pin()?)
+}
+
 /// A timeline with these events.
 fn timeline_of(alloc: Global, tuning: &str, events: &[&str]) -> Result<Timeline, Fail> {
     let mut timeline = timeline_with(alloc, tuning)?;
@@ -62,7 +70,7 @@ fn timeline_sealed_after_each(
     let mut timeline = timeline_with(alloc, tuning)?;
     for event in events {
         accept(alloc, &mut timeline, event)?;
-        timeline.seal(DAY)?;
+        seal(&mut timeline)?;
     }
     Ok(timeline)
 }
@@ -75,11 +83,16 @@ fn merge(alloc: Global, timeline: &mut Timeline, lo: usize, hi: usize) -> Result
     timeline.commit(&job, fragment)
 }
 
-fn query_of(alloc: Global, timeline: &Timeline, query: &str) -> Result<Query, Fail>
-    ensures { IfOk result (MadeFor timeline.now.schema) }
+/// Merges the first two ranges.
+fn merge_two(alloc: Global, timeline: &mut Timeline) -> Result<(), Fail> {
+    merge(alloc, timeline, 0, 2)?;
+    Ok(())
+}
+
+fn query_of(alloc: Global, snapshot: &Snapshot, query: &str) -> Result<Query, Fail>
+    ensures { IfOk result (MadeFor snapshot.now.schema) }
 {
-    let schema = timeline.spec().schema();
-    Ok(Query::parse(alloc, query.as_bytes(), schema)?)
+    Ok(Query::parse(alloc, query.as_bytes(), &snapshot.schema)?)
 }
 
 fn text_of(answer: Result<Vec<u8>, AnswerError>) -> Result<String, Fail> {
@@ -87,16 +100,22 @@ fn text_of(answer: Result<Vec<u8>, AnswerError>) -> Result<String, Fail> {
     Ok(String::from_utf8(text)?)
 }
 
-fn answer(alloc: Global, timeline: &Timeline, query: &str) -> Result<String, Fail> {
-    let query = query_of(alloc, timeline, query)?;
-    let snapshot = timeline.pin()?;
+fn answer_over(alloc: Global, snapshot: &Snapshot, query: &str) -> Result<String, Fail> {
+    let query = query_of(alloc, snapshot, query)?;
     text_of(snapshot.answer_one(&query))
 }
 
-fn audit(alloc: Global, timeline: &Timeline, query: &str) -> Result<String, Fail> {
-    let query = query_of(alloc, timeline, query)?;
-    let snapshot = timeline.pin()?;
+fn answer(alloc: Global, timeline: &Timeline, query: &str) -> Result<String, Fail> {
+    answer_over(alloc, &pin(timeline)?, query)
+}
+
+fn audit_over(alloc: Global, snapshot: &Snapshot, query: &str) -> Result<String, Fail> {
+    let query = query_of(alloc, snapshot, query)?;
     text_of(snapshot.audit(&query))
+}
+
+fn audit(alloc: Global, timeline: &Timeline, query: &str) -> Result<String, Fail> {
+    audit_over(alloc, &pin(timeline)?, query)
 }
 
 fn sealed(from: usize, to: usize, rows: usize) -> RangeInfo {
@@ -154,7 +173,7 @@ fn numbers_the_events(rt: HostRuntime) -> Result<(), Fail> {
 fn shows_the_events(rt: HostRuntime) -> Result<(), Fail> {
     let alloc = rt.alloc();
     let timeline = timeline_of(alloc, NO_LIMIT, &[FIRST, SECOND, THIRD])?;
-    let snapshot = timeline.pin()?;
+    let snapshot = pin(&timeline)?;
     assert_eq!(rt; snapshot.event_count(), 3);
     assert_eq!(rt;
         snapshot.span(),
@@ -177,7 +196,7 @@ fn answers_without_events(rt: HostRuntime) -> Result<(), Fail> {
     assert_eq!(rt; text.as_str(), "[]");
     let text = audit(alloc, &timeline, ADDED_AND_ROWS)?;
     assert_eq!(rt; text.as_str(), "[]");
-    let snapshot = timeline.pin()?;
+    let snapshot = pin(&timeline)?;
     assert_eq!(rt; snapshot.event_count(), 0);
     assert_eq!(rt; snapshot.span(), None);
     assert!(rt; snapshot.event(0).is_none());
@@ -194,27 +213,28 @@ fn refuses_more_events_than_are_retained(rt: HostRuntime) -> Result<(), Fail> {
     assert_eq!(rt; refused, Err(TimelineError::StreamFull));
     assert_eq!(rt; TimelineError::StreamFull.number(), 90);
     assert_eq!(rt; TimelineError::StreamFull.name(), "StreamFull");
-    assert_eq!(rt; timeline.pin()?.event_count(), 2);
+    assert_eq!(rt; pin(&timeline)?.event_count(), 2);
     Ok(())
+}
+
+/// A snapshot that was pinned between the first event and the second.
+fn pinned_between_events(alloc: Global) -> Result<Snapshot, Fail> {
+    let mut timeline = timeline_of(alloc, NO_LIMIT, &[FIRST])?;
+    let snapshot = pin(&timeline)?;
+    accept(alloc, &mut timeline, SECOND)?;
+    Ok(snapshot)
 }
 
 #[test]
 fn keeps_what_was_pinned(rt: HostRuntime) -> Result<(), Fail> {
     let alloc = rt.alloc();
-    let mut timeline = timeline_of(alloc, NO_LIMIT, &[FIRST])?;
-    let query = query_of(alloc, &timeline, ADDED_AND_ROWS)?;
-    let snapshot = timeline.pin()?;
-    accept(alloc, &mut timeline, SECOND)?;
-    let text = text_of(snapshot.answer_one(&query))?;
+    let snapshot = pinned_between_events(alloc)?;
+    assert_eq!(rt; snapshot.event_count(), 1);
+    assert_eq!(rt; snapshot.ranges(), [open(0, 1, 1)].as_slice());
+    let text = answer_over(alloc, &snapshot, ADDED_AND_ROWS)?;
     assert_eq!(rt;
         text.as_str(),
         r#"[{"result":{"added":5,"cnt":1},"timestamp":"2024-01-01T00:00:00.000Z"}]"#
-    );
-    assert_eq!(rt; snapshot.ranges(), [open(0, 1, 1)].as_slice());
-    let text = answer(alloc, &timeline, ADDED_AND_ROWS)?;
-    assert_eq!(rt;
-        text.as_str(),
-        r#"[{"result":{"added":12,"cnt":2},"timestamp":"2024-01-01T00:00:00.000Z"}]"#
     );
     Ok(())
 }
@@ -261,14 +281,14 @@ fn wraps_a_sum(rt: HostRuntime) -> Result<(), Fail> {
 fn wraps_a_sum_over_two_ranges(rt: HostRuntime) -> Result<(), Fail> {
     let alloc = rt.alloc();
     let mut timeline = timeline_of(alloc, NO_LIMIT, &[GREATEST])?;
-    timeline.seal(DAY)?;
+    seal(&mut timeline)?;
     accept(alloc, &mut timeline, ONE)?;
     let text = answer(alloc, &timeline, ADDED_AND_ROWS)?;
     assert_eq!(rt;
         text.as_str(),
         r#"[{"result":{"added":-9223372036854775808,"cnt":2},"timestamp":"2024-01-01T00:00:00.000Z"}]"#
     );
-    timeline.seal(DAY)?;
+    seal(&mut timeline)?;
     assert_eq!(rt; merge(alloc, &mut timeline, 0, 2), Ok(0));
     let text = answer(alloc, &timeline, ADDED_AND_ROWS)?;
     assert_eq!(rt;
@@ -283,10 +303,10 @@ fn seals_a_range_with_as_many_rows_as_are_held(rt: HostRuntime) -> Result<(), Fa
     let alloc = rt.alloc();
     let tuning = r#"{"maxRowsInMemory":2}"#;
     let timeline = timeline_of(alloc, tuning, &[FIRST, SECOND])?;
-    assert_eq!(rt; timeline.pin()?.ranges(), [sealed(0, 2, 2)].as_slice());
+    assert_eq!(rt; pin(&timeline)?.ranges(), [sealed(0, 2, 2)].as_slice());
     let timeline = timeline_of(alloc, tuning, &[FIRST, SECOND, THIRD])?;
     let ranges = [sealed(0, 2, 2), open(2, 3, 1)];
-    assert_eq!(rt; timeline.pin()?.ranges(), ranges.as_slice());
+    assert_eq!(rt; pin(&timeline)?.ranges(), ranges.as_slice());
     let text = answer(alloc, &timeline, ADDED_AND_ROWS)?;
     assert_eq!(rt;
         text.as_str(),
@@ -300,7 +320,7 @@ fn holds_rows_that_combine_in_one_range(rt: HostRuntime) -> Result<(), Fail> {
     let alloc = rt.alloc();
     let tuning = r#"{"maxRowsInMemory":2}"#;
     let timeline = timeline_of(alloc, tuning, &[FIRST, FIRST, FIRST])?;
-    assert_eq!(rt; timeline.pin()?.ranges(), [open(0, 3, 1)].as_slice());
+    assert_eq!(rt; pin(&timeline)?.ranges(), [open(0, 3, 1)].as_slice());
     Ok(())
 }
 
@@ -309,12 +329,12 @@ fn orders_the_ranges_by_chunk(rt: HostRuntime) -> Result<(), Fail> {
     let alloc = rt.alloc();
     let next = r#"{"t":"2024-01-02T00:10:00Z","page":"A","lang":"en","a":1}"#;
     let mut timeline = timeline_of(alloc, NO_LIMIT, &[next, FIRST, SECOND])?;
-    timeline.seal(DAY)?;
+    seal(&mut timeline)?;
     assert_eq!(rt; timeline.seal(DAY), Err(TimelineError::NothingToSeal));
     let mut of_next_day = open(0, 1, 1);
     of_next_day.chunk = NEXT_DAY;
     let ranges = [sealed(0, 2, 2), of_next_day];
-    assert_eq!(rt; timeline.pin()?.ranges(), ranges.as_slice());
+    assert_eq!(rt; pin(&timeline)?.ranges(), ranges.as_slice());
     Ok(())
 }
 
@@ -323,14 +343,29 @@ fn merges_two_ranges(rt: HostRuntime) -> Result<(), Fail> {
     let alloc = rt.alloc();
     let mut timeline = timeline_sealed_after_each(alloc, NO_LIMIT, &[FIRST, FIRST])?;
     let ranges = [sealed(0, 1, 1), sealed(1, 2, 1)];
-    assert_eq!(rt; timeline.pin()?.ranges(), ranges.as_slice());
+    assert_eq!(rt; pin(&timeline)?.ranges(), ranges.as_slice());
+    assert_eq!(rt; merge(alloc, &mut timeline, 0, 2), Ok(0));
+    assert_eq!(rt; pin(&timeline)?.ranges(), [sealed(0, 2, 1)].as_slice());
+    Ok(())
+}
+
+#[test]
+fn answers_over_two_ranges(rt: HostRuntime) -> Result<(), Fail> {
+    let alloc = rt.alloc();
+    let timeline = timeline_sealed_after_each(alloc, NO_LIMIT, &[FIRST, FIRST])?;
     let text = answer(alloc, &timeline, ADDED_AND_ROWS)?;
     assert_eq!(rt;
         text.as_str(),
         r#"[{"result":{"added":10,"cnt":2},"timestamp":"2024-01-01T00:00:00.000Z"}]"#
     );
-    assert_eq!(rt; merge(alloc, &mut timeline, 0, 2), Ok(0));
-    assert_eq!(rt; timeline.pin()?.ranges(), [sealed(0, 2, 1)].as_slice());
+    Ok(())
+}
+
+#[test]
+fn answers_over_a_merged_range(rt: HostRuntime) -> Result<(), Fail> {
+    let alloc = rt.alloc();
+    let mut timeline = timeline_sealed_after_each(alloc, NO_LIMIT, &[FIRST, FIRST])?;
+    merge_two(alloc, &mut timeline)?;
     let text = answer(alloc, &timeline, ADDED_AND_ROWS)?;
     assert_eq!(rt;
         text.as_str(),
@@ -344,18 +379,23 @@ fn merges_two_ranges(rt: HostRuntime) -> Result<(), Fail> {
     Ok(())
 }
 
+/// A snapshot that was pinned before its open range was sealed and its ranges were merged.
+fn pinned_before_a_merge(alloc: Global) -> Result<Snapshot, Fail> {
+    let mut timeline = timeline_sealed_after_each(alloc, NO_LIMIT, &[FIRST])?;
+    accept(alloc, &mut timeline, FIRST)?;
+    let snapshot = pin(&timeline)?;
+    seal(&mut timeline)?;
+    merge_two(alloc, &mut timeline)?;
+    Ok(snapshot)
+}
+
 #[test]
 fn keeps_the_pinned_ranges(rt: HostRuntime) -> Result<(), Fail> {
     let alloc = rt.alloc();
-    let mut timeline = timeline_sealed_after_each(alloc, NO_LIMIT, &[FIRST])?;
-    accept(alloc, &mut timeline, FIRST)?;
-    let query = query_of(alloc, &timeline, ADDED_AND_ROWS)?;
-    let snapshot = timeline.pin()?;
-    timeline.seal(DAY)?;
-    assert_eq!(rt; merge(alloc, &mut timeline, 0, 2), Ok(0));
+    let snapshot = pinned_before_a_merge(alloc)?;
     let ranges = [sealed(0, 1, 1), open(1, 2, 1)];
     assert_eq!(rt; snapshot.ranges(), ranges.as_slice());
-    let text = text_of(snapshot.answer_one(&query))?;
+    let text = answer_over(alloc, &snapshot, ADDED_AND_ROWS)?;
     assert_eq!(rt;
         text.as_str(),
         r#"[{"result":{"added":10,"cnt":2},"timestamp":"2024-01-01T00:00:00.000Z"}]"#
@@ -374,7 +414,7 @@ fn refuses_a_job_whose_ranges_were_merged(rt: HostRuntime) -> Result<(), Fail> {
     assert_eq!(rt; refused, Err(TimelineError::Stale));
     assert_eq!(rt; TimelineError::Stale.number(), 93);
     assert_eq!(rt; TimelineError::Stale.name(), "Stale");
-    assert_eq!(rt; timeline.pin()?.ranges(), [sealed(0, 2, 1)].as_slice());
+    assert_eq!(rt; pin(&timeline)?.ranges(), [sealed(0, 2, 1)].as_slice());
     Ok(())
 }
 
@@ -388,7 +428,7 @@ fn finds_the_ranges_of_a_job_where_they_stand_now(rt: HostRuntime) -> Result<(),
     assert_eq!(rt; merge(alloc, &mut timeline, 0, 2), Ok(0));
     assert_eq!(rt; timeline.commit(&job, fragment), Ok(0));
     let ranges = [sealed(0, 2, 1), sealed(2, 4, 1)];
-    assert_eq!(rt; timeline.pin()?.ranges(), ranges.as_slice());
+    assert_eq!(rt; pin(&timeline)?.ranges(), ranges.as_slice());
     Ok(())
 }
 
@@ -413,7 +453,7 @@ fn refuses_to_seal_nothing(rt: HostRuntime) -> Result<(), Fail> {
     assert_eq!(rt; timeline.seal(NEXT_DAY), refused);
     assert_eq!(rt; TimelineError::NothingToSeal.number(), 91);
     assert_eq!(rt; TimelineError::NothingToSeal.name(), "NothingToSeal");
-    assert_eq!(rt; timeline.pin()?.ranges(), [sealed(0, 1, 1)].as_slice());
+    assert_eq!(rt; pin(&timeline)?.ranges(), [sealed(0, 1, 1)].as_slice());
     Ok(())
 }
 
@@ -427,7 +467,7 @@ fn refuses_more_commits_than_there_may_be(rt: HostRuntime) -> Result<(), Fail> {
     assert_eq!(rt; refused, Err(TimelineError::CommitsFull));
     assert_eq!(rt; TimelineError::CommitsFull.number(), 95);
     assert_eq!(rt; TimelineError::CommitsFull.name(), "CommitsFull");
-    assert_eq!(rt; timeline.pin()?.ranges(), [sealed(0, 1, 1)].as_slice());
+    assert_eq!(rt; pin(&timeline)?.ranges(), [sealed(0, 1, 1)].as_slice());
     Ok(())
 }
 
@@ -438,8 +478,8 @@ fn extends_both_ways(
     events: &[&str],
     others: &[&str],
 ) -> Result<(bool, bool), Fail> {
-    let first = timeline_sealed_after_each(alloc, NO_LIMIT, events)?.pin()?;
-    let other = timeline_of(alloc, NO_LIMIT, others)?.pin()?;
+    let first = pin(&timeline_sealed_after_each(alloc, NO_LIMIT, events)?)?;
+    let other = pin(&timeline_of(alloc, NO_LIMIT, others)?)?;
     Ok((first.extends(&other), other.extends(&first)))
 }
 
