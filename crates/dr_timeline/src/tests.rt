@@ -533,8 +533,7 @@ fn told(alloc: Global, reply: Reply) -> Result<String, Fail> {
     }
 }
 
-const ONE_ROW: &str =
-    r#"[{"result":{"added":10,"cnt":1},"timestamp":"2024-01-01T00:00:00.000Z"}]"#;
+const ONE_ROW: &str = r#"[{"result":{"added":10,"cnt":1},"timestamp":"2024-01-01T00:00:00.000Z"}]"#;
 
 const TWO_ROWS: &str =
     r#"[{"result":{"added":10,"cnt":2},"timestamp":"2024-01-01T00:00:00.000Z"}]"#;
