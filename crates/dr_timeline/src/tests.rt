@@ -1,6 +1,5 @@
 ghost use Rattle.std.specs.Prelude.{◌≡◌, IfOk};
 ghost use Rattle.dr_query.specs.MadeFor.{MadeFor};
-ghost use Rattle.dr_timeline.specs.Run.{FitsStep};
 
 use super::*;
 use dr_events::read_event;
@@ -492,102 +491,5 @@ fn extends_what_was_pinned_before(rt: HostRuntime) -> Result<(), Fail> {
     assert_eq!(rt; ways, (true, true));
     let ways = extends_both_ways(alloc, &[FIRST, SECOND], &[SECOND])?;
     assert_eq!(rt; ways, (false, false));
-    Ok(())
-}
-
-fn accepts(alloc: Global, spec: &IngestSpec, event: &str) -> Result<Step, Fail>
-    ensures { IfOk result (FitsStep spec.now) }
-{
-    Ok(Step::Accept(read_event(alloc, spec, 0, event.as_bytes())?))
-}
-
-fn query_for(alloc: Global, spec: &IngestSpec) -> Result<Query, Fail>
-    ensures { IfOk result (MadeFor spec.now) }
-{
-    let query = Query::parse(alloc, ADDED_AND_ROWS.as_bytes(), spec.schema())?;
-    Ok(query)
-}
-
-fn asks(alloc: Global, spec: &IngestSpec, pin: usize) -> Result<Step, Fail>
-    ensures { IfOk result (FitsStep spec.now) }
-{
-    Ok(Step::Ask(pin, query_for(alloc, spec)?))
-}
-
-fn audits(alloc: Global, spec: &IngestSpec, pin: usize) -> Result<Step, Fail>
-    ensures { IfOk result (FitsStep spec.now) }
-{
-    Ok(Step::Audit(pin, query_for(alloc, spec)?))
-}
-
-fn told(alloc: Global, reply: Reply) -> Result<String, Fail> {
-    match reply {
-        Reply::Accepted(number) => Ok(format!(in alloc; "accepted {number}")?),
-        Reply::Sealed => Ok(String::from_str(alloc, "sealed")?),
-        Reply::Job(number) => Ok(format!(in alloc; "job {number}")?),
-        Reply::Committed(version) => Ok(format!(in alloc; "committed {version}")?),
-        Reply::Pinned(number) => Ok(format!(in alloc; "pinned {number}")?),
-        Reply::Answer(text) => Ok(String::from_utf8(text.into_vec())?),
-        Reply::Refused(number) => Ok(format!(in alloc; "refused {number}")?),
-        Reply::NoSuch => Ok(String::from_str(alloc, "no such")?),
-    }
-}
-
-const ONE_ROW: &str = r#"[{"result":{"added":10,"cnt":1},"timestamp":"2024-01-01T00:00:00.000Z"}]"#;
-
-const TWO_ROWS: &str =
-    r#"[{"result":{"added":10,"cnt":2},"timestamp":"2024-01-01T00:00:00.000Z"}]"#;
-
-#[test]
-fn runs_steps(rt: HostRuntime) -> Result<(), Fail> {
-    let alloc = rt.alloc();
-    let text = format!(in alloc; "{DATA_SCHEMA}}}")?;
-    let spec = IngestSpec::parse(alloc, text.as_str().as_bytes())?;
-    let steps = [
-        accepts(alloc, &spec, FIRST)?,
-        Step::Seal(DAY),
-        accepts(alloc, &spec, FIRST)?,
-        Step::Pin,
-        Step::Seal(DAY),
-        asks(alloc, &spec, 0)?,
-        Step::Plan(DAY, 0, 2, Purpose::Merge),
-        Step::Plan(DAY, 0, 2, Purpose::Merge),
-        Step::Commit(1),
-        Step::Pin,
-        asks(alloc, &spec, 1)?,
-        asks(alloc, &spec, 0)?,
-        audits(alloc, &spec, 1)?,
-        Step::Commit(0),
-        Step::Plan(DAY, 0, 2, Purpose::Merge),
-        Step::Seal(DAY),
-        Step::Commit(2),
-        asks(alloc, &spec, 2)?,
-    ];
-    let wanted = [
-        "accepted 0",
-        "sealed",
-        "accepted 1",
-        "pinned 0",
-        "sealed",
-        TWO_ROWS,
-        "job 0",
-        "job 1",
-        "committed 0",
-        "pinned 1",
-        ONE_ROW,
-        TWO_ROWS,
-        TWO_ROWS,
-        "refused 93",
-        "refused 92",
-        "refused 91",
-        "no such",
-        "no such",
-    ];
-    let replies = run_core_one(alloc, spec.copy()?, steps.as_slice())?;
-    assert_eq!(rt; replies.len(), wanted.len());
-    for (i, reply) in replies.into_iter().enumerate() {
-        let text = told(alloc, reply)?;
-        assert_eq!(rt; text.as_str(), wanted[i], "{i}");
-    }
     Ok(())
 }
