@@ -47,10 +47,6 @@ fn seal(timeline: &mut Timeline) -> Result<(), Fail> {
     Ok(timeline.seal(DAY)?)
 }
 
-fn pin(timeline: &Timeline) -> Result<Snapshot, Fail> {
-    Ok(timeline.pin()?)
-}
-
 /// A timeline with these events.
 fn timeline_of(alloc: Global, tuning: &str, events: &[&str]) -> Result<Timeline, Fail> {
     let mut timeline = timeline_with(alloc, tuning)?;
@@ -105,7 +101,7 @@ fn answer_over(alloc: Global, snapshot: &Snapshot, query: &str) -> Result<String
 }
 
 fn answer(alloc: Global, timeline: &Timeline, query: &str) -> Result<String, Fail> {
-    answer_over(alloc, &pin(timeline)?, query)
+    answer_over(alloc, &timeline.pin()?, query)
 }
 
 fn audit_over(alloc: Global, snapshot: &Snapshot, query: &str) -> Result<String, Fail> {
@@ -114,7 +110,7 @@ fn audit_over(alloc: Global, snapshot: &Snapshot, query: &str) -> Result<String,
 }
 
 fn audit(alloc: Global, timeline: &Timeline, query: &str) -> Result<String, Fail> {
-    audit_over(alloc, &pin(timeline)?, query)
+    audit_over(alloc, &timeline.pin()?, query)
 }
 
 fn sealed(from: usize, to: usize, rows: usize) -> RangeInfo {
@@ -172,7 +168,7 @@ fn numbers_the_events(rt: HostRuntime) -> Result<(), Fail> {
 fn shows_the_events(rt: HostRuntime) -> Result<(), Fail> {
     let alloc = rt.alloc();
     let timeline = timeline_of(alloc, NO_LIMIT, &[FIRST, SECOND, THIRD])?;
-    let snapshot = pin(&timeline)?;
+    let snapshot = timeline.pin()?;
     assert_eq!(rt; snapshot.event_count(), 3);
     assert_eq!(rt;
         snapshot.span(),
@@ -195,7 +191,7 @@ fn answers_without_events(rt: HostRuntime) -> Result<(), Fail> {
     assert_eq!(rt; text.as_str(), "[]");
     let text = audit(alloc, &timeline, ADDED_AND_ROWS)?;
     assert_eq!(rt; text.as_str(), "[]");
-    let snapshot = pin(&timeline)?;
+    let snapshot = timeline.pin()?;
     assert_eq!(rt; snapshot.event_count(), 0);
     assert_eq!(rt; snapshot.span(), None);
     assert!(rt; snapshot.event(0).is_none());
@@ -212,14 +208,14 @@ fn refuses_more_events_than_are_retained(rt: HostRuntime) -> Result<(), Fail> {
     assert_eq!(rt; refused, Err(TimelineError::StreamFull));
     assert_eq!(rt; TimelineError::StreamFull.number(), 90);
     assert_eq!(rt; TimelineError::StreamFull.name(), "StreamFull");
-    assert_eq!(rt; pin(&timeline)?.event_count(), 2);
+    assert_eq!(rt; timeline.pin()?.event_count(), 2);
     Ok(())
 }
 
 /// A snapshot that was pinned between the first event and the second.
 fn pinned_between_events(alloc: Global) -> Result<Snapshot, Fail> {
     let mut timeline = timeline_of(alloc, NO_LIMIT, &[FIRST])?;
-    let snapshot = pin(&timeline)?;
+    let snapshot = timeline.pin()?;
     accept(alloc, &mut timeline, SECOND)?;
     Ok(snapshot)
 }
@@ -302,10 +298,10 @@ fn seals_a_range_with_as_many_rows_as_are_held(rt: HostRuntime) -> Result<(), Fa
     let alloc = rt.alloc();
     let tuning = r#"{"maxRowsInMemory":2}"#;
     let timeline = timeline_of(alloc, tuning, &[FIRST, SECOND])?;
-    assert_eq!(rt; pin(&timeline)?.ranges(), [sealed(0, 2, 2)].as_slice());
+    assert_eq!(rt; timeline.pin()?.ranges(), [sealed(0, 2, 2)].as_slice());
     let timeline = timeline_of(alloc, tuning, &[FIRST, SECOND, THIRD])?;
     let ranges = [sealed(0, 2, 2), open(2, 3, 1)];
-    assert_eq!(rt; pin(&timeline)?.ranges(), ranges.as_slice());
+    assert_eq!(rt; timeline.pin()?.ranges(), ranges.as_slice());
     let text = answer(alloc, &timeline, ADDED_AND_ROWS)?;
     assert_eq!(rt;
         text.as_str(),
@@ -319,7 +315,7 @@ fn holds_rows_that_combine_in_one_range(rt: HostRuntime) -> Result<(), Fail> {
     let alloc = rt.alloc();
     let tuning = r#"{"maxRowsInMemory":2}"#;
     let timeline = timeline_of(alloc, tuning, &[FIRST, FIRST, FIRST])?;
-    assert_eq!(rt; pin(&timeline)?.ranges(), [open(0, 3, 1)].as_slice());
+    assert_eq!(rt; timeline.pin()?.ranges(), [open(0, 3, 1)].as_slice());
     Ok(())
 }
 
@@ -333,7 +329,7 @@ fn orders_the_ranges_by_chunk(rt: HostRuntime) -> Result<(), Fail> {
     let mut of_next_day = open(0, 1, 1);
     of_next_day.chunk = NEXT_DAY;
     let ranges = [sealed(0, 2, 2), of_next_day];
-    assert_eq!(rt; pin(&timeline)?.ranges(), ranges.as_slice());
+    assert_eq!(rt; timeline.pin()?.ranges(), ranges.as_slice());
     Ok(())
 }
 
@@ -342,9 +338,9 @@ fn merges_two_ranges(rt: HostRuntime) -> Result<(), Fail> {
     let alloc = rt.alloc();
     let mut timeline = timeline_sealed_after_each(alloc, NO_LIMIT, &[FIRST, FIRST])?;
     let ranges = [sealed(0, 1, 1), sealed(1, 2, 1)];
-    assert_eq!(rt; pin(&timeline)?.ranges(), ranges.as_slice());
+    assert_eq!(rt; timeline.pin()?.ranges(), ranges.as_slice());
     assert_eq!(rt; merge(alloc, &mut timeline, 0, 2), Ok(0));
-    assert_eq!(rt; pin(&timeline)?.ranges(), [sealed(0, 2, 1)].as_slice());
+    assert_eq!(rt; timeline.pin()?.ranges(), [sealed(0, 2, 1)].as_slice());
     Ok(())
 }
 
@@ -382,7 +378,7 @@ fn answers_over_a_merged_range(rt: HostRuntime) -> Result<(), Fail> {
 fn pinned_before_a_merge(alloc: Global) -> Result<Snapshot, Fail> {
     let mut timeline = timeline_sealed_after_each(alloc, NO_LIMIT, &[FIRST])?;
     accept(alloc, &mut timeline, FIRST)?;
-    let snapshot = pin(&timeline)?;
+    let snapshot = timeline.pin()?;
     seal(&mut timeline)?;
     merge_two(alloc, &mut timeline)?;
     Ok(snapshot)
@@ -413,7 +409,7 @@ fn refuses_a_job_whose_ranges_were_merged(rt: HostRuntime) -> Result<(), Fail> {
     assert_eq!(rt; refused, Err(TimelineError::Stale));
     assert_eq!(rt; TimelineError::Stale.number(), 93);
     assert_eq!(rt; TimelineError::Stale.name(), "Stale");
-    assert_eq!(rt; pin(&timeline)?.ranges(), [sealed(0, 2, 1)].as_slice());
+    assert_eq!(rt; timeline.pin()?.ranges(), [sealed(0, 2, 1)].as_slice());
     Ok(())
 }
 
@@ -427,7 +423,7 @@ fn finds_the_ranges_of_a_job_where_they_stand_now(rt: HostRuntime) -> Result<(),
     assert_eq!(rt; merge(alloc, &mut timeline, 0, 2), Ok(0));
     assert_eq!(rt; timeline.commit(&job, fragment), Ok(0));
     let ranges = [sealed(0, 2, 1), sealed(2, 4, 1)];
-    assert_eq!(rt; pin(&timeline)?.ranges(), ranges.as_slice());
+    assert_eq!(rt; timeline.pin()?.ranges(), ranges.as_slice());
     Ok(())
 }
 
@@ -452,7 +448,7 @@ fn refuses_to_seal_nothing(rt: HostRuntime) -> Result<(), Fail> {
     assert_eq!(rt; timeline.seal(NEXT_DAY), refused);
     assert_eq!(rt; TimelineError::NothingToSeal.number(), 91);
     assert_eq!(rt; TimelineError::NothingToSeal.name(), "NothingToSeal");
-    assert_eq!(rt; pin(&timeline)?.ranges(), [sealed(0, 1, 1)].as_slice());
+    assert_eq!(rt; timeline.pin()?.ranges(), [sealed(0, 1, 1)].as_slice());
     Ok(())
 }
 
@@ -466,7 +462,7 @@ fn refuses_more_commits_than_there_may_be(rt: HostRuntime) -> Result<(), Fail> {
     assert_eq!(rt; refused, Err(TimelineError::CommitsFull));
     assert_eq!(rt; TimelineError::CommitsFull.number(), 95);
     assert_eq!(rt; TimelineError::CommitsFull.name(), "CommitsFull");
-    assert_eq!(rt; pin(&timeline)?.ranges(), [sealed(0, 1, 1)].as_slice());
+    assert_eq!(rt; timeline.pin()?.ranges(), [sealed(0, 1, 1)].as_slice());
     Ok(())
 }
 
@@ -477,8 +473,8 @@ fn extends_both_ways(
     events: &[&str],
     others: &[&str],
 ) -> Result<(bool, bool), Fail> {
-    let first = pin(&timeline_sealed_after_each(alloc, NO_LIMIT, events)?)?;
-    let other = pin(&timeline_of(alloc, NO_LIMIT, others)?)?;
+    let first = timeline_sealed_after_each(alloc, NO_LIMIT, events)?.pin()?;
+    let other = timeline_of(alloc, NO_LIMIT, others)?.pin()?;
     Ok((first.extends(&other), other.extends(&first)))
 }
 
