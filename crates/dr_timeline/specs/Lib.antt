@@ -5,6 +5,8 @@ pub mod AtKey
 pub mod State
 pub mod Joined
 pub mod Steps
+pub mod Standing
+pub mod Stepping
 pub mod Segments
 pub mod RawAnswer
 pub mod Laws
