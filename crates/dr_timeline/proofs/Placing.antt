@@ -1,5 +1,5 @@
 -- The place at which the ranges of a job stand, and what a commit is there.
-use Rattle.std.proofs.Common.{◌≡◌, ◌∙◌, sym, refl, ap, ℤ, ℕ, zero, suc, ◌+◌, ◌<◌, ◌≤◌, Bool, true, false, ◌&&◌, List, length, map, Option, Some, None, Result, Ok, Err, arith, rules, tests}
+use Rattle.std.proofs.Common.{◌≡◌, ◌∙◌, sym, refl, ap, ℤ, ℕ, zero, suc, ◌+◌, ◌<◌, ◌≤◌, Bool, true, false, ◌&&◌, List, [], ◌∷◌, length, map, Option, Some, None, Result, Ok, Err, arith, rules, tests}
 use Rattle.std.specs.Prelude.{nat_eq, nat_lt, nat_le}
 use Rattle.std.specs.Bool.{Decides}
 use Rattle.std.specs.Ordering.{int_eq}
@@ -8,14 +8,15 @@ use Rattle.std.specs.Cmp.Lexicographic.{pointwise}
 use Rattle.std.proofs.lemmas.Bool.Decides.{Decides-int_eq, Decides-ltb}
 use Rattle.std.proofs.lemmas.Slice.Eq.{slice_eq-Decides}
 use Rattle.dr_base.proofs.Equality.{both, rows_decide}
+use Rattle.dr_base.specs.declared.event.Event.{Event}
 use Rattle.dr_timeline.specs.declared.fragment.Fragment.{Fragment}
 use Rattle.dr_timeline.specs.declared.job.Job.{Job}
 use Rattle.dr_timeline.specs.declared.purpose.Purpose.{Purpose}
-use Rattle.dr_timeline.specs.declared.timeline_error.TimelineError.TheVariants.{NoSuchRange, Stale, CommitsFull}
+use Rattle.dr_timeline.specs.declared.timeline_error.TimelineError.TheVariants.{NothingToSeal, NoSuchRange, Stale, CommitsFull}
 use Rattle.dr_timeline.specs.State.{State, sealed_in}
-use Rattle.dr_timeline.specs.Steps.{fragment_of, ranges_at, job_of, StandsAt, Commits, joined_range, committed}
+use Rattle.dr_timeline.specs.Steps.{accepted, sealed_at, open_in, fragment_of, ranges_at, job_of, StandsAt, Commits, joined_range, committed}
 use Rattle.dr_timeline.specs.Standing.{same_row, same_fragment, stands_at, first_place, place_of}
-use Rattle.dr_timeline.specs.Stepping.{plan, commit}
+use Rattle.dr_timeline.specs.Stepping.{accept, seal, plan, commit}
 
 -- ---- what the tests say
 
@@ -105,3 +106,18 @@ range_decides lo hi count = both (nat_lt lo hi) (nat_le hi count) (Decides-ltb l
 
 pub plan-none : (s : State) (k : ℤ) (lo hi : ℕ) (purpose : Purpose) → ((lo < hi) × (hi ≤ length (sealed_in k s.cuts)) → ⊥) → plan s k lo hi purpose ≡ Err NoSuchRange
 plan-none s k lo hi purpose none = rw (refuted (nat_lt lo hi && nat_le hi (length (sealed_in k s.cuts))) (range_decides lo hi (length (sealed_in k s.cuts))) none) refl
+
+-- ---- accepting and sealing
+
+pub accept-ok : (s : State) (e : Event) → length s.stream < s.schema.limits.max_retained → accept s e ≡ Ok (length s.stream, accepted s e)
+accept-ok s e room = let test : nat_le s.schema.limits.max_retained (length s.stream) ≡ false = search (rules, tests) in rw test refl
+
+some-length : (es : List Event) → (es ≡ [] → ⊥) → nat_eq (length es) 0 ≡ false
+some-length [] some = absurd (some refl)
+some-length (e ∷ es) some = search (rules, tests)
+
+pub seal-ok : (s : State) (k : ℤ) → (open_in s k ≡ [] → ⊥) → seal s k ≡ Ok (sealed_at k s)
+seal-ok s k some = rw (some-length (open_in s k) some) refl
+
+pub seal-none : (s : State) (k : ℤ) → open_in s k ≡ [] → seal s k ≡ Err NothingToSeal
+seal-none s k none = rw none refl
