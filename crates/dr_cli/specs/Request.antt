@@ -1,5 +1,5 @@
 -- What a line of a script asks for: words with one space between them, where a query or an event is the rest of the line.
-use Rattle.std.specs.Prelude.{ℕ, ◌×◌, ◌^◌, nat_lt, ◌==◌, bytes_eq, List, [], ◌∷◌, Option, Some, None, Result, Ok, Err, codes, if◌then◌else◌}
+use Rattle.std.specs.Prelude.{ℕ, ◌^◌, nat_lt, ◌==◌, bytes_eq, List, [], ◌∷◌, Option, Some, None, Result, Ok, Err, codes, if◌then◌else◌}
 use Rattle.dr_base.specs.Reading.{◌>>=◌}
 use Rattle.dr_events.specs.WholeNumber.{digits_number}
 use Rattle.dr_cli.specs.declared.cli_error.CliError.{CliError}
@@ -49,7 +49,7 @@ places_in text = do
   q ← two_parts p.1
   lo ← number_in q.0
   hi ← number_in q.1
-  Ok (p.0, (lo, hi))
+  Ok (p.0, lo, hi)
 
 -- `seal INSTANT`
 abbrev pub seal_in : List ℕ → Result (Request (List ℕ)) CliError

@@ -16,10 +16,7 @@ use crate::script_error::ScriptError;
 use crate::session::Session;
 use dr_base::{Arg, fault_line};
 use dr_events::Unparseable;
-use dr_query::{AnswerError, QueryError};
 use dr_spec::IngestSpec;
-use dr_time::TimeError;
-use dr_timeline::TimelineError;
 use std::alloc::{AllocError, Global};
 
 /// The session that the first line of a script begins, or what is answered where the line is refused: the refusals of
@@ -64,13 +61,15 @@ fn told(alloc: Global, error: ScriptError) -> Reply
 {
     match error {
         ScriptError::Cli(error) => Reply::Fault(error),
-        ScriptError::Event(error) => told_unparseable(alloc, error),
+        ScriptError::Event(Unparseable::NoMemory) => Reply::Fault(CliError::NoMemory),
+        ScriptError::Event(error) => told_unparseable(alloc, &error),
         ScriptError::Time(error) => refused(alloc, error.number(), error.name(), None),
         ScriptError::Timeline(error) => refused(alloc, error.number(), error.name(), None),
         ScriptError::Query(error) => refused(alloc, error.number(), error.name(), error.arg()),
         ScriptError::Answer(error) => refused(alloc, error.number(), error.name(), None),
     }
 }
+
 fn told_unparseable(alloc: Global, error: &Unparseable) -> Reply
     ensures { IsAnswer (unparseable error.now) (seen result) }
 {

@@ -1,4 +1,4 @@
-ghost use Rattle.std.specs.Prelude.{◌×◌, ◌≡◌, List, ℕ};
+ghost use Rattle.std.specs.Prelude.{◌≡◌};
 ghost use Rattle.dr_cli.specs.Request.{at_in, commit_in, merge_in, places_in, plan_in, request_alone, request_in, request_with, seal_in};
 ghost use Rattle.dr_cli.specs.Seen.{seen_request};
 ghost use Rattle.dr_cli.specs.Usage.{Gives};
@@ -31,20 +31,48 @@ fn request_alone(word: &[u8]) -> Result<Request<&[u8]>, CliError>
 }
 
 // A line of a word and what is behind it.
-fn request_with(word: &[u8], rest: &[u8]) -> Result<Request<&[u8]>, CliError>
+fn request_with<'a>(word: &[u8], rest: &'a [u8]) -> Result<Request<&'a [u8]>, CliError>
     ensures { Gives seen_request result (request_with word.now rest.now) }
 {
-    match word {
-        b"+" => Ok(Request::Add(rest)),
-        b"query" => Ok(Request::Query(rest)),
-        b"audit" => Ok(Request::Audit(rest)),
-        b"at" => at_in(rest),
-        b"seal" => Ok(Request::Seal(one_word(rest)?)),
-        b"merge" => merge_in(rest),
-        b"plan" => plan_in(rest),
-        b"commit" => Ok(Request::Commit(number_in(rest)?)),
-        _ => Err(CliError::BadCommand),
+    if word == b"+".as_slice() {
+        return Ok(Request::Add(rest));
     }
+    if word == b"query".as_slice() {
+        return Ok(Request::Query(rest));
+    }
+    if word == b"audit".as_slice() {
+        return Ok(Request::Audit(rest));
+    }
+    if word == b"at".as_slice() {
+        return at_in(rest);
+    }
+    if word == b"seal".as_slice() {
+        return seal_in(rest);
+    }
+    if word == b"merge".as_slice() {
+        return merge_in(rest);
+    }
+    if word == b"plan".as_slice() {
+        return plan_in(rest);
+    }
+    if word == b"commit".as_slice() {
+        return commit_in(rest);
+    }
+    Err(CliError::BadCommand)
+}
+
+// `INSTANT`.
+fn seal_in(text: &[u8]) -> Result<Request<&[u8]>, CliError>
+    ensures { Gives seen_request result (seal_in text.now) }
+{
+    Ok(Request::Seal(one_word(text)?))
+}
+
+// `N`.
+fn commit_in<'a>(text: &[u8]) -> Result<Request<&'a [u8]>, CliError>
+    ensures { Gives seen_request result (commit_in text.now) }
+{
+    Ok(Request::Commit(number_in(text)?))
 }
 
 // `N JSON`.
@@ -76,7 +104,7 @@ fn plan_in(text: &[u8]) -> Result<Request<&[u8]>, CliError>
 }
 
 fn places_in(text: &[u8]) -> Result<(&[u8], u64, u64), CliError>
-    ensures { Gives (λ places. (places.0.now, (places.1, places.2))) result (places_in text.now) }
+    ensures { Gives (λ places. (places.0.now, places.1, places.2)) result (places_in text.now) }
 {
     let (instant, places) = two_parts(text)?;
     let (lo, hi) = two_parts(places)?;

@@ -13,14 +13,13 @@ use crate::cli_error::CliError;
 use crate::reply::Reply;
 use crate::request::Request;
 use crate::script_error::ScriptError;
+use crate::words::instant_in;
 use dr_events::EventReader;
 use dr_query::Query;
 use dr_spec::IngestSpec;
-use dr_time::{TimeError, parse_instant};
 use dr_timeline::{Job, Purpose, Snapshot, Timeline, TimelineError, work};
 use std::alloc::{AllocError, Global};
 use std::marker::Model;
-use std::str;
 
 /// The seat whose mark the events of a script have.
 const SEAT: u8 = 0;
@@ -65,7 +64,7 @@ impl Session {
         alloc: Global,
         request: Request<&[u8]>,
     ) -> Result<Reply, ScriptError>
-        ensures step { GivesUnless is_memory (λ reply. (seen reply, self.new)) result (carried_out self.old (seen_request request)) }
+        ensures step { GivesUnless is_memory (λ reply. (seen reply, self.new)) result (carried_out self.old (seen_request request.entry)) }
         ensures err { OnErr result (self.new ≡ self.old) }
     {
         match request {
@@ -177,10 +176,7 @@ impl Session {
     fn chunk_named(&self, instant: &[u8]) -> Result<i64, ScriptError>
         ensures { GivesUnless is_memory (λ start. start) result (chunk_named self.now instant.now) }
     {
-        let Ok(text) = str::from_utf8(instant) else {
-            return Err(ScriptError::Time(TimeError::BadInstant));
-        };
-        let time = parse_instant(text)?;
+        let time = instant_in(instant)?;
         let schema = self.timeline.spec().schema();
         Ok(schema.segment_granularity.truncate(time))
     }

@@ -1,8 +1,13 @@
-ghost use Rattle.std.specs.Prelude.{◌≡◌, option_copied};
+ghost use Rattle.std.specs.Prelude.{◌≡◌, IfOk, option_copied};
+ghost use Rattle.dr_time.specs.Instant.{IsInstant};
+ghost use Rattle.dr_cli.specs.Commands.{instant_in};
+ghost use Rattle.std.specs.List.{list_all};
+ghost use Rattle.std.specs.Char.{is_ascii_digit};
 ghost use Rattle.dr_cli.specs.Request.{number_in, one_word, split_word, two_parts};
 ghost use Rattle.dr_cli.specs.Usage.{Gives};
 
 use crate::cli_error::CliError;
+use dr_time::{TimeError, parse_instant};
 use std::str;
 
 /// The bytes before the first space, and those behind it where there is one.
@@ -41,11 +46,32 @@ pub fn one_word(text: &[u8]) -> Result<&[u8], CliError>
 pub fn number_in(word: &[u8]) -> Result<u64, CliError>
     ensures { Gives (λ number. number) result (number_in word.now) }
 {
-    if word.is_empty() || !word.iter().all(|byte| byte.is_ascii_digit()) {
+    if !are_digits(word) {
         return Err(CliError::BadCommand);
     }
     match str::from_utf8(word) {
-        Ok(digits) => digits.parse().map_err(|_| CliError::BadCommand),
+        Ok(digits) => match digits.parse() {
+            Ok(number) => Ok(number),
+            Err(_) => Err(CliError::BadCommand),
+        },
         Err(_) => Err(CliError::BadCommand),
+    }
+}
+
+fn are_digits(word: &[u8]) -> bool
+    ensures { result ≡ list_all is_ascii_digit word.now }
+{
+    word.iter().all(|byte| byte.is_ascii_digit())
+}
+
+/// The instant that a word spells (ISO 8601), in milliseconds since the epoch. Refusals: 10 `BadInstant`, also for bytes
+/// that aren't UTF-8, and 11 `OutOfRange`.
+pub fn instant_in(word: &[u8]) -> Result<i64, TimeError>
+    ensures value { result ≡ instant_in word.now }
+    ensures range { IfOk result IsInstant }
+{
+    match str::from_utf8(word) {
+        Ok(text) => parse_instant(text),
+        Err(_) => Err(TimeError::BadInstant),
     }
 }
