@@ -1,10 +1,10 @@
 pub mod Refusal
-pub mod Unrolled
 pub mod Chunks
 pub mod AtKey
 pub mod State
 pub mod Joined
 pub mod Steps
+pub mod Noted
 pub mod Segments
 pub mod RawAnswer
 pub mod Laws
