@@ -86,6 +86,7 @@ impl OpenIndex {
         ensures len { result ≡ length (rows_with self.old event.now) }
         ensures same { self.new ≡ self.old }
     {
+        let len = self.entries.len();
         let found = locate(
             &self.schema,
             &self.dicts,
@@ -94,9 +95,9 @@ impl OpenIndex {
             &mut self.coded,
         );
         if let Some(_) = found {
-            return self.entries.len();
+            return len;
         }
-        self.entries.len() + 1
+        len + 1
     }
 
     /// Adds an event that fits the schema: combines it into the row of its key, or puts a new row. An error leaves the rows

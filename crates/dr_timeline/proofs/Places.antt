@@ -11,25 +11,6 @@ use Rattle.dr_timeline.proofs.Each.{All-push}
 use Rattle.dr_timeline.specs.AtKey.{at_key}
 use Rattle.dr_timeline.specs.Held.{no_chunk, IsBelow, IsFirst, at_start, chunk_at, changed_at}
 
--- one more chunk lies before
-pub passes_more : (cs : List Chunk) (k : ℤ) (c : Chunk) (i : ℕ) → i < length cs → c ≡ get_or cs i c → int_cmp k c.start ≡ Greater
-    → AllByRecursion (λ d. int_cmp k d.start ≡ Greater) (take i cs) → AllByRecursion (λ d. int_cmp k d.start ≡ Greater) (take (i + 1) cs)
-passes_more cs k c i lt is test h =
-    rw (take_more cs i c lt, ← is) (All-push (λ d. int_cmp k d.start ≡ Greater) (take i cs) c h test)
-
-pub below_here : (cs : List Chunk) (k : ℤ) (c : Chunk) (i : ℕ) → i < length cs → c ≡ get_or cs i c → int_cmp k c.start ≡ Less → IsBelow k (drop i cs)
-below_here cs k c i lt is test = rw (drop_more cs i c lt, ← is) test
-
-pub first_here : (cs : List Chunk) (k : ℤ) (c : Chunk) (i : ℕ) → i < length cs → c ≡ get_or cs i c → int_cmp k c.start ≡ Equal → IsFirst k (drop i cs)
-first_here cs k c i lt is test = rw (drop_more cs i c lt, ← is) test
-
-pub below_end : (cs : List Chunk) (k : ℤ) (i : ℕ) → length cs ≤ i → IsBelow k (drop i cs)
-below_end cs k i le = rw (drop_all i cs le) tt
-
-pub passes_all : (cs : List Chunk) (k : ℤ) (i : ℕ) → length cs ≤ i
-    → AllByRecursion (λ d. int_cmp k d.start ≡ Greater) (take i cs) → AllByRecursion (λ d. int_cmp k d.start ≡ Greater) (take (length cs) cs)
-passes_all cs k i le h = let g = rw (take_all i cs le) at h in rw (take_all (length cs) cs (omega arith)) g
-
 -- a change where the chunk is new
 pub at_start-new : (schema : Schema) (cs : List Chunk) (k : ℤ) (i : ℕ) (change : Chunk → Chunk) → AllByRecursion (λ d. int_cmp k d.start ≡ Greater) (take i cs) → IsBelow k (drop i cs)
     → at_start schema change k cs ≡ take i cs ++ (change (no_chunk schema k) ∷ drop i cs)

@@ -1,5 +1,7 @@
-ghost use Rattle.std.specs.Prelude.{◌≡◌, ◌+◌, ◌<◌, ◌≤◌, [], IfOk, OnOk, OnErr, length, get_or};
+ghost use Rattle.std.specs.Prelude.{◌≡◌, ◌+◌, ◌<◌, ◌≤◌, [], IfOk, OnOk, OnErr, length, get_or, map};
 ghost use Rattle.std.specs.List.{AllByRecursion};
+ghost use Rattle.std.specs.List.Sorted.{IsStrictlySortedBy};
+ghost use Rattle.std.specs.Ordering.{int_cmp};
 ghost use Rattle.dr_events.specs.Fits.{FitsSchema};
 ghost use Rattle.dr_spec.specs.WellFormed.{IsWellFormed};
 ghost use Rattle.dr_timeline.specs.declared.chunk.Chunk.{Chunk};
@@ -11,7 +13,6 @@ use crate::sealed_range::SealedRange;
 use dr_base::Event;
 use dr_spec::Schema;
 use std::alloc::{AllocError, Global};
-use std::cmp::Ordering;
 use std::marker::Model;
 
 /// Chunks, each with a greater start than the one before. A contract sees the list of the chunks.
@@ -42,18 +43,15 @@ impl Chunks {
         self.0.as_slice()
     }
 
-    /// The place of the chunk that starts at this time.
+    /// The place of the chunk that starts at this time, which is found in logarithmic time.
     pub fn place_of(&self, start: i64) -> Place
+        requires { IsStrictlySortedBy int_cmp (map (λ c. c.start) self.now) }
         ensures { IsPlace self.now start result }
     {
-        for (i, chunk) in self.0.iter().enumerate() {
-            match start.cmp(&chunk.start) {
-                Ordering::Less => return Place::Before(i),
-                Ordering::Equal => return Place::At(i),
-                Ordering::Greater => {}
-            }
+        match self.0.binary_search_by_key(&start, |chunk| chunk.start) {
+            Ok(i) => Place::At(i),
+            Err(i) => Place::Before(i),
         }
-        Place::Before(self.0.len())
     }
 
     /// Adds an event to the open range of its chunk, which may be new. Answers how many ranges were sealed by it, 0 or 1. An
@@ -67,6 +65,7 @@ impl Chunks {
         event: &Event,
     ) -> Result<u64, AllocError>
         requires formed { IsWellFormed schema.now }
+        requires rising { IsStrictlySortedBy int_cmp (map (λ c. c.start) self.old) }
         requires chunks { AllByRecursion (λ c. (c.index.schema ≡ schema.now) × (c.events < 18446744073709551615)) self.old }
         requires event { FitsSchema schema.now event.now }
         ensures ok { OnOk result (self.new ≡ at_start schema.now (grown serial event.now) start self.old) }

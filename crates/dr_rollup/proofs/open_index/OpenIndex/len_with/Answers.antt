@@ -14,7 +14,7 @@ pub returns-in-Some-clause-len : goal.returns-in-Some-clause-len
 returns-in-Some-clause-len c =
     let s = c.self.inside in
     let same = rw c.deref.ensures.value at c.in-Some.ensures.same in
-    rw (← c.self.view_is) (c.len.ensures ∙ sym (found-count s.schema s.kinds.items s.limit s.dicts.items s.coded s.entries c.self.invariant c.args.event.now _ refl c.in-Some.field-0 c.in-Some.ensures.combined c.in-Some.ensures.found same))
+    rw (← c.self.view_is) (c.len-len.ensures ∙ sym (found-count s.schema s.kinds.items s.limit s.dicts.items s.coded s.entries c.self.invariant c.args.event.now _ refl c.in-Some.field-0 c.in-Some.ensures.combined c.in-Some.ensures.found same))
 
 pub invariant_of-self-2 : goal.invariant_of-self-2
 invariant_of-self-2 c =
@@ -30,4 +30,4 @@ returns-clause-len c =
     let numbers = rw c.deref.ensures.value at c.locate-found.ensures.coded in
     let none = rw c.deref.ensures.value at c.in_default.ensures.none in
     let counted = new-count s.schema s.kinds.items s.limit s.dicts.items s.coded s.entries c.self.invariant c.args.event.now _ refl c.locate-found.new.coded c.locate-found.ensures.time numbers dims (none refl) in
-    rw (← c.self.view_is) (omega (arith, counted, c.len-2.ensures))
+    rw (← c.self.view_is) (omega (arith, counted, c.len-len.ensures))

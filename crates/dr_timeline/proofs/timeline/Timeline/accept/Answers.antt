@@ -3,8 +3,11 @@ use Rattle.std.proofs.lemmas.Int.{to_z-of_z}
 use Rattle.dr_events.specs.Fits.{FitsSchema}
 use Rattle.dr_timeline.specs.State.{State}
 use Rattle.dr_timeline.specs.Steps.{accepted}
-use Rattle.dr_timeline.proofs.Keeping.{keeps-grown, state-grown, chunks-fit}
+use Rattle.dr_timeline.proofs.Keeping.{rising-starts, keeps-grown, state-grown, chunks-fit}
 use Rattle.dr_timeline.proofs.timeline.Timeline.accept.Goals as goal
+
+pub grow-requires-clause-rising : goal.grow-requires-clause-rising
+grow-requires-clause-rising c = rising-starts c.self.inside.spec c.self.inside.stream.items c.self.inside.chunks c.self.invariant.starts
 
 pub grow-requires-clause-chunks : goal.grow-requires-clause-chunks
 grow-requires-clause-chunks c =

@@ -12,7 +12,11 @@ use Rattle.dr_timeline.specs.Held.{StandsIn, chunk_at, at_start, changed_at, wit
 use Rattle.dr_timeline.proofs.Places.{at_start-here, chunk_at-here, chunk_at-new, get_or-same}
 use Rattle.dr_timeline.proofs.Changes.{sealed_in-cuts}
 use Rattle.dr_timeline.proofs.Standing.{seen, stands-at, stands-in, keeps-merged, state-merged, shown-part}
+use Rattle.dr_timeline.proofs.Keeping.{rising-starts}
 use Rattle.dr_timeline.proofs.timeline.Timeline.commit.Goals as goal
+
+pub place_of-requires : goal.place_of-requires
+place_of-requires c = rising-starts c.self.inside.spec c.self.inside.stream.items c.self.inside.chunks c.self.invariant.starts
 
 pub returns-in_default-clause-stale : goal.returns-in_default-clause-stale
 returns-in_default-clause-stale c =

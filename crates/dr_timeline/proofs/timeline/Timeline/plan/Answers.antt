@@ -10,8 +10,12 @@ use Rattle.dr_timeline.specs.Held.{chunk_at, ranges_of}
 use Rattle.dr_timeline.proofs.Places.{chunk_at-here, chunk_at-new}
 use Rattle.dr_timeline.proofs.Changes.{sealed_in-cuts}
 use Rattle.dr_timeline.proofs.Standing.{seen, shown-length, shown-serials, shown-inputs, fits-fragments}
+use Rattle.dr_timeline.proofs.Keeping.{rising-starts}
 use Rattle.dr_timeline.proofs.timeline.Timeline.plan.Goals as goal
 use Rattle.dr_timeline.proofs.timeline.Timeline.plan.Goals.{then-lo-hi-via-then-lo-hi, then-lo-hi-via-else-lo-hi+then-hi-sealed}
+
+pub place_of-requires : goal.place_of-requires
+place_of-requires c = rising-starts c.self.inside.spec c.self.inside.stream.items c.self.inside.chunks c.self.invariant.starts
 
 pub returns-in_default-clause-no_range : goal.returns-in_default-clause-no_range
 returns-in_default-clause-no_range c =

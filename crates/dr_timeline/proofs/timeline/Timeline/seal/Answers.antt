@@ -6,8 +6,11 @@ use Rattle.dr_timeline.specs.State.{State}
 use Rattle.dr_timeline.specs.Steps.{sealed_at, open_in}
 use Rattle.dr_timeline.specs.Held.{chunk_at, has_open, at_start, with_open_sealed}
 use Rattle.dr_timeline.proofs.Places.{at_start-here, chunk_at-here}
-use Rattle.dr_timeline.proofs.Keeping.{keeps-sealed, state-sealed, open-new, open-empty, open-there}
+use Rattle.dr_timeline.proofs.Keeping.{rising-starts, keeps-sealed, state-sealed, open-new, open-empty, open-there}
 use Rattle.dr_timeline.proofs.timeline.Timeline.seal.Goals as goal
+
+pub place_of-requires : goal.place_of-requires
+place_of-requires c = rising-starts c.self.inside.spec c.self.inside.stream.items c.self.inside.chunks c.self.invariant.starts
 
 pub overflow_add-serial : goal.overflow_add-serial
 overflow_add-serial c =
