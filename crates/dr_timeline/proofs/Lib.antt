@@ -1,5 +1,6 @@
 pub mod Each
 pub mod Places
+pub mod Searching
 pub mod Totals
 pub mod Parts
 pub mod Tiles
