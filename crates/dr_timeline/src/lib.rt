@@ -3,6 +3,7 @@
 #![tactic(auto)]
 
 mod answer_text;
+mod block;
 mod bytes;
 mod chunk;
 mod chunks;
@@ -29,6 +30,7 @@ mod snapshot;
 mod span;
 mod stats;
 mod step;
+mod stream;
 #[cfg(test)]
 mod tests;
 mod timeline;
