@@ -17,7 +17,7 @@ use Rattle.dr_timeline.proofs.Keeping.{rising-starts}
 use Rattle.dr_timeline.proofs.timeline.Timeline.commit.Goals as goal
 
 pub place_of-requires : goal.place_of-requires
-place_of-requires c = rising-starts c.self.inside.spec c.self.inside.stream c.self.inside.chunks c.self.invariant.starts
+place_of-requires c = rising-starts c.self.inside.spec c.self.inside.stream.items c.self.inside.chunks c.self.invariant.starts
 
 pub returns-in_default-clause-stale : goal.returns-in_default-clause-stale
 returns-in_default-clause-stale c =
@@ -48,7 +48,7 @@ returns-in_default-place_of_job-clause-stale c =
     chunk_at-here t.spec t.chunks c.args.job.now.chunk c.in-At.i x at.0 at.1 at.2 ∙ ap (λ (cs : List Chunk). get_or cs c.in-At.i x) (sym c.as_slice.ensures) ∙ sym c.index-as_slice-i.is in
     let ranges : c.as_slice-2.result.now ≡ x.sealed = c.as_slice-2.ensures ∙ ap (λ (d : Chunk). d.sealed) (sym c.index-as_slice-i.is) in
     let inner : (place : ℕ) → StandsAt c.args.self.now c.args.job.now place → StandsIn c.as_slice-2.result.now c.args.job.now place = λ place stands.
-    subst (λ (ss : List SealedRange). StandsIn ss c.args.job.now place) (sym ranges) (stands-in t.spec t.stream t.chunks (t.seals + t.commits) t.commits t.unparseable t.thrown_away c.args.job.now x place there k.starts k.each
+    subst (λ (ss : List SealedRange). StandsIn ss c.args.job.now place) (sym ranges) (stands-in t.spec t.stream.items t.chunks (t.seals + t.commits) t.commits t.unparseable t.thrown_away c.args.job.now x place there k.starts k.each
     (subst (λ (s : State). StandsAt s c.args.job.now place) (sym c.self.view_is) stands)) in
     (λ h place stands. c.in_default-place_of_job.ensures.none refl place (inner place stands), λ h. refl)
 
@@ -71,11 +71,11 @@ returns-then-self-schema-clause-stale c =
     chunk_at-here t.spec t.chunks c.args.job.now.chunk c.in-At.i x at.0 at.1 at.2 ∙ ap (λ (cs : List Chunk). get_or cs c.in-At.i x) (sym c.as_slice.ensures) ∙ sym c.index-as_slice-i.is in
     let ranges : c.as_slice-2.result.now ≡ x.sealed = c.as_slice-2.ensures ∙ ap (λ (d : Chunk). d.sealed) (sym c.index-as_slice-i.is) in
     let inner : (place : ℕ) → StandsAt c.args.self.now c.args.job.now place → StandsIn c.as_slice-2.result.now c.args.job.now place = λ place stands.
-    subst (λ (ss : List SealedRange). StandsIn ss c.args.job.now place) (sym ranges) (stands-in t.spec t.stream t.chunks (t.seals + t.commits) t.commits t.unparseable t.thrown_away c.args.job.now x place there k.starts k.each
+    subst (λ (ss : List SealedRange). StandsIn ss c.args.job.now place) (sym ranges) (stands-in t.spec t.stream.items t.chunks (t.seals + t.commits) t.commits t.unparseable t.thrown_away c.args.job.now x place there k.starts k.each
     (subst (λ (s : State). StandsAt s c.args.job.now place) (sym c.self.view_is) stands)) in
     let stands : StandsIn x.sealed c.args.job.now c.in-Some.place = subst (λ (ss : List SealedRange). StandsIn ss c.args.job.now c.in-Some.place) ranges c.in-Some.ensures.found in
     let seen_stands : StandsAt c.args.self.now c.args.job.now c.in-Some.place =
-    subst (λ (s : State). StandsAt s c.args.job.now c.in-Some.place) c.self.view_is (stands-at t.spec t.stream t.chunks (t.seals + t.commits) t.commits t.unparseable t.thrown_away c.args.job.now x c.in-Some.place there k.starts k.each stands) in
+    subst (λ (s : State). StandsAt s c.args.job.now c.in-Some.place) c.self.view_is (stands-at t.spec t.stream.items t.chunks (t.seals + t.commits) t.commits t.unparseable t.thrown_away c.args.job.now x c.in-Some.place there k.starts k.each stands) in
     (λ h. cc, λ h. absurd (h c.in-Some.place seen_stands))
 
 pub returns-then-self-schema-clause-full : goal.returns-then-self-schema-clause-full
@@ -89,11 +89,11 @@ returns-then-self-schema-clause-full c =
     chunk_at-here t.spec t.chunks c.args.job.now.chunk c.in-At.i x at.0 at.1 at.2 ∙ ap (λ (cs : List Chunk). get_or cs c.in-At.i x) (sym c.as_slice.ensures) ∙ sym c.index-as_slice-i.is in
     let ranges : c.as_slice-2.result.now ≡ x.sealed = c.as_slice-2.ensures ∙ ap (λ (d : Chunk). d.sealed) (sym c.index-as_slice-i.is) in
     let inner : (place : ℕ) → StandsAt c.args.self.now c.args.job.now place → StandsIn c.as_slice-2.result.now c.args.job.now place = λ place stands.
-    subst (λ (ss : List SealedRange). StandsIn ss c.args.job.now place) (sym ranges) (stands-in t.spec t.stream t.chunks (t.seals + t.commits) t.commits t.unparseable t.thrown_away c.args.job.now x place there k.starts k.each
+    subst (λ (ss : List SealedRange). StandsIn ss c.args.job.now place) (sym ranges) (stands-in t.spec t.stream.items t.chunks (t.seals + t.commits) t.commits t.unparseable t.thrown_away c.args.job.now x place there k.starts k.each
     (subst (λ (s : State). StandsAt s c.args.job.now place) (sym c.self.view_is) stands)) in
     let stands : StandsIn x.sealed c.args.job.now c.in-Some.place = subst (λ (ss : List SealedRange). StandsIn ss c.args.job.now c.in-Some.place) ranges c.in-Some.ensures.found in
     let seen_stands : StandsAt c.args.self.now c.args.job.now c.in-Some.place =
-    subst (λ (s : State). StandsAt s c.args.job.now c.in-Some.place) c.self.view_is (stands-at t.spec t.stream t.chunks (t.seals + t.commits) t.commits t.unparseable t.thrown_away c.args.job.now x c.in-Some.place there k.starts k.each stands) in
+    subst (λ (s : State). StandsAt s c.args.job.now c.in-Some.place) c.self.view_is (stands-at t.spec t.stream.items t.chunks (t.seals + t.commits) t.commits t.unparseable t.thrown_away c.args.job.now x c.in-Some.place there k.starts k.each stands) in
     let full : t.spec.limits.max_commits ≤ t.commits = subst (λ (schema : Schema). schema.limits.max_commits ≤ t.commits) c.schema.ensures.value c.if-self-schema.true in
     (λ h. ((c.in-Some.place, seen_stands), subst (λ (s : State). s.schema.limits.max_commits ≤ s.commits) c.self.view_is full), λ h. refl)
 
@@ -108,11 +108,11 @@ returns-then-self-schema-clause-step c =
     chunk_at-here t.spec t.chunks c.args.job.now.chunk c.in-At.i x at.0 at.1 at.2 ∙ ap (λ (cs : List Chunk). get_or cs c.in-At.i x) (sym c.as_slice.ensures) ∙ sym c.index-as_slice-i.is in
     let ranges : c.as_slice-2.result.now ≡ x.sealed = c.as_slice-2.ensures ∙ ap (λ (d : Chunk). d.sealed) (sym c.index-as_slice-i.is) in
     let inner : (place : ℕ) → StandsAt c.args.self.now c.args.job.now place → StandsIn c.as_slice-2.result.now c.args.job.now place = λ place stands.
-    subst (λ (ss : List SealedRange). StandsIn ss c.args.job.now place) (sym ranges) (stands-in t.spec t.stream t.chunks (t.seals + t.commits) t.commits t.unparseable t.thrown_away c.args.job.now x place there k.starts k.each
+    subst (λ (ss : List SealedRange). StandsIn ss c.args.job.now place) (sym ranges) (stands-in t.spec t.stream.items t.chunks (t.seals + t.commits) t.commits t.unparseable t.thrown_away c.args.job.now x place there k.starts k.each
     (subst (λ (s : State). StandsAt s c.args.job.now place) (sym c.self.view_is) stands)) in
     let stands : StandsIn x.sealed c.args.job.now c.in-Some.place = subst (λ (ss : List SealedRange). StandsIn ss c.args.job.now c.in-Some.place) ranges c.in-Some.ensures.found in
     let seen_stands : StandsAt c.args.self.now c.args.job.now c.in-Some.place =
-    subst (λ (s : State). StandsAt s c.args.job.now c.in-Some.place) c.self.view_is (stands-at t.spec t.stream t.chunks (t.seals + t.commits) t.commits t.unparseable t.thrown_away c.args.job.now x c.in-Some.place there k.starts k.each stands) in
+    subst (λ (s : State). StandsAt s c.args.job.now c.in-Some.place) c.self.view_is (stands-at t.spec t.stream.items t.chunks (t.seals + t.commits) t.commits t.unparseable t.thrown_away c.args.job.now x c.in-Some.place there k.starts k.each stands) in
     let full : t.spec.limits.max_commits ≤ t.commits = subst (λ (schema : Schema). schema.limits.max_commits ≤ t.commits) c.schema.ensures.value c.if-self-schema.true in
     λ _. commit-full c.args.self.now c.args.job.now c.in-Some.place seen_stands (λ e below at_e. c.in-Some.ensures.first e below (inner e at_e))
     (subst (λ (s : State). s.schema.limits.max_commits ≤ s.commits) c.self.view_is full)
@@ -128,11 +128,11 @@ returns-in_err-new-clause-stale c =
     chunk_at-here t.spec t.chunks c.args.job.now.chunk c.in-At.i x at.0 at.1 at.2 ∙ ap (λ (cs : List Chunk). get_or cs c.in-At.i x) (sym c.as_slice.ensures) ∙ sym c.index-as_slice-i.is in
     let ranges : c.as_slice-2.result.now ≡ x.sealed = c.as_slice-2.ensures ∙ ap (λ (d : Chunk). d.sealed) (sym c.index-as_slice-i.is) in
     let inner : (place : ℕ) → StandsAt c.args.self.now c.args.job.now place → StandsIn c.as_slice-2.result.now c.args.job.now place = λ place stands.
-    subst (λ (ss : List SealedRange). StandsIn ss c.args.job.now place) (sym ranges) (stands-in t.spec t.stream t.chunks (t.seals + t.commits) t.commits t.unparseable t.thrown_away c.args.job.now x place there k.starts k.each
+    subst (λ (ss : List SealedRange). StandsIn ss c.args.job.now place) (sym ranges) (stands-in t.spec t.stream.items t.chunks (t.seals + t.commits) t.commits t.unparseable t.thrown_away c.args.job.now x place there k.starts k.each
     (subst (λ (s : State). StandsAt s c.args.job.now place) (sym c.self.view_is) stands)) in
     let stands : StandsIn x.sealed c.args.job.now c.in-Some.place = subst (λ (ss : List SealedRange). StandsIn ss c.args.job.now c.in-Some.place) ranges c.in-Some.ensures.found in
     let seen_stands : StandsAt c.args.self.now c.args.job.now c.in-Some.place =
-    subst (λ (s : State). StandsAt s c.args.job.now c.in-Some.place) c.self.view_is (stands-at t.spec t.stream t.chunks (t.seals + t.commits) t.commits t.unparseable t.thrown_away c.args.job.now x c.in-Some.place there k.starts k.each stands) in
+    subst (λ (s : State). StandsAt s c.args.job.now c.in-Some.place) c.self.view_is (stands-at t.spec t.stream.items t.chunks (t.seals + t.commits) t.commits t.unparseable t.thrown_away c.args.job.now x c.in-Some.place there k.starts k.each stands) in
     let p = err_from_is_err_and c.from_residual.result c.from_residual.ensures.1 in
     rw (p.1, p.2) (λ h. cc, λ h. absurd (h c.in-Some.place seen_stands))
 
@@ -147,11 +147,11 @@ returns-clause-stale c =
     chunk_at-here t.spec t.chunks c.args.job.now.chunk c.in-At.i x at.0 at.1 at.2 ∙ ap (λ (cs : List Chunk). get_or cs c.in-At.i x) (sym c.as_slice.ensures) ∙ sym c.index-as_slice-i.is in
     let ranges : c.as_slice-2.result.now ≡ x.sealed = c.as_slice-2.ensures ∙ ap (λ (d : Chunk). d.sealed) (sym c.index-as_slice-i.is) in
     let inner : (place : ℕ) → StandsAt c.args.self.now c.args.job.now place → StandsIn c.as_slice-2.result.now c.args.job.now place = λ place stands.
-    subst (λ (ss : List SealedRange). StandsIn ss c.args.job.now place) (sym ranges) (stands-in t.spec t.stream t.chunks (t.seals + t.commits) t.commits t.unparseable t.thrown_away c.args.job.now x place there k.starts k.each
+    subst (λ (ss : List SealedRange). StandsIn ss c.args.job.now place) (sym ranges) (stands-in t.spec t.stream.items t.chunks (t.seals + t.commits) t.commits t.unparseable t.thrown_away c.args.job.now x place there k.starts k.each
     (subst (λ (s : State). StandsAt s c.args.job.now place) (sym c.self.view_is) stands)) in
     let stands : StandsIn x.sealed c.args.job.now c.in-Some.place = subst (λ (ss : List SealedRange). StandsIn ss c.args.job.now c.in-Some.place) ranges c.in-Some.ensures.found in
     let seen_stands : StandsAt c.args.self.now c.args.job.now c.in-Some.place =
-    subst (λ (s : State). StandsAt s c.args.job.now c.in-Some.place) c.self.view_is (stands-at t.spec t.stream t.chunks (t.seals + t.commits) t.commits t.unparseable t.thrown_away c.args.job.now x c.in-Some.place there k.starts k.each stands) in
+    subst (λ (s : State). StandsAt s c.args.job.now c.in-Some.place) c.self.view_is (stands-at t.spec t.stream.items t.chunks (t.seals + t.commits) t.commits t.unparseable t.thrown_away c.args.job.now x c.in-Some.place there k.starts k.each stands) in
     (λ h. cc, λ h. absurd (h c.in-Some.place seen_stands))
 
 pub invariant_of-self : goal.invariant_of-self
@@ -165,11 +165,11 @@ invariant_of-self c =
     chunk_at-here t.spec t.chunks c.args.job.now.chunk c.in-At.i x at.0 at.1 at.2 ∙ ap (λ (cs : List Chunk). get_or cs c.in-At.i x) (sym c.as_slice.ensures) ∙ sym c.index-as_slice-i.is in
     let ranges : c.as_slice-2.result.now ≡ x.sealed = c.as_slice-2.ensures ∙ ap (λ (d : Chunk). d.sealed) (sym c.index-as_slice-i.is) in
     let inner : (place : ℕ) → StandsAt c.args.self.now c.args.job.now place → StandsIn c.as_slice-2.result.now c.args.job.now place = λ place stands.
-    subst (λ (ss : List SealedRange). StandsIn ss c.args.job.now place) (sym ranges) (stands-in t.spec t.stream t.chunks (t.seals + t.commits) t.commits t.unparseable t.thrown_away c.args.job.now x place there k.starts k.each
+    subst (λ (ss : List SealedRange). StandsIn ss c.args.job.now place) (sym ranges) (stands-in t.spec t.stream.items t.chunks (t.seals + t.commits) t.commits t.unparseable t.thrown_away c.args.job.now x place there k.starts k.each
     (subst (λ (s : State). StandsAt s c.args.job.now place) (sym c.self.view_is) stands)) in
     let stands : StandsIn x.sealed c.args.job.now c.in-Some.place = subst (λ (ss : List SealedRange). StandsIn ss c.args.job.now c.in-Some.place) ranges c.in-Some.ensures.found in
     let seen_stands : StandsAt c.args.self.now c.args.job.now c.in-Some.place =
-    subst (λ (s : State). StandsAt s c.args.job.now c.in-Some.place) c.self.view_is (stands-at t.spec t.stream t.chunks (t.seals + t.commits) t.commits t.unparseable t.thrown_away c.args.job.now x c.in-Some.place there k.starts k.each stands) in
+    subst (λ (s : State). StandsAt s c.args.job.now c.in-Some.place) c.self.view_is (stands-at t.spec t.stream.items t.chunks (t.seals + t.commits) t.commits t.unparseable t.thrown_away c.args.job.now x c.in-Some.place there k.starts k.each stands) in
     let serial : ℕ = t.seals + t.commits in
     let count : c.len-2.result ≡ length c.args.job.now.inputs = c.len-2.ensures in
     let new : SealedRange = record { serial = serial; version = c.least_version-version.result; fragment = c.in_ok-new.field-0 } in
@@ -178,25 +178,25 @@ invariant_of-self c =
     let changed : c.replace.new.self ≡ at_start t.spec change c.args.job.now.chunk t.chunks =
     c.replace.ensures x ∙ ap (λ n. changed_at c.in-At.i (with_range c.in-Some.place n new) x t.chunks) count ∙ sym (at_start-here t.spec t.chunks c.args.job.now.chunk c.in-At.i change x at.0 at.1 at.2) in
     let room : t.commits < t.spec.limits.max_commits = subst (λ (schema : Schema). t.commits < schema.limits.max_commits) c.schema.ensures.value c.if-self-schema.false in
-    rw changed (keeps-merged t.spec t.stream t.chunks t.seals t.commits c.args.job.now x c.in-At.i c.in-Some.place new k there at.0 at.1 at.2 stands is room)
+    rw changed (keeps-merged t.spec t.stream.items t.chunks t.seals t.commits c.args.job.now x c.in-At.i c.in-Some.place new k there at.0 at.1 at.2 stands is room)
 
 pub returns-clause-ok : goal.returns-clause-ok
 returns-clause-ok c =
     let t = c.self.inside in
     let k = c.self.invariant in
     let x : Chunk = c.index-as_slice-i.result in
-    let before : State = seen t.spec t.stream t.chunks (t.seals + t.commits) t.commits t.unparseable t.thrown_away in
+    let before : State = seen t.spec t.stream.items t.chunks (t.seals + t.commits) t.commits t.unparseable t.thrown_away in
     let fits : FitsSigned w64 c.args.job.now.chunk = search rules in
     let at = rw (to_z-of_z w64 c.args.job.now.chunk fits) at c.in-At.ensures in
     let there : chunk_at t.spec c.args.job.now.chunk t.chunks ≡ x =
     chunk_at-here t.spec t.chunks c.args.job.now.chunk c.in-At.i x at.0 at.1 at.2 ∙ ap (λ (cs : List Chunk). get_or cs c.in-At.i x) (sym c.as_slice.ensures) ∙ sym c.index-as_slice-i.is in
     let ranges : c.as_slice-2.result.now ≡ x.sealed = c.as_slice-2.ensures ∙ ap (λ (d : Chunk). d.sealed) (sym c.index-as_slice-i.is) in
     let inner : (place : ℕ) → StandsAt c.args.self.now c.args.job.now place → StandsIn c.as_slice-2.result.now c.args.job.now place = λ place stands.
-    subst (λ (ss : List SealedRange). StandsIn ss c.args.job.now place) (sym ranges) (stands-in t.spec t.stream t.chunks (t.seals + t.commits) t.commits t.unparseable t.thrown_away c.args.job.now x place there k.starts k.each
+    subst (λ (ss : List SealedRange). StandsIn ss c.args.job.now place) (sym ranges) (stands-in t.spec t.stream.items t.chunks (t.seals + t.commits) t.commits t.unparseable t.thrown_away c.args.job.now x place there k.starts k.each
     (subst (λ (s : State). StandsAt s c.args.job.now place) (sym c.self.view_is) stands)) in
     let stands : StandsIn x.sealed c.args.job.now c.in-Some.place = subst (λ (ss : List SealedRange). StandsIn ss c.args.job.now c.in-Some.place) ranges c.in-Some.ensures.found in
     let seen_stands : StandsAt c.args.self.now c.args.job.now c.in-Some.place =
-    subst (λ (s : State). StandsAt s c.args.job.now c.in-Some.place) c.self.view_is (stands-at t.spec t.stream t.chunks (t.seals + t.commits) t.commits t.unparseable t.thrown_away c.args.job.now x c.in-Some.place there k.starts k.each stands) in
+    subst (λ (s : State). StandsAt s c.args.job.now c.in-Some.place) c.self.view_is (stands-at t.spec t.stream.items t.chunks (t.seals + t.commits) t.commits t.unparseable t.thrown_away c.args.job.now x c.in-Some.place there k.starts k.each stands) in
     let serial : ℕ = t.seals + t.commits in
     let count : c.len-2.result ≡ length c.args.job.now.inputs = c.len-2.ensures in
     let new : SealedRange = record { serial = serial; version = c.least_version-version.result; fragment = c.in_ok-new.field-0 } in
@@ -213,10 +213,10 @@ returns-clause-ok c =
     let taken : c.in-Some.place + c.len.result - c.in-Some.place ≡ length c.args.job.now.inputs = omega arith in
     let version : c.least_version-version.result ≡ (joined_range before c.args.job.now c.in-Some.place).version =
     c.least_version-version.ensures ∙ (λ i. least_version (map range_of (take (taken i) (drop c.in-Some.place (sealed i)))))
-    ∙ ap least_version (sym (shown-part t.spec t.stream t.chunks serial t.commits t.unparseable t.thrown_away c.args.job.now.chunk x c.in-Some.place (length c.args.job.now.inputs) there)) in
+    ∙ ap least_version (sym (shown-part t.spec t.stream.items t.chunks serial t.commits t.unparseable t.thrown_away c.args.job.now.chunk x c.in-Some.place (length c.args.job.now.inputs) there)) in
     let range : range_of new ≡ joined_range before c.args.job.now c.in-Some.place = λ i. record { from = (is i).from; to = (is i).to; serial = serial; version = version i } in
-    let shown : seen t.spec t.stream c.replace.new.self (t.seals + (t.commits + 1)) (t.commits + 1) t.unparseable t.thrown_away ≡ committed before c.args.job.now c.in-Some.place =
-    ap (λ (cs : List Chunk). seen t.spec t.stream cs (t.seals + (t.commits + 1)) (t.commits + 1) t.unparseable t.thrown_away) changed ∙ state-merged t.spec t.stream t.chunks t.seals t.commits t.unparseable t.thrown_away c.args.job.now x c.in-Some.place new k there range in
+    let shown : seen t.spec t.stream.items c.replace.new.self (t.seals + (t.commits + 1)) (t.commits + 1) t.unparseable t.thrown_away ≡ committed before c.args.job.now c.in-Some.place =
+    ap (λ (cs : List Chunk). seen t.spec t.stream.items cs (t.seals + (t.commits + 1)) (t.commits + 1) t.unparseable t.thrown_away) changed ∙ state-merged t.spec t.stream.items t.chunks t.seals t.commits t.unparseable t.thrown_away c.args.job.now x c.in-Some.place new k there range in
     record {
       place = c.in-Some.place;
       stands = seen_stands;

@@ -12,7 +12,7 @@ use Rattle.dr_timeline.proofs.Placing.{seal-ok, seal-none}
 use Rattle.dr_timeline.proofs.timeline.Timeline.seal.Goals as goal
 
 pub place_of-requires : goal.place_of-requires
-place_of-requires c = rising-starts c.self.inside.spec c.self.inside.stream c.self.inside.chunks c.self.invariant.starts
+place_of-requires c = rising-starts c.self.inside.spec c.self.inside.stream.items c.self.inside.chunks c.self.invariant.starts
 
 pub overflow_add-serial : goal.overflow_add-serial
 overflow_add-serial c =
@@ -29,7 +29,7 @@ returns-in_default-clause-nothing c =
     let k = c.self.invariant in
     let place = rw (to_z-of_z w64 c.args.chunk c.ranges.chunk) at c.in_default.ensures in
     let none : open_in c.args.self.now c.args.chunk ≡ [] =
-    ap (λ (s : State). open_in s c.args.chunk) (sym c.self.view_is) ∙ open-new t.spec t.stream t.chunks c.args.chunk (t.seals + t.commits) t.commits t.unparseable t.thrown_away c.in_default.field-0 k.starts k.each place.1 place.2 in
+    ap (λ (s : State). open_in s c.args.chunk) (sym c.self.view_is) ∙ open-new t.spec t.stream.items t.chunks c.args.chunk (t.seals + t.commits) t.commits t.unparseable t.thrown_away c.in_default.field-0 k.starts k.each place.1 place.2 in
     (λ h. none, λ h. refl)
 
 pub returns-then-not-has_open-clause-nothing : goal.returns-then-not-has_open-clause-nothing
@@ -41,7 +41,7 @@ returns-then-not-has_open-clause-nothing c =
     chunk_at-here t.spec t.chunks c.args.chunk c.in-At.i c.index-as_slice-i.result place.0 place.1 place.2 ∙ ap (λ (cs : List Chunk). get_or cs c.in-At.i c.index-as_slice-i.result) (sym c.as_slice.ensures) ∙ sym c.index-as_slice-i.is in
     let none : open_in c.args.self.now c.args.chunk ≡ [] =
     ap (λ (s : State). open_in s c.args.chunk) (sym c.self.view_is)
-    ∙ open-empty t.spec t.stream t.chunks c.args.chunk (t.seals + t.commits) t.commits t.unparseable t.thrown_away k.starts k.each (ap has_open here ∙ sym c.has_open.ensures ∙ c.if-not-has_open.true) in
+    ∙ open-empty t.spec t.stream.items t.chunks c.args.chunk (t.seals + t.commits) t.commits t.unparseable t.thrown_away k.starts k.each (ap has_open here ∙ sym c.has_open.ensures ∙ c.if-not-has_open.true) in
     (λ h. none, λ h. refl)
 
 pub returns-in_err-seal-clause-nothing : goal.returns-in_err-seal-clause-nothing
@@ -51,7 +51,7 @@ returns-in_err-seal-clause-nothing c =
     let place = rw (to_z-of_z w64 c.args.chunk c.ranges.chunk) at c.in-At.ensures in
     let here : chunk_at t.spec c.args.chunk t.chunks ≡ c.index-as_slice-i.result =
     chunk_at-here t.spec t.chunks c.args.chunk c.in-At.i c.index-as_slice-i.result place.0 place.1 place.2 ∙ ap (λ (cs : List Chunk). get_or cs c.in-At.i c.index-as_slice-i.result) (sym c.as_slice.ensures) ∙ sym c.index-as_slice-i.is in
-    let some = open-there t.spec t.stream t.chunks c.args.chunk (t.seals + t.commits) t.commits t.unparseable t.thrown_away k.starts k.each (ap has_open here ∙ sym c.has_open.ensures ∙ c.if-not-has_open.false) in
+    let some = open-there t.spec t.stream.items t.chunks c.args.chunk (t.seals + t.commits) t.commits t.unparseable t.thrown_away k.starts k.each (ap has_open here ∙ sym c.has_open.ensures ∙ c.if-not-has_open.false) in
     let p = err_from_is_err_and c.from_residual.result c.from_residual.ensures.1 in
     rw (p.1, p.2) (λ h. cc, λ h. absurd (some (ap (λ (s : State). open_in s c.args.chunk) c.self.view_is ∙ h)))
 
@@ -65,7 +65,7 @@ invariant_of-self-2 c =
     let serial : ℕ = t.seals + t.commits in
     let changed : c.seal.new.self ≡ at_start t.spec (with_open_sealed serial) c.args.chunk t.chunks =
     c.in_ok-seal.ensures.ok c.index-as_slice-i.result ∙ sym (at_start-here t.spec t.chunks c.args.chunk c.in-At.i (with_open_sealed serial) c.index-as_slice-i.result place.0 place.1 place.2) in
-    rw changed (keeps-sealed t.spec t.stream t.chunks t.seals t.commits c.args.chunk c.in-At.i serial k place.0 place.1 place.2 (ap has_open here ∙ sym c.has_open.ensures ∙ c.if-not-has_open.false))
+    rw changed (keeps-sealed t.spec t.stream.items t.chunks t.seals t.commits c.args.chunk c.in-At.i serial k place.0 place.1 place.2 (ap has_open here ∙ sym c.has_open.ensures ∙ c.if-not-has_open.false))
 
 pub returns-clause-ok : goal.returns-clause-ok
 returns-clause-ok c =
@@ -77,7 +77,7 @@ returns-clause-ok c =
     let serial : ℕ = t.seals + t.commits in
     let changed : c.seal.new.self ≡ at_start t.spec (with_open_sealed serial) c.args.chunk t.chunks =
     c.in_ok-seal.ensures.ok c.index-as_slice-i.result ∙ sym (at_start-here t.spec t.chunks c.args.chunk c.in-At.i (with_open_sealed serial) c.index-as_slice-i.result place.0 place.1 place.2) in
-    rw changed (state-sealed t.spec t.stream t.chunks t.seals t.commits t.unparseable t.thrown_away c.args.chunk k ∙ ap (sealed_at c.args.chunk) c.self.view_is)
+    rw changed (state-sealed t.spec t.stream.items t.chunks t.seals t.commits t.unparseable t.thrown_away c.args.chunk k ∙ ap (sealed_at c.args.chunk) c.self.view_is)
 
 pub returns-clause-nothing : goal.returns-clause-nothing
 returns-clause-nothing c =
@@ -86,7 +86,7 @@ returns-clause-nothing c =
     let place = rw (to_z-of_z w64 c.args.chunk c.ranges.chunk) at c.in-At.ensures in
     let here : chunk_at t.spec c.args.chunk t.chunks ≡ c.index-as_slice-i.result =
     chunk_at-here t.spec t.chunks c.args.chunk c.in-At.i c.index-as_slice-i.result place.0 place.1 place.2 ∙ ap (λ (cs : List Chunk). get_or cs c.in-At.i c.index-as_slice-i.result) (sym c.as_slice.ensures) ∙ sym c.index-as_slice-i.is in
-    let some = open-there t.spec t.stream t.chunks c.args.chunk (t.seals + t.commits) t.commits t.unparseable t.thrown_away k.starts k.each (ap has_open here ∙ sym c.has_open.ensures ∙ c.if-not-has_open.false) in
+    let some = open-there t.spec t.stream.items t.chunks c.args.chunk (t.seals + t.commits) t.commits t.unparseable t.thrown_away k.starts k.each (ap has_open here ∙ sym c.has_open.ensures ∙ c.if-not-has_open.false) in
     (λ h. cc, λ h. absurd (some (ap (λ (s : State). open_in s c.args.chunk) c.self.view_is ∙ h)))
 
 pub returns-in_default-clause-step : goal.returns-in_default-clause-step
