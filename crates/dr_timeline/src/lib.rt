@@ -22,6 +22,8 @@ mod purpose;
 mod range_info;
 mod reply;
 mod rows;
+#[cfg(test)]
+mod run_tests;
 mod sealed_range;
 mod sealed_ranges;
 mod serials;
