@@ -15,6 +15,7 @@ pub mod Matching
 pub mod Pinning
 pub mod Keeping
 pub mod Standing
+pub mod Placing
 pub mod Running
 pub mod CutSteps
 pub mod RawRuns

@@ -4,6 +4,8 @@ pub mod AtKey
 pub mod State
 pub mod Joined
 pub mod Steps
+pub mod Standing
+pub mod Stepping
 pub mod Noted
 pub mod Segments
 pub mod RawAnswer

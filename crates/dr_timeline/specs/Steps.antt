@@ -96,9 +96,10 @@ committed s job place = record s {
   commits = s.commits + 1;
 }
 
--- the job was committed where its ranges stood, and the answer is the version of the new one
+-- the job was committed where its ranges stood first, and the answer is the version of the new one
 pub record Commits (s : State) (job : Job) (version : ℕ) (new : State) : Type 0 where
   pub place : ℕ
   pub stands : StandsAt s job place
+  pub first : (earlier : ℕ) → earlier < place → StandsAt s job earlier → ⊥
   pub version_is : version ≡ (joined_range s job place).version
   pub new_is : new ≡ committed s job place

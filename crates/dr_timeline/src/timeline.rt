@@ -2,6 +2,9 @@ ghost use Rattle.std.specs.Prelude.{◌≡◌, ◌<◌, ◌≤◌, ◌↔◌, �
 ghost use Rattle.dr_timeline.specs.declared.timeline_error.TimelineError.TheVariants.{NoMemory, StreamFull, NothingToSeal, NoSuchRange, Stale, CommitsFull};
 ghost use Rattle.dr_timeline.specs.State.{State, empty_state, sealed_in};
 ghost use Rattle.dr_timeline.specs.Steps.{accepted, sealed_at, open_in, job_of, StandsAt, Commits};
+ghost use Rattle.dr_timeline.specs.Stepping.{accept, seal, plan, commit};
+ghost use Rattle.dr_timeline.specs.Refusal.{is_memory};
+ghost use Rattle.dr_base.specs.Reading.{GivesUnless};
 ghost use Rattle.dr_timeline.specs.Noted.{noted, stats};
 ghost use Rattle.dr_timeline.specs.Held.{info_of, infos_of_chunk, fragments_of_chunk};
 ghost use Rattle.dr_timeline.specs.Joined.{joined_fragment, FitsJob};
@@ -101,6 +104,7 @@ impl Timeline {
         ensures err { OnErr result (self.new ≡ self.old) }
         ensures full { IsErrOf result StreamFull ↔ (self.old.schema.limits.max_retained ≤ length self.old.stream) }
         ensures refusals { IfErr result (λ e. (e ≡ NoMemory) ⊎ (e ≡ StreamFull)) }
+        ensures step { GivesUnless is_memory (λ n. (n, self.new)) result (accept self.old event) }
     {
         let schema = self.spec.schema();
         let number = self.stream.len();
@@ -145,6 +149,7 @@ impl Timeline {
         ensures err { OnErr result (self.new ≡ self.old) }
         ensures nothing { IsErrOf result NothingToSeal ↔ (open_in self.old chunk ≡ []) }
         ensures refusals { IfErr result (λ e. (e ≡ NoMemory) ⊎ (e ≡ NothingToSeal)) }
+        ensures step { GivesUnless is_memory (λ _. self.new) result (seal self.old chunk) }
     {
         let alloc = self.stream.allocator();
         let serial = self.seals + self.commits;
@@ -173,6 +178,7 @@ impl Timeline {
         ensures fits { IfOk result (λ job. FitsJob self.now.schema job) }
         ensures no_range { IsErrOf result NoSuchRange ↔ ((lo < hi) × (hi ≤ length (sealed_in chunk self.now.cuts)) → ⊥) }
         ensures refusals { IfErr result (λ e. (e ≡ NoMemory) ⊎ (e ≡ NoSuchRange)) }
+        ensures step { GivesUnless is_memory (λ job. job) result (plan self.now chunk lo hi purpose) }
     {
         let alloc = self.stream.allocator();
         let Place::At(i) = self.chunks.place_of(chunk) else {
@@ -196,6 +202,7 @@ impl Timeline {
         ensures stale { IsErrOf result Stale ↔ ((place : ℕ) → StandsAt self.old job.now place → ⊥) }
         ensures full { IsErrOf result CommitsFull ↔ (((place : ℕ) × StandsAt self.old job.now place) × (self.old.schema.limits.max_commits ≤ self.old.commits)) }
         ensures refusals { IfErr result (λ e. (e ≡ NoMemory) ⊎ (e ≡ Stale) ⊎ (e ≡ CommitsFull)) }
+        ensures step { GivesUnless is_memory (λ version. (version, self.new)) result (commit self.old job.now) }
     {
         let alloc = self.stream.allocator();
         let Place::At(i) = self.chunks.place_of(job.chunk) else {

@@ -1,10 +1,16 @@
-use Rattle.std.proofs.Common.{List, ◌≡◌, ◌++◌, ◌∷◌, [], ◌∙◌, sym, ap, subst, w64, FitsSigned, rules, arith, length, ◌<◌, ◌+◌}
-use Rattle.dr_base.specs.declared.event.Event.{Event}
+use Rattle.std.proofs.Common.{◌≡◌, ◌++◌, ◌∷◌, [], ◌∙◌, sym, ap, refl, map, subst, ℕ, Ok, w64, FitsSigned, rules, arith, length, ◌<◌, ◌+◌, List}
 use Rattle.std.proofs.lemmas.Int.{to_z-of_z}
+use Rattle.dr_base.specs.declared.event.Event.{Event}
 use Rattle.dr_events.specs.Fits.{FitsSchema}
+use Rattle.dr_spec.specs.Columns.{kinds_of}
+use Rattle.dr_spec.specs.declared.schema.Schema.{Schema}
+use Rattle.dr_timeline.specs.declared.chunk.Chunk.{Chunk}
 use Rattle.dr_timeline.specs.State.{State}
 use Rattle.dr_timeline.specs.Steps.{accepted}
-use Rattle.dr_timeline.proofs.Keeping.{rising-starts, keeps-grown, state-grown, chunks-fit}
+use Rattle.dr_timeline.specs.Held.{cut_of}
+use Rattle.dr_timeline.proofs.Holding.{fits-unrolled}
+use Rattle.dr_timeline.proofs.Keeping.{keeps-grown, state-grown, chunks-fit, rising-starts}
+use Rattle.dr_timeline.proofs.Placing.{accept-ok}
 use Rattle.dr_timeline.proofs.timeline.Timeline.accept.Goals as goal
 
 pub grow-requires-clause-rising : goal.grow-requires-clause-rising
@@ -37,3 +43,12 @@ returns-clause-ok c =
     rw (stream, put, seals)
     (state-grown t.spec t.stream.items t.chunks t.seals t.commits t.unparseable t.thrown_away c.args.event c.self.invariant
     ∙ ap (λ (s : State). accepted s c.args.event) c.self.view_is)
+
+pub returns-clause-step : goal.returns-clause-step
+returns-clause-step c =
+    let t = c.self.inside in
+    let number : c.len-number.result ≡ length t.stream.items = search rules in
+    let below = subst (λ (schema : Schema). c.len-number.result < schema.limits.max_retained) c.schema-schema.ensures.value c.if-number-schema.false in
+    let room : length t.stream.items < t.spec.limits.max_retained = subst (λ (n : ℕ). n < t.spec.limits.max_retained) number below in
+    accept-ok c.args.self.now c.args.event (subst (λ (s : State). length s.stream < s.schema.limits.max_retained) c.self.view_is room)
+    ∙ (λ i. Ok ((ap (λ (s : State). length s.stream) (sym c.self.view_is) ∙ sym number) i, (sym (returns-clause-ok c)) i))

@@ -12,6 +12,7 @@ use Rattle.dr_timeline.specs.Held.{StandsIn, chunk_at, at_start, changed_at, wit
 use Rattle.dr_timeline.proofs.Places.{at_start-here, chunk_at-here, chunk_at-new, get_or-same}
 use Rattle.dr_timeline.proofs.Changes.{sealed_in-cuts}
 use Rattle.dr_timeline.proofs.Standing.{seen, stands-at, stands-in, keeps-merged, state-merged, shown-part}
+use Rattle.dr_timeline.proofs.Placing.{commit-stale, commit-full, commit-ok}
 use Rattle.dr_timeline.proofs.Keeping.{rising-starts}
 use Rattle.dr_timeline.proofs.timeline.Timeline.commit.Goals as goal
 
@@ -27,6 +28,9 @@ returns-in_default-clause-stale c =
     ap (λ (s : State). length (sealed_in c.args.job.now.chunk s.cuts)) (sym c.self.view_is)
     ∙ ap (λ rs. length rs) (sealed_in-cuts t.spec t.chunks c.args.job.now.chunk ∙ ap ranges_of (chunk_at-new t.spec t.chunks c.args.job.now.chunk c.in_default.field-0 place.1 place.2)) in
     (λ h p stands. let some = stands.some in let within = stands.within in absurd (omega arith), λ h. refl)
+
+pub returns-in_default-clause-step : goal.returns-in_default-clause-step
+returns-in_default-clause-step c = λ _. commit-stale c.args.self.now c.args.job.now ((returns-in_default-clause-stale c).0 refl)
 
 pub returns-in_default-clause-full : goal.returns-in_default-clause-full
 returns-in_default-clause-full c =
@@ -47,6 +51,9 @@ returns-in_default-place_of_job-clause-stale c =
     subst (λ (ss : List SealedRange). StandsIn ss c.args.job.now place) (sym ranges) (stands-in t.spec t.stream.items t.chunks (t.seals + t.commits) t.commits t.unparseable t.thrown_away c.args.job.now x place there k.starts k.each
     (subst (λ (s : State). StandsAt s c.args.job.now place) (sym c.self.view_is) stands)) in
     (λ h place stands. c.in_default-place_of_job.ensures.none refl place (inner place stands), λ h. refl)
+
+pub returns-in_default-place_of_job-clause-step : goal.returns-in_default-place_of_job-clause-step
+returns-in_default-place_of_job-clause-step c = λ _. commit-stale c.args.self.now c.args.job.now ((returns-in_default-place_of_job-clause-stale c).0 refl)
 
 pub returns-in_default-place_of_job-clause-full : goal.returns-in_default-place_of_job-clause-full
 returns-in_default-place_of_job-clause-full c =
@@ -89,6 +96,26 @@ returns-then-self-schema-clause-full c =
     subst (λ (s : State). StandsAt s c.args.job.now c.in-Some.place) c.self.view_is (stands-at t.spec t.stream.items t.chunks (t.seals + t.commits) t.commits t.unparseable t.thrown_away c.args.job.now x c.in-Some.place there k.starts k.each stands) in
     let full : t.spec.limits.max_commits ≤ t.commits = subst (λ (schema : Schema). schema.limits.max_commits ≤ t.commits) c.schema.ensures.value c.if-self-schema.true in
     (λ h. ((c.in-Some.place, seen_stands), subst (λ (s : State). s.schema.limits.max_commits ≤ s.commits) c.self.view_is full), λ h. refl)
+
+pub returns-then-self-schema-clause-step : goal.returns-then-self-schema-clause-step
+returns-then-self-schema-clause-step c =
+    let t = c.self.inside in
+    let k = c.self.invariant in
+    let x : Chunk = c.index-as_slice-i.result in
+    let fits : FitsSigned w64 c.args.job.now.chunk = search rules in
+    let at = rw (to_z-of_z w64 c.args.job.now.chunk fits) at c.in-At.ensures in
+    let there : chunk_at t.spec c.args.job.now.chunk t.chunks ≡ x =
+    chunk_at-here t.spec t.chunks c.args.job.now.chunk c.in-At.i x at.0 at.1 at.2 ∙ ap (λ (cs : List Chunk). get_or cs c.in-At.i x) (sym c.as_slice.ensures) ∙ sym c.index-as_slice-i.is in
+    let ranges : c.as_slice-2.result.now ≡ x.sealed = c.as_slice-2.ensures ∙ ap (λ (d : Chunk). d.sealed) (sym c.index-as_slice-i.is) in
+    let inner : (place : ℕ) → StandsAt c.args.self.now c.args.job.now place → StandsIn c.as_slice-2.result.now c.args.job.now place = λ place stands.
+    subst (λ (ss : List SealedRange). StandsIn ss c.args.job.now place) (sym ranges) (stands-in t.spec t.stream.items t.chunks (t.seals + t.commits) t.commits t.unparseable t.thrown_away c.args.job.now x place there k.starts k.each
+    (subst (λ (s : State). StandsAt s c.args.job.now place) (sym c.self.view_is) stands)) in
+    let stands : StandsIn x.sealed c.args.job.now c.in-Some.place = subst (λ (ss : List SealedRange). StandsIn ss c.args.job.now c.in-Some.place) ranges c.in-Some.ensures.found in
+    let seen_stands : StandsAt c.args.self.now c.args.job.now c.in-Some.place =
+    subst (λ (s : State). StandsAt s c.args.job.now c.in-Some.place) c.self.view_is (stands-at t.spec t.stream.items t.chunks (t.seals + t.commits) t.commits t.unparseable t.thrown_away c.args.job.now x c.in-Some.place there k.starts k.each stands) in
+    let full : t.spec.limits.max_commits ≤ t.commits = subst (λ (schema : Schema). schema.limits.max_commits ≤ t.commits) c.schema.ensures.value c.if-self-schema.true in
+    λ _. commit-full c.args.self.now c.args.job.now c.in-Some.place seen_stands (λ e below at_e. c.in-Some.ensures.first e below (inner e at_e))
+    (subst (λ (s : State). s.schema.limits.max_commits ≤ s.commits) c.self.view_is full)
 
 pub returns-in_err-new-clause-stale : goal.returns-in_err-new-clause-stale
 returns-in_err-new-clause-stale c =
@@ -193,6 +220,13 @@ returns-clause-ok c =
     record {
       place = c.in-Some.place;
       stands = seen_stands;
+      first = λ e below at_e. c.in-Some.ensures.first e below (inner e at_e);
       version_is = version ∙ ap (λ (s : State). (joined_range s c.args.job.now c.in-Some.place).version) c.self.view_is;
       new_is = shown ∙ ap (λ (s : State). committed s c.args.job.now c.in-Some.place) c.self.view_is;
     }
+
+pub returns-clause-step : goal.returns-clause-step
+returns-clause-step c =
+    let t = c.self.inside in
+    let room : t.commits < t.spec.limits.max_commits = subst (λ (schema : Schema). t.commits < schema.limits.max_commits) c.schema.ensures.value c.if-self-schema.false in
+    commit-ok c.args.self.now _ c.args.job.now c.least_version-version.result (returns-clause-ok c) (subst (λ (s : State). s.commits < s.schema.limits.max_commits) c.self.view_is room)

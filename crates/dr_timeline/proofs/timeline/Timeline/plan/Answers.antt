@@ -1,4 +1,4 @@
-use Rattle.std.proofs.Common.{◌≡◌, ◌∙◌, sym, ap, refl, subst, map, take, drop, w64, arith, length, get_or, ◌-◌, ◌+◌, List}
+use Rattle.std.proofs.Common.{◌≡◌, ◌∙◌, sym, ap, refl, subst, Ok, map, take, drop, ℕ, ℤ, [], w64, arith, rules, length, get_or, ◌<◌, ◌≤◌, ◌-◌, ◌+◌, List}
 use Rattle.std.proofs.lemmas.Int.{to_z-of_z}
 use Rattle.std.proofs.lemmas.Result.{err_from_is_err_and}
 use Rattle.dr_timeline.specs.declared.chunk.Chunk.{Chunk}
@@ -10,6 +10,7 @@ use Rattle.dr_timeline.specs.Held.{chunk_at, ranges_of}
 use Rattle.dr_timeline.proofs.Places.{chunk_at-here, chunk_at-new}
 use Rattle.dr_timeline.proofs.Changes.{sealed_in-cuts}
 use Rattle.dr_timeline.proofs.Standing.{seen, shown-length, shown-serials, shown-inputs, fits-fragments}
+use Rattle.dr_timeline.proofs.Placing.{plan-ok, plan-none}
 use Rattle.dr_timeline.proofs.Keeping.{rising-starts}
 use Rattle.dr_timeline.proofs.timeline.Timeline.plan.Goals as goal
 use Rattle.dr_timeline.proofs.timeline.Timeline.plan.Goals.{then-lo-hi-via-then-lo-hi, then-lo-hi-via-else-lo-hi+then-hi-sealed}
@@ -111,3 +112,24 @@ returns-clause-fits c =
     rw (to_z-of_z w64 c.args.chunk c.ranges.chunk) at c.in_ok-job_over.ensures ∙ (λ i. record { chunk = c.args.chunk; serials = serials i; inputs = inputs i; purpose = c.args.purpose }) in
     let fits : FitsJob t.spec c.in_ok-job_over.field-0 = subst (FitsJob t.spec) (sym job) (fits-fragments t.spec t.stream.items c.args.chunk (ranges_at (seen t.spec t.stream.items t.chunks (t.seals + t.commits) t.commits t.unparseable t.thrown_away) c.args.chunk c.args.lo (c.args.hi - c.args.lo))) in
     subst (λ (s : State). FitsJob s.schema c.in_ok-job_over.field-0) c.self.view_is fits
+
+pub returns-in_default-clause-step : goal.returns-in_default-clause-step
+returns-in_default-clause-step c = λ _. plan-none c.args.self.now c.args.chunk c.args.lo c.args.hi c.args.purpose ((returns-in_default-clause-no_range c).0 refl)
+
+pub returns-then-lo-hi-clause-step : goal.returns-then-lo-hi-clause-step
+returns-then-lo-hi-clause-step c = λ _. plan-none c.args.self.now c.args.chunk c.args.lo c.args.hi c.args.purpose ((returns-then-lo-hi-clause-no_range c).0 refl)
+
+pub returns-clause-step : goal.returns-clause-step
+returns-clause-step c =
+    let t = c.self.inside in
+    let k = c.self.invariant in
+    let place = rw (to_z-of_z w64 c.args.chunk c.ranges.chunk) at c.in-At.ensures in
+    let x : Chunk = c.index-as_slice-i.result in
+    let here : chunk_at t.spec c.args.chunk t.chunks ≡ x =
+    chunk_at-here t.spec t.chunks c.args.chunk c.in-At.i x place.0 place.1 place.2 ∙ ap (λ (cs : List Chunk). get_or cs c.in-At.i x) (sym c.as_slice.ensures) ∙ sym c.index-as_slice-i.is in
+    let ranges : c.as_slice-sealed.result.now ≡ x.sealed = c.as_slice-sealed.ensures ∙ ap (λ (d : Chunk). d.sealed) (sym c.index-as_slice-i.is) in
+    let count : length (sealed_in c.args.chunk c.args.self.now.cuts) ≡ length c.as_slice-sealed.result.now =
+    ap (λ (s : State). length (sealed_in c.args.chunk s.cuts)) (sym c.self.view_is) ∙ shown-length t.spec t.stream.items t.chunks (t.seals + t.commits) t.commits t.unparseable t.thrown_away c.args.chunk x here ∙ ap (λ (ss : List SealedRange). length ss) (sym ranges) in
+    let lt = c.if-lo-hi.false in
+    let le = c.if-hi-sealed.false in
+    plan-ok c.args.self.now c.args.chunk c.args.lo c.args.hi c.args.purpose (omega arith) (omega arith) ∙ ap Ok (sym (returns-clause-job c))

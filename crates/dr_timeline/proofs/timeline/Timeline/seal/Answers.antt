@@ -1,12 +1,14 @@
-use Rattle.std.proofs.Common.{◌≡◌, ◌∙◌, sym, ap, refl, ℕ, [], w64, rules, get_or, ◌+◌, List}
+use Rattle.std.proofs.Common.{◌≡◌, ◌∙◌, sym, ap, refl, subst, Ok, map, ℕ, ℤ, false, true, [], w64, arith, rules, length, get_or, ◌<◌, ◌+◌, List}
 use Rattle.std.proofs.lemmas.Int.{to_z-of_z}
 use Rattle.std.proofs.lemmas.Result.{err_from_is_err_and}
 use Rattle.dr_timeline.specs.declared.chunk.Chunk.{Chunk}
 use Rattle.dr_timeline.specs.State.{State}
 use Rattle.dr_timeline.specs.Steps.{sealed_at, open_in}
-use Rattle.dr_timeline.specs.Held.{chunk_at, has_open, at_start, with_open_sealed}
-use Rattle.dr_timeline.proofs.Places.{at_start-here, chunk_at-here}
-use Rattle.dr_timeline.proofs.Keeping.{rising-starts, keeps-sealed, state-sealed, open-new, open-empty, open-there}
+use Rattle.dr_timeline.specs.Held.{cut_of, ranges_of, chunk_at, has_open, at_start, with_open_sealed}
+use Rattle.dr_timeline.proofs.Places.{at_start-here, chunk_at-new, chunk_at-here, get_or-same}
+use Rattle.dr_timeline.proofs.Changes.{sealed_in-cuts}
+use Rattle.dr_timeline.proofs.Keeping.{keeps-sealed, state-sealed, open-new, open-empty, open-there, rising-starts}
+use Rattle.dr_timeline.proofs.Placing.{seal-ok, seal-none}
 use Rattle.dr_timeline.proofs.timeline.Timeline.seal.Goals as goal
 
 pub place_of-requires : goal.place_of-requires
@@ -86,3 +88,12 @@ returns-clause-nothing c =
     chunk_at-here t.spec t.chunks c.args.chunk c.in-At.i c.index-as_slice-i.result place.0 place.1 place.2 ∙ ap (λ (cs : List Chunk). get_or cs c.in-At.i c.index-as_slice-i.result) (sym c.as_slice.ensures) ∙ sym c.index-as_slice-i.is in
     let some = open-there t.spec t.stream.items t.chunks c.args.chunk (t.seals + t.commits) t.commits t.unparseable t.thrown_away k.starts k.each (ap has_open here ∙ sym c.has_open.ensures ∙ c.if-not-has_open.false) in
     (λ h. cc, λ h. absurd (some (ap (λ (s : State). open_in s c.args.chunk) c.self.view_is ∙ h)))
+
+pub returns-in_default-clause-step : goal.returns-in_default-clause-step
+returns-in_default-clause-step c = λ _. seal-none c.args.self.now c.args.chunk ((returns-in_default-clause-nothing c).0 refl)
+
+pub returns-then-not-has_open-clause-step : goal.returns-then-not-has_open-clause-step
+returns-then-not-has_open-clause-step c = λ _. seal-none c.args.self.now c.args.chunk ((returns-then-not-has_open-clause-nothing c).0 refl)
+
+pub returns-clause-step : goal.returns-clause-step
+returns-clause-step c = seal-ok c.args.self.now c.args.chunk (λ h. let bad = (returns-clause-nothing c).1 h in cc) ∙ ap Ok (sym (returns-clause-ok c))
