@@ -159,7 +159,7 @@ fn cut(
     planned: usize,
     committed: usize,
 ) -> Result<(), Fail> {
-    if (seals >> place) & 1 == 1 {
+    if seals.checked_shr(place as u32).unwrap_or(0) & 1 == 1 {
         steps.seal()?;
     }
     if planned == place {
