@@ -1,7 +1,5 @@
-use Rattle.std.proofs.Common.{◌≡◌, ◌∙◌, sym, ap, subst, Bool, true, false, List}
+use Rattle.std.proofs.Common.{◌∙◌, sym, ap, Bool, true, false}
 use Rattle.std.specs.Bool.{OnTrue}
-use Rattle.dr_base.specs.declared.row.Row.{Row}
-use Rattle.dr_agg.specs.declared.kind.Kind.{Kind}
 use Rattle.dr_agg.specs.Rollup.{AllFit}
 use Rattle.dr_agg.specs.Combination.{FitsColumns}
 use Rattle.dr_rollup.specs.OpenRows.{OpenRows}
