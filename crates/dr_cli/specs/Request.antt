@@ -1,5 +1,5 @@
 -- What a line of a script asks for: words with one space between them, where a query or an event is the rest of the line.
-use Rattle.std.specs.Prelude.{ℕ, ◌^◌, nat_lt, ◌==◌, bytes_eq, List, [], ◌∷◌, Option, Some, None, Result, Ok, Err, codes, if◌then◌else◌}
+use Rattle.std.specs.Prelude.{ℕ, ◌^◌, nat_lt, nat_eq, ◌==◌, bytes_eq, List, [], ◌∷◌, length, Option, Some, None, Result, Ok, Err, codes, if◌then◌else◌}
 use Rattle.dr_base.specs.Reading.{◌>>=◌}
 use Rattle.dr_events.specs.WholeNumber.{digits_number}
 use Rattle.dr_cli.specs.declared.cli_error.CliError.{CliError}
@@ -17,16 +17,23 @@ abbrev pub split_word : List ℕ → List ℕ × Option (List ℕ)
 split_word [] = ([], None)
 split_word (b ∷ bs) = if b == 32 then ([], Some bs) else (b ∷ (split_word bs).0, (split_word bs).1)
 
--- a word and what is behind it, where there is a space
+-- a word of a command has a byte
+abbrev pub some_word : List ℕ → Result (List ℕ) CliError
+some_word word = if nat_eq (length word) 0 then Err BadCommand else Ok word
+
+-- a word and what is behind the space that ends it
 abbrev pub two_parts_of : List ℕ × Option (List ℕ) → Result (List ℕ × List ℕ) CliError
-two_parts_of (word, rest) = or_bad_command rest >>= λ text. Ok (word, text)
+two_parts_of (word, None) = Err BadCommand
+two_parts_of (word, Some rest) = do
+  w ← some_word word
+  Ok (w, rest)
 
 abbrev pub two_parts : List ℕ → Result (List ℕ × List ℕ) CliError
 two_parts text = two_parts_of (split_word text)
 
 -- a word behind which nothing is
 abbrev pub one_word_of : List ℕ × Option (List ℕ) → Result (List ℕ) CliError
-one_word_of (word, None) = Ok word
+one_word_of (word, None) = some_word word
 one_word_of (word, Some rest) = Err BadCommand
 
 abbrev pub one_word : List ℕ → Result (List ℕ) CliError

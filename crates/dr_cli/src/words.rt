@@ -3,7 +3,7 @@ ghost use Rattle.dr_time.specs.Instant.{IsInstant};
 ghost use Rattle.dr_cli.specs.Commands.{instant_in};
 ghost use Rattle.std.specs.List.{list_all};
 ghost use Rattle.std.specs.Char.{is_ascii_digit};
-ghost use Rattle.dr_cli.specs.Request.{number_in, one_word, split_word, two_parts};
+ghost use Rattle.dr_cli.specs.Request.{number_in, one_word, some_word, split_word, two_parts};
 ghost use Rattle.dr_cli.specs.Usage.{Gives};
 
 use crate::cli_error::CliError;
@@ -21,24 +21,35 @@ pub fn split_word(text: &[u8]) -> (&[u8], Option<&[u8]>)
     }
 }
 
-/// A word and what is behind the space that ends it. Refusals: 101 `BadCommand` where there is no space.
+/// A word and what is behind the space that ends it. Refusals: 101 `BadCommand` where there is no space, or no byte
+/// before it.
 pub fn two_parts(text: &[u8]) -> Result<(&[u8], &[u8]), CliError>
     ensures { Gives (λ parts. (parts.0.now, parts.1.now)) result (two_parts text.now) }
 {
     match split_word(text) {
-        (word, Some(rest)) => Ok((word, rest)),
+        (word, Some(rest)) => Ok((some_word(word)?, rest)),
         (_, None) => Err(CliError::BadCommand),
     }
 }
 
-/// A text that is one word. Refusals: 101 `BadCommand` where it has a space.
+/// A text that is one word. Refusals: 101 `BadCommand` where it is empty or has a space.
 pub fn one_word(text: &[u8]) -> Result<&[u8], CliError>
     ensures { Gives (λ word. word.now) result (one_word text.now) }
 {
     match split_word(text) {
-        (word, None) => Ok(word),
+        (word, None) => some_word(word),
         (_, Some(_)) => Err(CliError::BadCommand),
     }
+}
+
+// A word that isn't empty.
+fn some_word(word: &[u8]) -> Result<&[u8], CliError>
+    ensures { Gives (λ word. word.now) result (some_word word.now) }
+{
+    if word.is_empty() {
+        return Err(CliError::BadCommand);
+    }
+    Ok(word)
 }
 
 /// The number that decimal digits spell, leading zeros allowed. Refusals: 101 `BadCommand` where the word has no digit or
