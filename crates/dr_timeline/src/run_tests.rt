@@ -23,6 +23,9 @@ const EVENTS: [&str; 5] = [
     r#"{"t":"2024-01-01T00:10:00Z","page":"A","a":100}"#,
 ];
 
+/// The bits of the events in a choice of seals.
+const BITS: [usize; 5] = [1, 2, 4, 8, 16];
+
 /// The sum of the added, whatever the rows.
 const ADDED: &str =
     r#"{"queryType":"timeseries","dataSource":"w","intervals":["2024-01-01/2024-01-02"],"granularity":"all","aggregations":[{"type":"longSum","name":"added","fieldName":"added"}]}"#;
@@ -152,6 +155,13 @@ fn five_events(
     Ok(steps)
 }
 
+fn is_sealed(seals: usize, place: usize) -> bool {
+    match BITS.get(place) {
+        Some(bit) => seals & *bit != 0,
+        None => false,
+    }
+}
+
 fn cut(
     steps: &mut Steps,
     place: usize,
@@ -159,7 +169,7 @@ fn cut(
     planned: usize,
     committed: usize,
 ) -> Result<(), Fail> {
-    if seals.checked_shr(place as u32).unwrap_or(0) & 1 == 1 {
+    if is_sealed(seals, place) {
         steps.seal()?;
     }
     if planned == place {
