@@ -4,3 +4,5 @@ pub mod LineSteps
 pub mod WrittenLemmas
 pub mod UsageLemmas
 pub mod ScriptSteps
+pub mod WordLemmas
+pub mod SessionLemmas

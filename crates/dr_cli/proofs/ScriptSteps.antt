@@ -9,8 +9,9 @@ use Rattle.dr_cli.specs.declared.cli_error.CliError.TheVariants.{NoMemory, ReadF
 use Rattle.dr_cli.specs.declared.reply.Reply.{Reply}
 use Rattle.dr_cli.specs.declared.reply.Reply.TheVariants.{Fault}
 use Rattle.dr_cli.specs.Lines.{IsFirstLine, TakesLine, lines_of}
-use Rattle.dr_timeline.specs.State.{State}
-use Rattle.dr_cli.specs.Script.{Answered, answered, answers, answers_from, any_refused, first_step, refused_by, script, status_of, step, text_of}
+use Rattle.dr_timeline.specs.Run.{CoreState}
+use Rattle.dr_cli.specs.Commands.{Answered, answered, refused_by}
+use Rattle.dr_cli.specs.Script.{answers, answers_from, any_refused, first_step, script, status_of, step, text_of}
 use Rattle.std.specs.Fmt.{digits}
 use Rattle.dr_cli.specs.Replies.{AnsweredAll, Answering, HasFault, OpensScript, HasLine, IsScript, IsWhole, Leaves, Moves, Opens, RunsScript, seen}
 use Rattle.dr_cli.specs.Written.{Writes, Puts}
@@ -56,12 +57,12 @@ Writes-again old mid new bytes kept rest first second =
 
 -- ---- answers
 
-begins_with : (left : Option (List ℕ)) (s : State) → Leaves left left (answers s) [] s
+begins_with : (left : Option (List ℕ)) (s : CoreState) → Leaves left left (answers s) [] s
 begins_with None s = tt
 begins_with (Some xs) s = refl
 
 -- nothing was answered yet
-pub begins : (left : Option (List ℕ)) (s : State) (old : Option (List ℕ)) (bytes : List ℕ) → Answering left left (answers s) s old old bytes bytes false
+pub begins : (left : Option (List ℕ)) (s : CoreState) (old : Option (List ℕ)) (bytes : List ℕ) → Answering left left (answers s) s old old bytes bytes false
 begins left s old bytes = record {
   made = [];
   written = rw append-nil (Writes-none old bytes);
@@ -70,7 +71,7 @@ begins left s old bytes = record {
 }
 
 -- what was kept is written, or some of it
-pub flushes : (left rest : Option (List ℕ)) (whole : List (List ℕ) → List Answered) (s : State) (old mid new : Option (List ℕ)) (bytes kept more : List ℕ) (refuses : Bool)
+pub flushes : (left rest : Option (List ℕ)) (whole : List (List ℕ) → List Answered) (s : CoreState) (old mid new : Option (List ℕ)) (bytes kept more : List ℕ) (refuses : Bool)
     → Answering left rest whole s old mid bytes kept refuses → Writes mid new kept more → Answering left rest whole s old new bytes more refuses
 flushes left rest whole s old mid new bytes kept more refuses at written = record {
   made = at.made;
@@ -79,7 +80,7 @@ flushes left rest whole s old mid new bytes kept more refuses at written = recor
   goes_on = at.goes_on;
 }
 
-leaves_more : (left rest more : Option (List ℕ)) (whole : List (List ℕ) → List Answered) (made : List Answered) (s new : State) (line : List ℕ) (a : Answered)
+leaves_more : (left rest more : Option (List ℕ)) (whole : List (List ℕ) → List Answered) (made : List Answered) (s new : CoreState) (line : List ℕ) (a : Answered)
     → Leaves left rest whole made s → TakesLine rest more line → a ≡ (step s line).0 → new ≡ (step s line).1 → Leaves left more whole (made ++ a ∷ []) new
 leaves_more None rest more whole made s new line a so_far takes is after = tt
 leaves_more (Some xs) None more whole made s new line a so_far takes is after = absurd so_far
@@ -88,14 +89,14 @@ leaves_more (Some xs) (Some ys) (Some zs) whole made s new line a so_far takes i
     let next : answers s (lines_of ys) ≡ a ∷ answers new (lines_of zs) = ap (answers s) takes.lines ∙ rw (is, after) refl in
     so_far ∙ ap (λ l. made ++ l) next ∙ sym (append_assoc made (a ∷ []) (answers new (lines_of zs)))
 
-goes_on_by : (left rest more : Option (List ℕ)) (whole : List (List ℕ) → List Answered) (made : List Answered) (s new : State) (line : List ℕ) (a : Answered)
+goes_on_by : (left rest more : Option (List ℕ)) (whole : List (List ℕ) → List Answered) (made : List Answered) (s new : CoreState) (line : List ℕ) (a : Answered)
     → Leaves left rest whole made s ⊎ HasFault made → TakesLine rest more line → Moves s line a new → Leaves left more whole (made ++ a ∷ []) new ⊎ HasFault (made ++ a ∷ [])
 goes_on_by left rest more whole made s new line a (inr fault) takes moves = inr (HasFault-more made a fault)
 goes_on_by left rest more whole made s new line a (inl leaves) takes (inl is) = inl (leaves_more left rest more whole made s new line a leaves takes is.0 is.1)
 goes_on_by left rest more whole made s new line a (inl leaves) takes (inr memory) = inr (HasFault-last made a (inl memory.0))
 
 -- one more line is answered
-pub answers_line : (left rest more : Option (List ℕ)) (whole : List (List ℕ) → List Answered) (s after : State) (old mid new : Option (List ℕ)) (bytes kept next : List ℕ)
+pub answers_line : (left rest more : Option (List ℕ)) (whole : List (List ℕ) → List Answered) (s after : CoreState) (old mid new : Option (List ℕ)) (bytes kept next : List ℕ)
     (refuses : Bool) (line : List ℕ) (a : Answered) → Answering left rest whole s old mid bytes kept refuses → TakesLine rest more line → Moves s line a after
     → Writes mid new ((kept ++ a.line) ++ 10 ∷ []) next → Answering left more whole after old new bytes next (refuses || a.is_refused)
 answers_line left rest more whole s after old mid new bytes kept next refuses line a at takes moves written = record {
@@ -105,18 +106,18 @@ answers_line left rest more whole s after old mid new bytes kept next refuses li
   goes_on = goes_on_by left rest more whole at.made s after line a at.goes_on takes moves;
 }
 
-ends_whole : (left rest : Option (List ℕ)) (whole : List (List ℕ) → List Answered) (made : List Answered) (s : State) → Leaves left rest whole made s → IsAtEnd rest → IsWhole left whole made
+ends_whole : (left rest : Option (List ℕ)) (whole : List (List ℕ) → List Answered) (made : List Answered) (s : CoreState) → Leaves left rest whole made s → IsAtEnd rest → IsWhole left whole made
 ends_whole None rest whole made s leaves end = tt
 ends_whole (Some xs) None whole made s leaves end = absurd leaves
 ends_whole (Some xs) (Some ys) whole made s leaves end = sym (leaves ∙ ap (λ bs. made ++ answers s (lines_of bs)) end ∙ append-nil made)
 
-ends_by : (left rest : Option (List ℕ)) (whole : List (List ℕ) → List Answered) (made : List Answered) (s : State) → Leaves left rest whole made s ⊎ HasFault made → IsAtEnd rest
+ends_by : (left rest : Option (List ℕ)) (whole : List (List ℕ) → List Answered) (made : List Answered) (s : CoreState) → Leaves left rest whole made s ⊎ HasFault made → IsAtEnd rest
     → IsWhole left whole made ⊎ HasFault made
 ends_by left rest whole made s (inr fault) end = inr fault
 ends_by left rest whole made s (inl leaves) end = inl (ends_whole left rest whole made s leaves end)
 
 -- no line is left
-pub ends : (left rest : Option (List ℕ)) (whole : List (List ℕ) → List Answered) (s : State) (old mid new : Option (List ℕ)) (bytes kept : List ℕ) (refuses : Bool)
+pub ends : (left rest : Option (List ℕ)) (whole : List (List ℕ) → List Answered) (s : CoreState) (old mid new : Option (List ℕ)) (bytes kept : List ℕ) (refuses : Bool)
     → Answering left rest whole s old mid bytes kept refuses → IsAtEnd rest → Writes mid new kept [] → AnsweredAll left whole old new bytes refuses
 ends left rest whole s old mid new bytes kept refuses at end written = record {
   made = at.made;
@@ -130,7 +131,7 @@ or_true true = refl
 or_true false = refl
 
 -- a read failed
-pub fails : (left rest : Option (List ℕ)) (whole : List (List ℕ) → List Answered) (s : State) (old mid new last : Option (List ℕ)) (bytes kept next : List ℕ) (refuses : Bool)
+pub fails : (left rest : Option (List ℕ)) (whole : List (List ℕ) → List Answered) (s : CoreState) (old mid new last : Option (List ℕ)) (bytes kept next : List ℕ) (refuses : Bool)
     → Answering left rest whole s old mid bytes kept refuses → Writes mid new ((kept ++ (refused_by ReadFault).line) ++ 10 ∷ []) next → Writes new last next []
     → AnsweredAll left whole old last bytes true
 fails left rest whole s old mid new last bytes kept next refuses at told written = record {
@@ -163,7 +164,7 @@ refuses left rest reply old mid new bytes kept opens told written = record {
   whole_script = refuses_by left rest reply opens;
 }
 
-opening : (left rest : Option (List ℕ)) (line : List ℕ) (s : State) (made : List Answered) → TakesLine left rest line → first_step line ≡ Ok s
+opening : (left rest : Option (List ℕ)) (line : List ℕ) (s : CoreState) (made : List Answered) → TakesLine left rest line → first_step line ≡ Ok s
     → IsWhole rest (answers s) made ⊎ HasFault made → IsWhole left script (answered (codes "spec ok") ∷ made) ⊎ HasFault (answered (codes "spec ok") ∷ made)
 opening None rest line s made takes opens whole = inl tt
 opening (Some xs) None line s made takes opens whole = absurd takes
@@ -181,7 +182,7 @@ first_part : (bytes line end text : List ℕ) → ((bytes ++ line) ++ end) ++ te
 first_part bytes line end text = simp append_assoc
 
 -- the first line opens the script, and the others are answered
-pub opened_all : (left rest : Option (List ℕ)) (line : List ℕ) (s : State) (old mid new : Option (List ℕ)) (bytes kept : List ℕ) (is_refused : Bool) → TakesLine left rest line
+pub opened_all : (left rest : Option (List ℕ)) (line : List ℕ) (s : CoreState) (old mid new : Option (List ℕ)) (bytes kept : List ℕ) (is_refused : Bool) → TakesLine left rest line
     → first_step line ≡ Ok s → Writes old mid ((bytes ++ codes "spec ok") ++ 10 ∷ []) kept → AnsweredAll rest (answers s) mid new kept is_refused
     → AnsweredAll left script old new bytes is_refused
 opened_all left rest line s old mid new bytes kept is_refused takes opens told others = record {
@@ -244,7 +245,7 @@ runs (Some bytes) old new is_refused all =
     let whole : all.written.0 ≡ text_of all.made = sym (all.written.2 ∙ append-nil all.written.0) in
     (text_of all.made, subst (Appends old new) whole all.written.1, says bytes all.made is_refused all.refused all.whole_script)
 
-pub opened_then : (left rest : Option (List ℕ)) (s : State) (old mid new : Option (List ℕ)) (bytes kept : List ℕ) (result : Result Bool CliError) → OpensScript left rest (Some (Ok s))
+pub opened_then : (left rest : Option (List ℕ)) (s : CoreState) (old mid new : Option (List ℕ)) (bytes kept : List ℕ) (result : Result Bool CliError) → OpensScript left rest (Some (Ok s))
     → Writes old mid ((bytes ++ codes "spec ok") ++ 10 ∷ []) kept → IfOk result (AnsweredAll rest (answers s) mid new kept) → IfOk result (AnsweredAll left script old new bytes)
 opened_then left rest s old mid new bytes kept (Ok is_refused) (inl opens) told others = opened_all left rest opens.0 s old mid new bytes kept is_refused opens.1 opens.2 told others
 opened_then left rest s old mid new bytes kept (Ok is_refused) (inr failed) told others = let bad : ⊥ = cc in absurd bad

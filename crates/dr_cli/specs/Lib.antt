@@ -4,5 +4,8 @@ pub mod Lines
 pub mod Parts
 pub mod Written
 pub mod Usage
+pub mod Request
+pub mod Seen
+pub mod Commands
 pub mod Script
 pub mod Replies

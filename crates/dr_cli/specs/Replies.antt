@@ -4,16 +4,22 @@ use Rattle.std.specs.Io.KnownBytes.{Appends, IsAtEnd}
 use Rattle.dr_cli.specs.declared.cli_error.CliError.{CliError}
 use Rattle.dr_cli.specs.declared.cli_error.CliError.TheVariants.{NoMemory, ReadFault}
 use Rattle.dr_cli.specs.declared.reply.Reply.{Reply}
-use Rattle.dr_cli.specs.declared.reply.Reply.TheVariants.{SpecOk, Accepted, Said, Refused, Fault}
+use Rattle.dr_cli.specs.declared.reply.Reply.TheVariants.{SpecOk, Accepted, Sealed, Merged, Job, Committed, Pinned, Said, Refused, Fault}
 use Rattle.dr_cli.specs.Lines.{lines_of, TakesLine}
 use Rattle.dr_cli.specs.Written.{Puts, Writes}
-use Rattle.dr_timeline.specs.State.{State}
-use Rattle.dr_cli.specs.Script.{Answered, answered, answers, any_refused, first_step, refused_by, script, status_of, step, text_of}
+use Rattle.dr_timeline.specs.Run.{CoreState}
+use Rattle.dr_cli.specs.Commands.{Answered, answered, refused_by}
+use Rattle.dr_cli.specs.Script.{answers, any_refused, first_step, script, status_of, step, text_of}
 
 -- what a reply writes, and whether it refuses the line
 abbrev pub seen : Reply → Answered
 seen SpecOk = answered (codes "spec ok")
 seen (Accepted number) = answered (codes "accepted " ++ decimal number)
+seen Sealed = answered (codes "sealed")
+seen Merged = answered (codes "merged")
+seen (Job number) = answered (codes "job " ++ decimal number)
+seen Committed = answered (codes "committed")
+seen (Pinned number) = answered (codes "pin " ++ decimal number)
 seen (Said line) = answered line.items
 seen (Refused line) = record { line = line.items; is_refused = true }
 seen (Fault e) = refused_by e
@@ -23,25 +29,25 @@ abbrev pub IsAnswer : Answered → Answered → Type 0
 IsAnswer answer reply = (reply ≡ answer) ⊎ (reply ≡ refused_by NoMemory)
 
 -- that is answered, with that state after it, or want of memory, which changes nothing
-abbrev pub MovesBy : Answered × State → State → Answered → State → Type 0
+abbrev pub MovesBy : Answered × CoreState → CoreState → Answered → CoreState → Type 0
 MovesBy answer old reply new = ((reply ≡ answer.0) × (new ≡ answer.1)) ⊎ ((reply ≡ refused_by NoMemory) × (new ≡ old))
 
 -- a line is answered as the script says
-abbrev pub Moves : State → List ℕ → Answered → State → Type 0
+abbrev pub Moves : CoreState → List ℕ → Answered → CoreState → Type 0
 Moves old line reply new = MovesBy (step old line) old reply new
 
 -- the first line opens the script as it says, or there is no memory
-abbrev pub Opens : List ℕ → Result State Reply → Type 0
+abbrev pub Opens : List ℕ → Result CoreState Reply → Type 0
 Opens line (Ok s) = first_step line ≡ Ok s
 Opens line (Err reply) = (first_step line ≡ Err (seen reply)) ⊎ (seen reply ≡ refused_by NoMemory)
 
 -- the first line opens the script, or there is none, or a read failed
-abbrev pub OpensScript : Option (List ℕ) → Option (List ℕ) → Option (Result State Reply) → Type 0
+abbrev pub OpensScript : Option (List ℕ) → Option (List ℕ) → Option (Result CoreState Reply) → Type 0
 OpensScript left rest None = IsAtEnd left
 OpensScript left rest (Some opened) = ((line : List ℕ) × TakesLine left rest line × Opens line opened) ⊎ (opened ≡ Err (Fault ReadFault))
 
 -- a line is answered, or there is none, or a read failed, which changes nothing
-abbrev pub Turns : Option (List ℕ) → Option (List ℕ) → State → State → Option (Result Reply CliError) → Type 0
+abbrev pub Turns : Option (List ℕ) → Option (List ℕ) → CoreState → CoreState → Option (Result Reply CliError) → Type 0
 Turns left rest old new None = IsAtEnd left × (new ≡ old)
 Turns left rest old new (Some (Ok reply)) = (line : List ℕ) × TakesLine left rest line × Moves old line (seen reply) new
 Turns left rest old new (Some (Err e)) = (e ≡ ReadFault) × (new ≡ old)
@@ -55,7 +61,7 @@ pub record HasFault (made : List Answered) : Type 0 where
   pub kind : (fault ≡ refused_by NoMemory) ⊎ (fault ≡ refused_by ReadFault)
 
 -- what the script answers to what was left is what was made, and what it answers from this state to what is left
-abbrev pub Leaves : Option (List ℕ) → Option (List ℕ) → (List (List ℕ) → List Answered) → List Answered → State → Type 0
+abbrev pub Leaves : Option (List ℕ) → Option (List ℕ) → (List (List ℕ) → List Answered) → List Answered → CoreState → Type 0
 Leaves None rest whole made s = ⊤
 Leaves (Some xs) None whole made s = ⊥
 Leaves (Some xs) (Some ys) whole made s = whole (lines_of xs) ≡ made ++ answers s (lines_of ys)
@@ -66,7 +72,7 @@ IsWhole None whole made = ⊤
 IsWhole (Some xs) whole made = made ≡ whole (lines_of xs)
 
 -- lines are being answered: what was made so far is written or kept, and the script goes on so, unless an answer tells want of memory or a failed read
-pub record Answering (left rest : Option (List ℕ)) (whole : List (List ℕ) → List Answered) (s : State) (old new : Option (List ℕ)) (bytes kept : List ℕ) (refuses : Bool) : Type 0 where
+pub record Answering (left rest : Option (List ℕ)) (whole : List (List ℕ) → List Answered) (s : CoreState) (old new : Option (List ℕ)) (bytes kept : List ℕ) (refuses : Bool) : Type 0 where
   pub made : List Answered
   pub written : Writes old new (bytes ++ text_of made) kept
   pub refused : refuses ≡ any_refused made

@@ -1,88 +1,72 @@
-ghost use Rattle.std.specs.Prelude.{◌≡◌, ◌≤◌, ◌++◌, length, Option, IfOk, OnOk, option_map, string_bytes};
+ghost use Rattle.std.specs.Prelude.{◌≡◌, ◌≤◌, ◌++◌, length, false, true, IfOk, OnErr, OnOk, option_map, string_bytes};
 ghost use Rattle.dr_base.specs.FaultLine.{arg_part};
-ghost use Rattle.dr_query.specs.MadeFor.{MadeFor};
-ghost use Rattle.dr_query.specs.AnswerRefusal.{Answers};
-ghost use Rattle.dr_query.specs.Answer.{answer};
-ghost use Rattle.dr_timeline.specs.Segments.{pinned, rows_of};
-ghost use Rattle.dr_cli.specs.Lines.{longest_line};
-ghost use Rattle.dr_cli.specs.Script.{answer_event, answer_query, event_in, open_line, refused, unparseable, unparseable_line};
-ghost use Rattle.dr_events.specs.Refusal.{arg_of};
+ghost use Rattle.dr_base.specs.Reading.{GivesUnless};
 ghost use Rattle.dr_base.specs.declared.fault.Arg.TheVariants.{Index};
-ghost use Rattle.dr_cli.specs.Replies.{IsAnswer, Moves, MovesBy, Opens, seen};
+ghost use Rattle.dr_events.specs.Refusal.{arg_of};
+ghost use Rattle.dr_cli.specs.declared.cli_error.CliError.TheVariants.{NoMemory};
+ghost use Rattle.dr_cli.specs.Commands.{is_memory, refused, refused_by, told, unparseable, unparseable_line};
+ghost use Rattle.dr_cli.specs.Lines.{longest_line};
+ghost use Rattle.dr_cli.specs.Replies.{IsAnswer, Moves, Opens, seen};
+ghost use Rattle.dr_cli.specs.Script.{line_done};
 
 use crate::cli_error::CliError;
 use crate::reply::Reply;
+use crate::requests::request_in;
+use crate::script_error::ScriptError;
+use crate::session::Session;
 use dr_base::{Arg, fault_line};
-use dr_events::{EventReader, Unparseable};
-use dr_query::{AnswerError, Query};
+use dr_events::Unparseable;
 use dr_spec::IngestSpec;
-use dr_timeline::Timeline;
 use std::alloc::{AllocError, Global};
 
-/// The seat whose mark the events of a script have.
-const SEAT: u8 = 0;
-
-/// The timeline that the first line of a script begins, or what is answered where the line is refused: the refusals of
+/// The session that the first line of a script begins, or what is answered where the line is refused: the refusals of
 /// [`IngestSpec::parse`].
-pub fn open_timeline(alloc: Global, line: &[u8]) -> Result<Timeline, Reply>
+pub fn open_session(alloc: Global, line: &[u8]) -> Result<Session, Reply>
     requires { length line.now ≤ longest_line }
     ensures { Opens line.now result }
 {
     match IngestSpec::parse(alloc, line) {
-        Ok(spec) => match Timeline::new(alloc, spec) {
-            Ok(timeline) => Ok(timeline),
+        Ok(spec) => match Session::new(alloc, spec) {
+            Ok(session) => Ok(session),
             Err(_) => Err(Reply::Fault(CliError::NoMemory)),
         },
         Err(error) => Err(refused(alloc, error.number(), error.name(), error.arg())),
     }
 }
 
-/// The reply to a later line: `+ EVENT` or `query JSON`.
-/// Refusals: 101 `BadCommand` for another line; 90 `StreamFull` for an event; those of [`Query::parse`] and 81
-/// `ResultTooLarge` for a query.
-pub fn answer_line(
-    alloc: Global,
-    events: &mut EventReader,
-    timeline: &mut Timeline,
-    line: &[u8],
-) -> Reply
+/// The reply to a later line, which is a command. Refusals: 101 `BadCommand` for a line that fits no command, or names no
+/// job or snapshot, and those of the command.
+pub fn answer_line(alloc: Global, session: &mut Session, line: &[u8]) -> Reply
     requires { length line.now ≤ longest_line }
-    ensures { Moves timeline.old line.now (seen result) timeline.new }
+    ensures { Moves session.old line.now (seen result) session.new }
 {
-    if let Some(event) = event_in(line) {
-        return answer_event(alloc, events, timeline, event);
-    }
-    match line.strip_prefix(b"query ") {
-        Some(query) => answer_query(alloc, timeline, query),
-        None => Reply::Fault(CliError::BadCommand),
+    match carry_out(alloc, session, line) {
+        Ok(reply) => reply,
+        Err(error) => told(alloc, error),
     }
 }
 
-// The text of the event that the line has: what follows `+ `, and nothing after a `+` alone.
-fn event_in(line: &[u8]) -> Option<&[u8]>
-    ensures { option_map (λ text. text.now) result ≡ event_in line.now }
+fn carry_out(alloc: Global, session: &mut Session, line: &[u8]) -> Result<Reply, ScriptError>
+    ensures step { GivesUnless is_memory (λ reply. (seen reply, session.new)) result (line_done session.old line.now) }
+    ensures err { OnErr result (session.new ≡ session.old) }
 {
-    if line == b"+".as_slice() {
-        return Some(b"");
-    }
-    line.strip_prefix(b"+ ")
+    let request = request_in(line)?;
+    session.carry_out(alloc, request)
 }
 
-fn answer_event(
-    alloc: Global,
-    events: &mut EventReader,
-    timeline: &mut Timeline,
-    text: &[u8],
-) -> Reply
-    ensures { MovesBy (answer_event timeline.old text.now) timeline.old (seen result) timeline.new }
+// What is written where a command changed nothing.
+fn told(alloc: Global, error: ScriptError) -> Reply
+    ensures told { IsAnswer (told error) (seen result) }
+    ensures memory { is_memory error ≡ true → seen result ≡ refused_by NoMemory }
 {
-    match events.read(alloc, timeline.spec(), SEAT, text) {
-        Ok(event) => match timeline.accept(event) {
-            Ok(number) => Reply::Accepted(number),
-            Err(error) => refused(alloc, error.number(), error.name(), None),
-        },
-        Err(Unparseable::NoMemory) => Reply::Fault(CliError::NoMemory),
-        Err(error) => told_unparseable(alloc, &error),
+    match error {
+        ScriptError::Cli(error) => Reply::Fault(error),
+        ScriptError::Event(Unparseable::NoMemory) => Reply::Fault(CliError::NoMemory),
+        ScriptError::Event(error) => told_unparseable(alloc, &error),
+        ScriptError::Time(error) => refused(alloc, error.number(), error.name(), None),
+        ScriptError::Timeline(error) => refused(alloc, error.number(), error.name(), None),
+        ScriptError::Query(error) => refused(alloc, error.number(), error.name(), error.arg()),
+        ScriptError::Answer(error) => refused(alloc, error.number(), error.name(), None),
     }
 }
 
@@ -128,25 +112,6 @@ fn push_place(alloc: Global, line: &mut String, place: Option<usize>) -> Result<
         }
         None => Ok(()),
     }
-}
-
-fn answer_query(alloc: Global, timeline: &Timeline, text: &[u8]) -> Reply
-    ensures { IsAnswer (answer_query timeline.now text.now) (seen result) }
-{
-    match Query::parse(alloc, text, timeline.spec().schema()) {
-        Ok(query) => match answer(timeline, &query) {
-            Ok(text) => Reply::Said(text),
-            Err(error) => refused(alloc, error.number(), error.name(), None),
-        },
-        Err(error) => refused(alloc, error.number(), error.name(), error.arg()),
-    }
-}
-
-fn answer(timeline: &Timeline, query: &Query) -> Result<Vec<u8>, AnswerError>
-    requires { MadeFor timeline.now.schema query.now }
-    ensures { Answers (λ text. text.items) result (answer query.now (rows_of (pinned timeline.now))) }
-{
-    timeline.pin()?.answer_one(query)
 }
 
 fn refused(alloc: Global, number: u16, name: &str, arg: Option<Arg>) -> Reply

@@ -1,7 +1,7 @@
 ghost use Rattle.std.specs.Prelude.{◌≡◌};
 ghost use Rattle.dr_cli.specs.declared.cli_error.CliError.TheVariants.{NoMemory};
 ghost use Rattle.dr_cli.specs.Refusal.{number_of, name_of};
-ghost use Rattle.dr_cli.specs.Script.{refused_by};
+ghost use Rattle.dr_cli.specs.Commands.{refused_by};
 
 use std::alloc::{AllocError, AllocFailed};
 use thiserror::Error;

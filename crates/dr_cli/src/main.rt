@@ -10,8 +10,13 @@ mod line_reader;
 mod line_writer;
 mod next_line;
 mod reply;
+mod request;
+mod requests;
 mod script;
+mod script_error;
+mod session;
 mod usage;
+mod words;
 
 use cli_error::CliError;
 use command::Command;

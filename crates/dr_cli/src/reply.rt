@@ -1,4 +1,4 @@
-ghost use Rattle.std.specs.Prelude.{◌≡◌, ◌++◌, ◌∷◌, [], IsOkUnless};
+ghost use Rattle.std.specs.Prelude.{◌≡◌, ◌++◌, ◌∷◌, [], IsOkUnless, decimal};
 ghost use Rattle.dr_cli.specs.Failures.{failures_of, inner_of, failures_after};
 ghost use Rattle.dr_cli.specs.Written.{Puts};
 ghost use Rattle.dr_cli.specs.Replies.{seen};
@@ -16,6 +16,16 @@ pub enum Reply {
     SpecOk,
     /// `accepted N`: the line is an event, which got that number, from 0.
     Accepted(u64),
+    /// `sealed`: the open range of a chunk was sealed.
+    Sealed,
+    /// `merged`: sealed ranges became one.
+    Merged,
+    /// `job N`: a job was planned, which got that number, from 0.
+    Job(usize),
+    /// `committed`: a job was committed.
+    Committed,
+    /// `pin N`: a snapshot was kept, which got that number, from 0.
+    Pinned(usize),
     /// That line, which refuses nothing.
     Said(Vec<u8>),
     /// The line of a refusal.
@@ -30,8 +40,8 @@ impl Reply {
         ensures { result ≡ (seen self.now).is_refused }
     {
         match self {
-            Reply::SpecOk | Reply::Accepted(_) | Reply::Said(_) => false,
             Reply::Refused(_) | Reply::Fault(_) => true,
+            _ => false,
         }
     }
 
@@ -49,12 +59,30 @@ impl Reply {
     {
         match self {
             Reply::SpecOk => lines.put_line(writer, b"spec ok"),
-            Reply::Accepted(number) => {
-                lines.put(writer, b"accepted ")?;
-                lines.put_line(writer, Buffer::new().format(number).as_bytes())
-            }
+            Reply::Accepted(number) => put_number(lines, writer, b"accepted ", number),
+            Reply::Sealed => lines.put_line(writer, b"sealed"),
+            Reply::Merged => lines.put_line(writer, b"merged"),
+            Reply::Job(number) => put_number(lines, writer, b"job ", number as u64),
+            Reply::Committed => lines.put_line(writer, b"committed"),
+            Reply::Pinned(number) => put_number(lines, writer, b"pin ", number as u64),
             Reply::Said(line) | Reply::Refused(line) => lines.put_line(writer, line.as_slice()),
             Reply::Fault(error) => lines.put_line(writer, error.line().as_bytes()),
         }
     }
+}
+
+// Writes a line of a word and a number in decimal.
+fn put_number<W: Write>(
+    lines: &mut LineWriter,
+    writer: &mut Counted<W>,
+    word: &[u8],
+    number: u64,
+) -> Result<(), CliError>
+    ensures bytes { Puts (W.contents (inner_of writer.old)) (W.contents (inner_of writer.new))
+        (lines.old ++ (word.now ++ decimal number) ++ 10 ∷ []) lines.new result }
+    ensures fault { IsOkUnless result CliError.WriteFault }
+    ensures failures { failures_of writer.new ≡ failures_after (failures_of writer.old) result }
+{
+    lines.put(writer, word)?;
+    lines.put_line(writer, Buffer::new().format(number).as_bytes())
 }

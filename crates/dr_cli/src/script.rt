@@ -5,28 +5,39 @@ ghost use Rattle.dr_cli.specs.Written.{Puts};
 ghost use Rattle.dr_cli.specs.Script.{answers, script};
 ghost use Rattle.dr_cli.specs.Replies.{AnsweredAll, OpensScript, RunsScript, Turns};
 
-use crate::answering::{answer_line, open_timeline};
+use crate::answering::{answer_line, open_session};
 use crate::cli_error::CliError;
 use crate::counted::Counted;
 use crate::line_reader::LineReader;
 use crate::line_writer::{LineWriter, write_out};
 use crate::next_line::NextLine;
 use crate::reply::Reply;
-use dr_events::EventReader;
-use dr_timeline::Timeline;
+use crate::session::Session;
 use std::alloc::{AllocError, Global};
 use std::io::{Read, Write};
 
 /// Runs a script: reads lines, and writes one line for each, which is flushed where no whole line waits to be read.
 /// The answer is the status: 0 where no line was refused, else 1.
 ///
-/// The first line is the ingestion spec, answered by `spec ok`; where it is refused, the run ends. Then `+ EVENT` is
-/// answered by `accepted N`, the event's number from 0, or by `unparseable NUMBER NAME [i]`, and `query JSON` by the text
-/// of its answer, on one thread whatever the number of workers (1 to 16) is. A line that is refused is answered by
-/// `refused NUMBER NAME [argument]`: 98 `LineTooLong` for a line over 1048576 bytes, which is skipped, 101 `BadCommand`
-/// for a line that fits no command, 0 `NoMemory` where memory ran out, with the timeline as it was, and the refusals of
-/// the spec, of accepting and of queries. A failed read, or 2^32 reads, is 99 `ReadFault` and ends the run with status 1,
-/// and so does a failed write (100), after which nothing more is written.
+/// The first line is the ingestion spec, answered by `spec ok`; where it is refused, the run ends. Each later line is a
+/// command, words with one space between them:
+///
+/// | Command | Answer |
+/// |---|---|
+/// | `+ EVENT` | `accepted N`, the event's number from 0, or `unparseable NUMBER NAME [i]` |
+/// | `seal INSTANT` | `sealed` |
+/// | `merge INSTANT LO HI` | `merged` |
+/// | `plan merge INSTANT LO HI` | `job N`, from 0 |
+/// | `commit N` | `committed` |
+/// | `pin` | `pin N`, from 0 |
+/// | `query JSON`, `at N JSON` | the text of the answer |
+/// | `audit JSON` | the text of the plain fold over the events |
+///
+/// INSTANT names the chunk in which it lies. Queries are answered on one thread whatever the number of workers (1 to 16)
+/// is. A line that is refused is answered by `refused NUMBER NAME [argument]` and changes nothing: 98 `LineTooLong` for a
+/// line over 1048576 bytes, which is skipped, 101 `BadCommand` for a line that fits no command, or names no job or
+/// snapshot, 0 `NoMemory` where memory ran out, and the refusals of the command. A failed read, or 2^32 reads, is 99
+/// `ReadFault` and ends the run with status 1, and so does a failed write (100), after which nothing more is written.
 ///
 /// Where no write failed, what is written is the script's text, and the answer is its status, unless a written line tells
 /// 0 `NoMemory` or 99 `ReadFault`.
@@ -104,9 +115,9 @@ fn run<R: Read, W: Write>(
             output.flush(writer)?;
             Ok(refuses)
         }
-        Some(Ok(mut timeline)) => {
+        Some(Ok(mut session)) => {
             Reply::SpecOk.put(output, writer)?;
-            answer_lines(alloc, &mut timeline, lines, output, reader, writer)
+            answer_lines(alloc, &mut session, lines, output, reader, writer)
         }
     }
 }
@@ -116,13 +127,13 @@ fn opened<R: Read>(
     alloc: Global,
     lines: &mut LineReader,
     reader: &mut Counted<R>,
-) -> Option<Result<Timeline, Reply>>
+) -> Option<Result<Session, Reply>>
     ensures opening { OpensScript (left_to_read lines.old (R.remaining (inner_of reader.old)))
         (left_to_read lines.new (R.remaining (inner_of reader.new))) result }
     ensures failed_read { (failures_of reader.new ≡ failures_of reader.old) ⊎ (result ≡ Some (Err (Reply.Fault CliError.ReadFault))) }
 {
     match lines.next_line(reader) {
-        NextLine::Line => Some(open_timeline(alloc, lines.line())),
+        NextLine::Line => Some(open_session(alloc, lines.line())),
         NextLine::TooLong => Some(Err(Reply::Fault(CliError::LineTooLong))),
         NextLine::End => None,
         NextLine::Failed => Some(Err(Reply::Fault(CliError::ReadFault))),
@@ -132,22 +143,21 @@ fn opened<R: Read>(
 // Answers the lines that are left.
 fn answer_lines<R: Read, W: Write>(
     alloc: Global,
-    timeline: &mut Timeline,
+    session: &mut Session,
     lines: &mut LineReader,
     output: &mut LineWriter,
     reader: &mut Counted<R>,
     writer: &mut Counted<W>,
 ) -> Result<bool, CliError>
-    ensures answers { IfOk result (AnsweredAll (left_to_read lines.old (R.remaining (inner_of reader.old))) (answers timeline.old)
+    ensures answers { IfOk result (AnsweredAll (left_to_read lines.old (R.remaining (inner_of reader.old))) (answers session.old)
         (W.contents (inner_of writer.old)) (W.contents (inner_of writer.new)) output.old) }
     ensures failed_read { IfOk result (λ refuses. (failures_of reader.new ≡ failures_of reader.old) ⊎ (refuses ≡ true)) }
     ensures failures { failures_of writer.new ≡ failures_after (failures_of writer.old) result }
 {
-    let mut events = EventReader::new(alloc);
     let mut is_refused = false;
     'lines: loop {
         flush_unless_line(lines, output, writer)?;
-        let reply = match next_reply(alloc, &mut events, timeline, lines, reader) {
+        let reply = match next_reply(alloc, session, lines, reader) {
             Some(Ok(reply)) => reply,
             Some(Err(fault)) => {
                 Reply::Fault(fault).put(output, writer)?;
@@ -182,18 +192,17 @@ fn flush_unless_line<W: Write>(
 // The reply to the next line, or none at the end of the input.
 fn next_reply<R: Read>(
     alloc: Global,
-    events: &mut EventReader,
-    timeline: &mut Timeline,
+    session: &mut Session,
     lines: &mut LineReader,
     reader: &mut Counted<R>,
 ) -> Option<Result<Reply, CliError>>
     ensures turn { Turns (left_to_read lines.old (R.remaining (inner_of reader.old)))
-        (left_to_read lines.new (R.remaining (inner_of reader.new))) timeline.old timeline.new result }
+        (left_to_read lines.new (R.remaining (inner_of reader.new))) session.old session.new result }
     ensures nearer { IfSome result (λ reply. OnOk reply (steps_left lines.new < steps_left lines.old)) }
     ensures failed_read { (failures_of reader.new ≡ failures_of reader.old) ⊎ (result ≡ Some (Err CliError.ReadFault)) }
 {
     match lines.next_line(reader) {
-        NextLine::Line => Some(Ok(answer_line(alloc, events, timeline, lines.line()))),
+        NextLine::Line => Some(Ok(answer_line(alloc, session, lines.line()))),
         NextLine::TooLong => Some(Ok(Reply::Fault(CliError::LineTooLong))),
         NextLine::End => None,
         NextLine::Failed => Some(Err(CliError::ReadFault)),

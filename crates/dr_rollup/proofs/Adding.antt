@@ -1,5 +1,5 @@
 -- What an event changes in an open index.
-use Rattle.std.proofs.Common.{◌≡◌, ◌∙◌, sym, refl, ap, subst, ℕ, zero, suc, ◌<◌, ◌≤◌, ℤ, true, false, List, [], ◌∷◌, ◌++◌, map, length, slice_get, Some, arith, bytes_eq}
+use Rattle.std.proofs.Common.{◌≡◌, ◌∙◌, sym, refl, ap, subst, ℕ, zero, suc, ◌<◌, ◌≤◌, ℤ, true, false, List, [], ◌∷◌, ◌++◌, map, length, slice_get, slice_set, Some, arith, bytes_eq}
 use Rattle.std.proofs.lemmas.List.{map-append, length-map}
 use Rattle.std.specs.List.{AllByRecursion, IsDistinct}
 use Rattle.dr_base.specs.declared.event.Event.{Event}
@@ -8,8 +8,9 @@ use Rattle.dr_gran.specs.Step.{is_all}
 use Rattle.dr_gran.specs.Truncation.{truncation}
 use Rattle.dr_dict.proofs.Texts.{distinct-nil}
 use Rattle.dr_agg.specs.declared.kind.Kind.{Kind}
-use Rattle.dr_agg.specs.Rollup.{add_row, rollup, rollup_onto}
-use Rattle.dr_agg.proofs.RollupLaws.{rollup_onto_push}
+use Rattle.dr_agg.specs.Rollup.{add_row, rollup, rollup_onto, AllFit}
+use Rattle.dr_agg.specs.Combination.{combine_columns, FitsColumns}
+use Rattle.dr_agg.proofs.RollupLaws.{rollup_onto_push, AllFit-rollup_onto}
 use Rattle.dr_spec.specs.declared.schema.Schema.{Schema}
 use Rattle.dr_spec.specs.Columns.{kinds_of}
 use Rattle.dr_dict.specs.Dictionary.{Dictionary}
@@ -20,7 +21,7 @@ use Rattle.dr_rollup.specs.Coding.{Entry, entries_of, is_combined, numbers_of, w
 use Rattle.dr_rollup.specs.Sound.{IsSound, Holds, rows_of}
 use Rattle.dr_rollup.proofs.Contributing.{length-contributions}
 use Rattle.dr_rollup.proofs.Rows.{rows-counted}
-use Rattle.dr_rollup.proofs.Growing.{sound-combined, rows-combined, sound-added, rows-added, count-added}
+use Rattle.dr_rollup.proofs.Growing.{length_set, sound-combined, rows-combined, sound-added, rows-added, count-added}
 
 member : {X : Type 0} (xs : List X) (i : ℕ) → i < length xs → (x : X) × (slice_get xs i ≡ Some x)
 member [] i lt = absurd (omega arith)
@@ -43,9 +44,20 @@ module _ (s : Schema) (ks : List Kind) (limit : ℕ) (ds : List Dictionary) (c :
   pub entries-counted : length (rows_of s ds (entries_of en)) ≡ length (entries_of en)
   entries-counted = rows-counted s.rollup (kinds_of s) (map (row_of ds) (entries_of en)) h.sound.apart ∙ length-map (entries_of en) (row_of ds)
 
+  -- a value for each column in each row
+  pub fits-rows : AllFit ks (rows_of s ds (entries_of en))
+  fits-rows = subst (λ l. AllFit ks (rollup s.rollup l (map (row_of ds) (entries_of en)))) h.columns (AllFit-rollup_onto s.rollup ks [] (map (row_of ds) (entries_of en)) tt (by (entries_of en) h.sound.fits))
+    where
+      by : (es : List Entry) → AllByRecursion (λ x. FitsColumns ks x.1) es → AllFit ks (map (row_of ds) es)
+      by [] all = tt
+      by (x ∷ es) all = (all.0, by es all.1)
+
+  pub fits-event : (e : Event) → FitsColumns ks (unrolled s e).metrics
+  fits-event e = subst (λ l. FitsColumns ks (contributions l e.inputs)) h.columns (length-contributions ks e.inputs)
+
   -- with another key that was coded last
   pub coded-again : (d : Coded) → length d.numbers.items ≡ length ds → Holds s ks limit ds d en
-  coded-again d count = record { columns = h.columns; kind = h.kind; combines = h.combines; count = h.count; coded_count = count; sound = h.sound }
+  coded-again d count = record { columns = h.columns; kind = h.kind; small = h.small; combines = h.combines; count = h.count; coded_count = count; sound = h.sound }
 
   -- and with what stands for the same entries
   pub as-before : (d : Coded) → length d.numbers.items ≡ length ds → (more : List Dictionary) (next : Entries) → more ≡ ds → entries_of next ≡ entries_of en → is_combined next ≡ is_combined en → Holds s ks limit more d next
@@ -53,6 +65,7 @@ module _ (s : Schema) (ks : List Kind) (limit : ℕ) (ds : List Dictionary) (c :
       record {
         columns = h.columns;
         kind = h.kind;
+        small = h.small;
         combines = still ∙ h.combines;
         count = ap length is_more ∙ h.count;
         coded_count = count ∙ sym (ap length is_more);
@@ -66,6 +79,27 @@ module _ (s : Schema) (ks : List Kind) (limit : ℕ) (ds : List Dictionary) (c :
     is_unrolled : event_row (contributions ks e.inputs) ≡ unrolled s e
     is_unrolled = λ i. record { key = record { time = is_time i; dims = e.dims }; metrics = contributions (h.columns i) e.inputs }
 
+    -- as many rows as before where the key is there
+    pub found-count : (i : ℕ) → is_combined en ≡ true → i < length (entries_of en) → ((x : Entry) → slice_get (entries_of en) i ≡ Some x → (row_of ds x).key ≡ record { time = time; dims = e.dims })
+        → length (add_row s.rollup (kinds_of s) (rows_of s ds (entries_of en)) (unrolled s e)) ≡ length (entries_of en)
+    found-count i combined lt same =
+        let x = member (entries_of en) i lt in
+        let m : List ℤ = contributions ks e.inputs in
+        let on : s.rollup ≡ true = sym h.combines ∙ combined in
+        let entry : Entry = (x.0.0, combine_columns ks x.0.1 m) in
+        let sound = sound-combined ks limit s.rollup ds (entries_of en) i x.0 m h.sound x.1 in
+        let rows : length (add_row true ks (rollup true ks (map (row_of ds) (entries_of en))) (event_row m)) ≡ length (entries_of en) =
+        ap (λ k. length (add_row true ks (rollup true ks (map (row_of ds) (entries_of en))) (record { key = k; metrics = m }))) (sym (same x.0 x.1))
+        ∙ ap length (sym (rows-combined ks limit s.rollup ds (entries_of en) i x.0 m h.sound x.1))
+        ∙ rows-counted true ks (map (row_of ds) (slice_set (entries_of en) i entry)) (λ t. sound.apart on)
+        ∙ length-map (slice_set (entries_of en) i entry) (row_of ds)
+        ∙ length_set (entries_of en) i entry in
+        let all : length (add_row s.rollup ks (rollup s.rollup ks (map (row_of ds) (entries_of en))) (event_row m)) ≡ length (entries_of en) =
+        subst (λ b. length (add_row b ks (rollup b ks (map (row_of ds) (entries_of en))) (event_row m)) ≡ length (entries_of en)) (sym on) rows in
+        let named : length (add_row s.rollup (kinds_of s) (rollup s.rollup (kinds_of s) (map (row_of ds) (entries_of en))) (event_row m)) ≡ length (entries_of en) =
+        subst (λ l. length (add_row s.rollup l (rollup s.rollup l (map (row_of ds) (entries_of en))) (event_row m)) ≡ length (entries_of en)) h.columns all in
+        ap (λ r. length (add_row s.rollup (kinds_of s) (rows_of s ds (entries_of en)) r)) (sym is_unrolled) ∙ named
+
     module _ (i : ℕ) (combined : is_combined en ≡ true) (lt : i < length (entries_of en)) (same : (x : Entry) → slice_get (entries_of en) i ≡ Some x → (row_of ds x).key ≡ record { time = time; dims = e.dims })
         (next : Entries) (still : is_combined next ≡ true) (after : Combines ks e.inputs (entries_of en) i (entries_of next)) (d : Coded) (count : length d.numbers.items ≡ length ds) where
       pub found-holds : Holds s ks limit ds d next
@@ -74,6 +108,7 @@ module _ (s : Schema) (ks : List Kind) (limit : ℕ) (ds : List Dictionary) (c :
           record {
             columns = h.columns;
             kind = h.kind;
+            small = h.small;
             combines = still ∙ sym combined ∙ h.combines;
             count = h.count;
             coded_count = count;
@@ -122,6 +157,7 @@ module _ (s : Schema) (ks : List Kind) (limit : ℕ) (ds : List Dictionary) (c :
             record {
               columns = h.columns;
               kind = h.kind;
+              small = h.small;
               combines = still ∙ h.combines;
               count = same ∙ h.count;
               coded_count = count ∙ sym same;
@@ -139,11 +175,12 @@ unfolding IsDistinct
 no_keys = tt
 
 -- an index without entries
-pub nothing-holds : (s : Schema) (ks : List Kind) (limit : ℕ) (ds : List Dictionary) (c : Coded) (en : Entries) → ks ≡ kinds_of s → is_all s.query_granularity ≡ false → is_combined en ≡ s.rollup → length ds ≡ length s.dimensions
+pub nothing-holds : (s : Schema) (ks : List Kind) (limit : ℕ) (ds : List Dictionary) (c : Coded) (en : Entries) → ks ≡ kinds_of s → is_all s.query_granularity ≡ false → limit ≤ 1048576 → is_combined en ≡ s.rollup → length ds ≡ length s.dimensions
     → length c.numbers.items ≡ length s.dimensions → entries_of en ≡ [] → AllByRecursion (λ (d : Dictionary). d ≡ record { limit = limit; texts = [] }) ds → Holds s ks limit ds c en
-nothing-holds s ks limit ds c en columns kind combines count coded none empty = record {
+nothing-holds s ks limit ds c en columns kind small combines count coded none empty = record {
   columns = columns;
   kind = kind;
+  small = small;
   combines = combines;
   count = count;
   coded_count = coded ∙ sym count;

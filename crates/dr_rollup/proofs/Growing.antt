@@ -45,7 +45,7 @@ all_implied : {X : Type 0} (P Q : X → Type 0) → ((x : X) → P x → Q x) �
 all_implied P Q f [] all = tt
 all_implied P Q f (x ∷ xs) all = (f x all.0, all_implied P Q f xs all.1)
 
-length_set : {X : Type 0} (xs : List X) (i : ℕ) (x : X) → length (slice_set xs i x) ≡ length xs
+pub length_set : {X : Type 0} (xs : List X) (i : ℕ) (x : X) → length (slice_set xs i x) ≡ length xs
 length_set [] i x = refl
 length_set (y ∷ xs) zero x = refl
 length_set (y ∷ xs) (suc i) x = ap suc (length_set xs i x)

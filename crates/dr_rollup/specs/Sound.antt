@@ -26,6 +26,7 @@ pub record IsSound (kinds : List Kind) (limit : ℕ) (combines : Bool) (dicts : 
 pub record Holds (schema : Schema) (kinds : List Kind) (limit : ℕ) (dicts : List Dictionary) (coded : Coded) (entries : Entries) : Type 0 where
   pub columns : kinds ≡ kinds_of schema
   pub kind : is_all schema.query_granularity ≡ false
+  pub small : limit ≤ 1048576
   pub combines : is_combined entries ≡ schema.rollup
   pub count : length dicts ≡ length schema.dimensions
   pub coded_count : length coded.numbers.items ≡ length dicts

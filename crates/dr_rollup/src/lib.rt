@@ -14,7 +14,7 @@ mod unrolled;
 
 pub use open_index::OpenIndex;
 pub use rollup_error::RollupError;
-pub use unrolled::unrolled_row;
+pub use unrolled::{columns_of, unrolled_row};
 
 #[cfg(test)]
 mod tests;

@@ -1,7 +1,6 @@
 ghost use Rattle.std.specs.Prelude.{◌≡◌, ◌≤◌, ◌<◌, ◌↔◌, [], false, length, IfOk, OnOk, OnErr, IsErrOf};
 ghost use Rattle.std.specs.List.{AllByRecursion};
 ghost use Rattle.dr_gran.specs.Step.{is_all};
-ghost use Rattle.dr_spec.specs.Columns.{kinds_of};
 ghost use Rattle.dr_events.specs.Fits.{FitsSchema};
 ghost use Rattle.dr_rollup.specs.OpenRows.{OpenRows, rows_with, with_rows, RollsUp};
 
@@ -11,7 +10,8 @@ use crate::locating::locate;
 use crate::putting::put;
 use crate::rollup_error::RollupError;
 use crate::sorted_rows::sorted_rows;
-use dr_agg::Kind;
+use crate::unrolled::{columns_of, unrolled_row};
+use dr_agg::{Kind, add_row};
 use dr_base::{Event, Row};
 use dr_dict::GrowingDict;
 use dr_spec::Schema;
@@ -64,11 +64,40 @@ impl OpenIndex {
         })
     }
 
+    /// How many rows there may be.
+    pub fn limit(&self) -> usize
+        ensures limit { result ≡ self.now.limit }
+        ensures small { result ≤ 1048576 }
+    {
+        self.limit
+    }
+
     /// How many rows there are.
     pub fn len(&self) -> usize
-        ensures { result ≡ length self.now.rows }
+        ensures len { result ≡ length self.now.rows }
+        ensures within { result ≤ self.now.limit }
     {
         self.entries.len()
+    }
+
+    /// How many rows there are with one more event that fits the schema, which isn't added. It takes no memory.
+    pub fn len_with(&mut self, event: &Event) -> usize
+        requires { FitsSchema self.old.schema event.now }
+        ensures len { result ≡ length (rows_with self.old event.now) }
+        ensures same { self.new ≡ self.old }
+    {
+        let len = self.entries.len();
+        let found = locate(
+            &self.schema,
+            &self.dicts,
+            &self.entries,
+            event,
+            &mut self.coded,
+        );
+        if let Some(_) = found {
+            return len;
+        }
+        len + 1
     }
 
     /// Adds an event that fits the schema: combines it into the row of its key, or puts a new row. An error leaves the rows
@@ -113,17 +142,26 @@ impl OpenIndex {
     {
         sorted_rows(*self.kinds.allocator(), &self.dicts, &self.entries)
     }
-}
 
-fn columns_of(alloc: Global, schema: &Schema) -> Result<Vec<Kind>, AllocError>
-    ensures { IfOk result (λ ks. ks.items ≡ kinds_of schema.now) }
-{
-    schema
-        .metrics
-        .as_slice()
-        .iter()
-        .map(|metric| metric.kind)
-        .collect(alloc)
+    /// The rows with one more event that fits the schema, which isn't added, in the order of their keys and in memory of
+    /// their own. The only error is that memory ran out.
+    pub fn rows_with(&self, event: &Event) -> Result<Vec<Row>, AllocError>
+        requires { FitsSchema self.now.schema event.now }
+        ensures { IfOk result (λ rows. rows.items ≡ rows_with self.now event.now) }
+    {
+        let alloc = *self.kinds.allocator();
+        let row = unrolled_row(alloc, &self.schema, &self.kinds, event)?;
+        let mut rows = self.rows()?;
+        add_row(self.schema.rollup, &self.kinds, &mut rows, row)?;
+        Ok(rows)
+    }
+
+    /// An index without rows, of the same schema, which may have as many. The only error is that memory ran out.
+    pub fn fresh(&self) -> Result<OpenIndex, AllocError>
+        ensures { IfOk result (λ index. index ≡ with_rows self.now []) }
+    {
+        OpenIndex::new(*self.kinds.allocator(), &self.schema, self.limit)
+    }
 }
 
 fn empty_dicts(alloc: Global, count: usize, limit: usize) -> Result<Vec<GrowingDict>, AllocError>

@@ -10,6 +10,18 @@ use dr_base::{Event, Key, Numbers, Row};
 use dr_spec::Schema;
 use std::alloc::{AllocError, Global};
 
+/// The kinds of the metric columns of a schema, in order. The only error is that memory ran out.
+pub fn columns_of(alloc: Global, schema: &Schema) -> Result<Vec<Kind>, AllocError>
+    ensures { IfOk result (λ kinds. kinds.items ≡ kinds_of schema.now) }
+{
+    schema
+        .metrics
+        .as_slice()
+        .iter()
+        .map(|metric| metric.kind)
+        .collect(alloc)
+}
+
 /// The row of one event: its time truncated to the query granularity, its dimensions, and what it adds to each column: 1
 /// to a count, its input to every other (Apache Druid documentation, ingestion: rollup). The only error is that memory ran
 /// out.

@@ -1,55 +1,56 @@
 -- The chunks of a timeline with one of them changed.
-use Rattle.std.proofs.Common.{◌≡◌, ◌∙◌, sym, refl, ap, subst, ℕ, ℤ, ◌+◌, ◌-◌, ◌<◌, ◌≤◌, Bool, true, false, List, [], ◌∷◌, length, map, take, drop, zero, suc, cond, ◌||◌, arith}
+use Rattle.std.proofs.Common.{◌≡◌, ◌∙◌, sym, refl, ap, subst, ℕ, ℤ, ◌+◌, ◌<◌, true, false, List, [], ◌∷◌, length, map, take, drop, zero, suc, ◌||◌, arith}
 use Rattle.std.specs.List.{AllByRecursion}
 use Rattle.std.specs.List.Sorted.{IsStrictlySortedBy}
 use Rattle.std.specs.declared.cmp.Ordering.TheVariants.{Less, Equal, Greater}
 use Rattle.std.specs.Ordering.{int_cmp, int_eq, is_eq, match_ordering}
 use Rattle.std.specs.FinMap.{int_cmp-IsAntisymmetric}
+use Rattle.dr_spec.specs.declared.schema.Schema.{Schema}
 use Rattle.dr_timeline.specs.declared.chunk.Chunk.{Chunk}
 use Rattle.dr_timeline.specs.AtKey.{at_key, item_at}
 use Rattle.dr_timeline.specs.Chunks.{with_value}
-use Rattle.dr_timeline.specs.State.{Cut, Range, sealed_in}
+use Rattle.dr_timeline.specs.State.{Cut, sealed_in}
 use Rattle.dr_timeline.specs.Steps.{at_chunk, open_cut}
 use Rattle.dr_timeline.specs.Held.{no_chunk, at_start, chunk_at, cut_of, ranges_of, open_count, total_open, IsFirst}
-use Rattle.dr_timeline.proofs.Parts.{has, All-below, is_eq-true}
+use Rattle.dr_timeline.proofs.Parts.{has, All-below}
 
 -- the cuts of the changed chunks
-pub cuts-at_start : (cs : List Chunk) (k : ℤ) (change : Chunk → Chunk) (alter : Cut → Cut) → cut_of (change (chunk_at k cs)) ≡ alter (cut_of (chunk_at k cs)) → map cut_of (at_start change k cs) ≡ at_chunk k alter (map cut_of cs)
+pub cuts-at_start : (schema : Schema) (cs : List Chunk) (k : ℤ) (change : Chunk → Chunk) (alter : Cut → Cut) → cut_of (change (chunk_at schema k cs)) ≡ alter (cut_of (chunk_at schema k cs)) → map cut_of (at_start schema change k cs) ≡ at_chunk k alter (map cut_of cs)
 unfolding at_key
-cuts-at_start [] k change alter h = ap (λ c. c ∷ []) h
-cuts-at_start (c ∷ cs) k change alter h =
-    elim (int_cmp k c.start) as (λ o. cut_of (change (match_ordering o (no_chunk k) c (chunk_at k cs))) ≡ alter (cut_of (match_ordering o (no_chunk k) c (chunk_at k cs)))
-    → map cut_of (match_ordering o (change (no_chunk k) ∷ c ∷ cs) (change c ∷ cs) (c ∷ at_start change k cs)) ≡ match_ordering o (alter (open_cut k) ∷ cut_of c ∷ map cut_of cs) (alter (cut_of c) ∷ map cut_of cs) (cut_of c ∷ at_chunk k alter (map cut_of cs))) [
+cuts-at_start schema [] k change alter h = ap (λ c. c ∷ []) h
+cuts-at_start schema (c ∷ cs) k change alter h =
+    elim (int_cmp k c.start) as (λ o. cut_of (change (match_ordering o (no_chunk schema k) c (chunk_at schema k cs))) ≡ alter (cut_of (match_ordering o (no_chunk schema k) c (chunk_at schema k cs)))
+    → map cut_of (match_ordering o (change (no_chunk schema k) ∷ c ∷ cs) (change c ∷ cs) (c ∷ at_start schema change k cs)) ≡ match_ordering o (alter (open_cut k) ∷ cut_of c ∷ map cut_of cs) (alter (cut_of c) ∷ map cut_of cs) (cut_of c ∷ at_chunk k alter (map cut_of cs))) [
       | Less ↦ λ e. ap (λ d. d ∷ cut_of c ∷ map cut_of cs) e
       | Equal ↦ λ e. ap (λ d. d ∷ map cut_of cs) e
-      | Greater ↦ λ e. ap (λ ds. cut_of c ∷ ds) (cuts-at_start cs k change alter e)
+      | Greater ↦ λ e. ap (λ ds. cut_of c ∷ ds) (cuts-at_start schema cs k change alter e)
     ] h
 
 -- the sealed ranges of a chunk
-pub sealed_in-cuts : (cs : List Chunk) (k : ℤ) → sealed_in k (map cut_of cs) ≡ ranges_of (chunk_at k cs)
-sealed_in-cuts [] k = refl
-sealed_in-cuts (c ∷ cs) k =
-    elim (int_cmp k c.start) as (λ o. match_ordering o [] (ranges_of c) (sealed_in k (map cut_of cs)) ≡ ranges_of (match_ordering o (no_chunk k) c (chunk_at k cs)))
-    [ Less ↦ refl | Equal ↦ refl | Greater ↦ sealed_in-cuts cs k ]
+pub sealed_in-cuts : (schema : Schema) (cs : List Chunk) (k : ℤ) → sealed_in k (map cut_of cs) ≡ ranges_of (chunk_at schema k cs)
+sealed_in-cuts schema [] k = refl
+sealed_in-cuts schema (c ∷ cs) k =
+    elim (int_cmp k c.start) as (λ o. match_ordering o [] (ranges_of c) (sealed_in k (map cut_of cs)) ≡ ranges_of (match_ordering o (no_chunk schema k) c (chunk_at schema k cs)))
+    [ Less ↦ refl | Equal ↦ refl | Greater ↦ sealed_in-cuts schema cs k ]
 
 -- a chunk that stands there is no new one
-pub starts-here : (cs : List Chunk) (k : ℤ) (i : ℕ) (change : Chunk → Chunk) → ((c : Chunk) → (change c).start ≡ c.start) → i < length cs → AllByRecursion (λ d. int_cmp k d.start ≡ Greater) (take i cs) → IsFirst k (drop i cs)
-    → map (λ c. c.start) (at_start change k cs) ≡ map (λ c. c.start) cs
+pub starts-here : (schema : Schema) (cs : List Chunk) (k : ℤ) (i : ℕ) (change : Chunk → Chunk) → ((c : Chunk) → (change c).start ≡ c.start) → i < length cs → AllByRecursion (λ d. int_cmp k d.start ≡ Greater) (take i cs) → IsFirst k (drop i cs)
+    → map (λ c. c.start) (at_start schema change k cs) ≡ map (λ c. c.start) cs
 unfolding at_key
-starts-here [] k i change keeps lt before here = absurd (omega arith)
-starts-here (c ∷ cs) k zero change keeps lt before here = rw here (ap (λ j. j ∷ map (λ c. c.start) cs) (keeps c))
-starts-here (c ∷ cs) k (suc i) change keeps lt before here = rw before.0 (ap (λ js. c.start ∷ js) (starts-here cs k i change keeps (omega arith) before.1 here))
+starts-here schema [] k i change keeps lt before here = absurd (omega arith)
+starts-here schema (c ∷ cs) k zero change keeps lt before here = rw here (ap (λ j. j ∷ map (λ c. c.start) cs) (keeps c))
+starts-here schema (c ∷ cs) k (suc i) change keeps lt before here = rw before.0 (ap (λ js. c.start ∷ js) (starts-here schema cs k i change keeps (omega arith) before.1 here))
 
 -- how many events are open, with one chunk changed
-pub total-at_start : (cs : List Chunk) (k : ℤ) (change : Chunk → Chunk) → total_open (at_start change k cs) + open_count (chunk_at k cs) ≡ total_open cs + open_count (change (chunk_at k cs))
+pub total-at_start : (schema : Schema) (cs : List Chunk) (k : ℤ) (change : Chunk → Chunk) → total_open (at_start schema change k cs) + open_count (chunk_at schema k cs) ≡ total_open cs + open_count (change (chunk_at schema k cs))
 unfolding at_key
-total-at_start [] k change = omega arith
-total-at_start (c ∷ cs) k change =
-    elim (int_cmp k c.start) as (λ o. total_open (match_ordering o (change (no_chunk k) ∷ c ∷ cs) (change c ∷ cs) (c ∷ at_start change k cs)) + open_count (match_ordering o (no_chunk k) c (chunk_at k cs))
-    ≡ open_count c + total_open cs + open_count (change (match_ordering o (no_chunk k) c (chunk_at k cs)))) [
+total-at_start schema [] k change = omega arith
+total-at_start schema (c ∷ cs) k change =
+    elim (int_cmp k c.start) as (λ o. total_open (match_ordering o (change (no_chunk schema k) ∷ c ∷ cs) (change c ∷ cs) (c ∷ at_start schema change k cs)) + open_count (match_ordering o (no_chunk schema k) c (chunk_at schema k cs))
+    ≡ open_count c + total_open cs + open_count (change (match_ordering o (no_chunk schema k) c (chunk_at schema k cs)))) [
       | Less ↦ omega arith
       | Equal ↦ omega arith
-      | Greater ↦ let so_far = total-at_start cs k change in omega arith
+      | Greater ↦ let so_far = total-at_start schema cs k change in omega arith
     ]
 
 -- ---- items of a list that rises by a key
@@ -113,14 +114,14 @@ with_value-there k (j ∷ js) there rising =
 -- ---- chunks
 
 -- what holds of the chunk there
-pub All-chunk_at : (P : Chunk → Type 0) (cs : List Chunk) (k : ℤ) → AllByRecursion P cs → (has k (map (λ c. c.start) cs) ≡ false → P (no_chunk k)) → IsStrictlySortedBy int_cmp (map (λ c. c.start) cs) → P (chunk_at k cs) × ((chunk_at k cs).start ≡ k)
-All-chunk_at P cs k all none rising = All-item_at (λ c. c.start) (no_chunk k) P cs k refl all none rising
+pub All-chunk_at : (schema : Schema) (P : Chunk → Type 0) (cs : List Chunk) (k : ℤ) → AllByRecursion P cs → (has k (map (λ c. c.start) cs) ≡ false → P (no_chunk schema k)) → IsStrictlySortedBy int_cmp (map (λ c. c.start) cs) → P (chunk_at schema k cs) × ((chunk_at schema k cs).start ≡ k)
+All-chunk_at schema P cs k all none rising = All-item_at (λ c. c.start) (no_chunk schema k) P cs k refl all none rising
 
 -- what holds of each chunk, of the changed one and of those that start elsewhere
-pub All-at_start : (P Q : Chunk → Type 0) (cs : List Chunk) (k : ℤ) (change : Chunk → Chunk) → ((c : Chunk) → int_eq k c.start ≡ false → P c → Q c) → Q (change (chunk_at k cs)) → AllByRecursion P cs → IsStrictlySortedBy int_cmp (map (λ c. c.start) cs)
-    → AllByRecursion Q (at_start change k cs)
-All-at_start P Q cs k change other here all rising = All-at_key (λ c. c.start) (no_chunk k) P Q cs k change other here all rising
+pub All-at_start : (schema : Schema) (P Q : Chunk → Type 0) (cs : List Chunk) (k : ℤ) (change : Chunk → Chunk) → ((c : Chunk) → int_eq k c.start ≡ false → P c → Q c) → Q (change (chunk_at schema k cs)) → AllByRecursion P cs → IsStrictlySortedBy int_cmp (map (λ c. c.start) cs)
+    → AllByRecursion Q (at_start schema change k cs)
+All-at_start schema P Q cs k change other here all rising = All-at_key (λ c. c.start) (no_chunk schema k) P Q cs k change other here all rising
 
 -- the starts of the changed chunks
-pub starts-at_start : (cs : List Chunk) (k : ℤ) (change : Chunk → Chunk) → ((c : Chunk) → (change c).start ≡ c.start) → map (λ c. c.start) (at_start change k cs) ≡ with_value k (map (λ c. c.start) cs)
-starts-at_start cs k change keeps = keys-at_key (λ (c : Chunk). c.start) (no_chunk k) cs k change keeps refl
+pub starts-at_start : (schema : Schema) (cs : List Chunk) (k : ℤ) (change : Chunk → Chunk) → ((c : Chunk) → (change c).start ≡ c.start) → map (λ c. c.start) (at_start schema change k cs) ≡ with_value k (map (λ c. c.start) cs)
+starts-at_start schema cs k change keeps = keys-at_key (λ (c : Chunk). c.start) (no_chunk schema k) cs k change keeps refl

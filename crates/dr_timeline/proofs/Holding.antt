@@ -1,34 +1,31 @@
 -- What a chunk holds after one more event, after a seal, and after a merge.
-use Rattle.std.proofs.Common.{◌≡◌, ◌∙◌, sym, refl, ap, subst, ℕ, ℤ, suc, ◌+◌, ◌-◌, ◌<◌, ◌≤◌, Bool, true, false, List, [], ◌∷◌, ◌++◌, length, map, take, drop, cond, append_assoc, arith}
+use Rattle.std.proofs.Common.{◌≡◌, ◌∙◌, sym, refl, ap, subst, ℕ, ℤ, ◌+◌, ◌-◌, ◌<◌, ◌≤◌, Bool, true, false, List, [], ◌∷◌, ◌++◌, length, map, take, drop, cond, arith}
 use Rattle.std.specs.List.{fold, flat_map, AllByRecursion}
 use Rattle.std.specs.Ordering.{int_eq}
-use Rattle.std.proofs.lemmas.List.{map-append, append-nil, take_all, length-drop, length-append, append_assoc}
+use Rattle.std.proofs.lemmas.List.{map-append, append-nil, take_all, length-drop, length-append}
 use Rattle.std.proofs.lemmas.List.Elements.{filter-append}
 use Rattle.dr_base.specs.declared.event.Event.{Event}
 use Rattle.dr_base.specs.declared.row.Row.{Row}
-use Rattle.dr_agg.specs.declared.kind.Kind.{Kind}
 use Rattle.dr_agg.specs.Combination.{FitsColumns}
 use Rattle.dr_agg.specs.Rollup.{add_row, rollup, rollup_onto, all_rows, join, AllFit}
 use Rattle.dr_agg.proofs.RollupLaws.{rollup_onto_push, AllFit-rollup_onto, rollup-all_rows}
 use Rattle.dr_spec.specs.Columns.{kinds_of}
 use Rattle.dr_spec.specs.declared.schema.Schema.{Schema}
+use Rattle.dr_rollup.specs.OpenRows.{OpenRows, rows_with, with_rows}
+use Rattle.dr_rollup.proofs.Contributing.{length-contributions}
 use Rattle.dr_timeline.specs.declared.chunk.Chunk.{Chunk}
 use Rattle.dr_timeline.specs.declared.fragment.Fragment.{Fragment}
 use Rattle.dr_timeline.specs.declared.sealed_range.SealedRange.{SealedRange}
-use Rattle.dr_timeline.specs.Unrolled.{contributions, unrolled, rolled_up}
+use Rattle.dr_rollup.specs.Unrolled.{unrolled, rolled_up}
 use Rattle.dr_timeline.specs.Chunks.{chunk, chunk_list}
 use Rattle.dr_timeline.specs.State.{Range, Tile, open_from, open_events, events_of}
 use Rattle.dr_timeline.specs.Steps.{fragment_of}
-use Rattle.dr_timeline.specs.Joined.{first_from, last_to, joined}
-use Rattle.dr_timeline.specs.Held.{range_of, ranges_of, Holds, no_chunk, with_row, with_open_sealed, open_fragment}
+use Rattle.dr_timeline.specs.Joined.{joined}
+use Rattle.dr_timeline.specs.Held.{range_of, ranges_of, index_of, Holds, with_one, with_open_sealed, open_fragment}
 use Rattle.dr_timeline.proofs.Each.{All-push, All-left, All-right, All-append}
 use Rattle.dr_timeline.proofs.Tiles.{end_from, tile-end, tile-start, tile-more, tile-append, tile-right, tile-left, tile-some, end_from-append, joined-events, drop-push, events_of-push}
 
 -- ---- rows of events
-
-length-contributions : (ks : List Kind) (inputs : List ℤ) → length (contributions ks inputs) ≡ length ks
-length-contributions [] inputs = refl
-length-contributions (k ∷ ks) inputs = ap suc (length-contributions ks _)
 
 -- an event's row has a value for each column
 pub fits-unrolled : (schema : Schema) (e : Event) → FitsColumns (kinds_of schema) (unrolled schema e).metrics
@@ -66,7 +63,7 @@ holds-other schema es e c h held =
       events = held.events ∙ ap (λ (l : List Event). length l) same;
       tiled = held.tiled;
       sealed = subst (λ (l : List Event). AllByRecursion (λ s. s.fragment ≡ record { chunk = c.start; from = (range_of s).from; to = (range_of s).to; rows = rolled_up schema (events_of l (range_of s)) }) c.sealed) same held.sealed;
-      open_rows = held.open_rows ∙ ap (λ (l : List Event). rolled_up schema (open_events l (ranges_of c))) same;
+      index = held.index ∙ ap (λ (l : List Event). index_of schema (rolled_up schema (open_events l (ranges_of c)))) same;
     }
 
 -- sealed ranges stay as they are
@@ -85,7 +82,7 @@ sealed-push schema k l e from (s ∷ ss) tiled h =
 
 -- the event's own chunk has one more row
 pub holds-own : (schema : Schema) (es : List Event) (e : Event) (c : Chunk) → int_eq (chunk schema e) c.start ≡ true → Holds schema es c
-    → Holds schema (es ++ e ∷ []) (with_row schema.rollup (kinds_of schema) (unrolled schema e) c)
+    → Holds schema (es ++ e ∷ []) (with_one e c)
 holds-own schema es e c h held =
     let l : List Event = chunk_list schema es c.start in
     let same : chunk_list schema (es ++ e ∷ []) c.start ≡ l ++ e ∷ [] = own-list schema es e c.start h in
@@ -96,9 +93,9 @@ holds-own schema es e c h held =
       tiled = tile-more 0 c.events (c.events + 1) (ranges_of c) (omega arith) held.tiled;
       sealed = subst (λ (m : List Event). AllByRecursion (λ s. s.fragment ≡ record { chunk = c.start; from = (range_of s).from; to = (range_of s).to; rows = rolled_up schema (events_of m (range_of s)) }) c.sealed) (sym same)
           (sealed-push schema c.start l e 0 c.sealed tiled held.sealed);
-      open_rows = ap (λ (rs : List Row). add_row schema.rollup (kinds_of schema) rs (unrolled schema e)) held.open_rows
-          ∙ sym (rolled_up-push schema (open_events l (ranges_of c)) e)
-          ∙ ap (rolled_up schema) (sym (drop-push l e (open_from (ranges_of c)) open_at) ∙ ap (λ (m : List Event). open_events m (ranges_of c)) (sym same));
+      index = ap (λ (x : OpenRows). with_rows x (rows_with x e)) held.index
+          ∙ ap (index_of schema) (sym (rolled_up-push schema (open_events l (ranges_of c)) e)
+          ∙ ap (rolled_up schema) (sym (drop-push l e (open_from (ranges_of c)) open_at) ∙ ap (λ (m : List Event). open_events m (ranges_of c)) (sym same)));
     }
 
 -- ---- a seal
@@ -120,8 +117,8 @@ holds-sealed schema es serial c some held =
       events = held.events;
       tiled = subst (λ (rs : List Range). Tile 0 c.events rs) (sym ranges) (tile-append 0 c.events (ranges_of c) (range_of new ∷ []) held.tiled (refl, some, le_itself c.events));
       sealed = All-push (λ s. s.fragment ≡ fragment_of schema es c.start (range_of s)) c.sealed new held.sealed
-          (ap (λ (rs : List Row). record { chunk = c.start; from = from; to = c.events; rows = rs }) (held.open_rows ∙ ap (rolled_up schema) (sym all)));
-      open_rows = ap (rolled_up schema) (sym (ap (λ (n : ℕ). drop n l) last ∙ none));
+          (ap (λ (rs : List Row). record { chunk = c.start; from = from; to = c.events; rows = rs }) (ap (λ (x : OpenRows). x.rows) held.index ∙ ap (rolled_up schema) (sym all)));
+      index = ap (λ (x : OpenRows). with_rows x []) held.index ∙ ap (λ (m : List Event). index_of schema (rolled_up schema m)) (sym (ap (λ (n : ℕ). drop n l) last ∙ none));
     }
   where
     drop-length : {A : Type 0} (xs : List A) → drop (length xs) xs ≡ []
@@ -181,7 +178,7 @@ joined-is schema k l from s ss tiled h =
 pub holds-replaced : (schema : Schema) (es : List Event) (c : Chunk) (before : List SealedRange) (s : SealedRange) (ss after : List SealedRange) (new : SealedRange)
     → c.sealed ≡ before ++ ((s ∷ ss) ++ after) → Holds schema es c
     → new.fragment ≡ joined schema c.start (map (λ s. s.fragment) (s ∷ ss))
-    → Holds schema es (record { start = c.start; events = c.events; sealed = before ++ (new ∷ after); publications = c.publications; rows = c.rows }) × (open_from (map range_of (before ++ (new ∷ after))) ≡ open_from (ranges_of c))
+    → Holds schema es (record c { sealed = before ++ (new ∷ after) }) × (open_from (map range_of (before ++ (new ∷ after))) ≡ open_from (ranges_of c))
 holds-replaced schema es c before s ss after new parts held is =
     let l : List Event = chunk_list schema es c.start in
     let inner : List SealedRange = s ∷ ss in
@@ -212,7 +209,7 @@ holds-replaced schema es c before s ss after new parts held is =
             (tile-append 0 c.events (map range_of before) (range_of new ∷ map range_of after) tiled_before
             (new_from, new_some, subst (λ (n : ℕ). Tile n c.events (map range_of after)) (sym new_to) tiled_after));
         sealed = All-append (HasRollup schema c.start l) before (new ∷ after) (All-left (HasRollup schema c.start l) before (inner ++ after) held_parts) (new_fragment, All-right (HasRollup schema c.start l) inner after held_rest);
-        open_rows = held.open_rows ∙ ap (λ (n : ℕ). rolled_up schema (drop n l)) (sym end);
+        index = held.index ∙ ap (λ (n : ℕ). index_of schema (rolled_up schema (drop n l))) (sym end);
       },
       end,
     )

@@ -1,44 +1,40 @@
 -- What a timeline keeps after one more event, after a seal, and after a merge.
-use Rattle.std.proofs.Common.{◌≡◌, ◌∙◌, sym, refl, ap, subst, ℕ, ℤ, ◌+◌, ◌-◌, ◌<◌, ◌≤◌, Bool, true, false, List, [], ◌∷◌, ◌++◌, length, map, take, drop, filter, suc, cond, nat_le, nat_lt, arith}
+use Rattle.std.proofs.Common.{◌≡◌, ◌∙◌, sym, refl, ap, subst, ℕ, ℤ, ◌+◌, ◌-◌, ◌<◌, ◌≤◌, Bool, true, false, List, [], ◌∷◌, ◌++◌, length, map, take, drop, filter, suc, cond, nat_le, arith}
 use Rattle.std.specs.List.{AllByRecursion}
 use Rattle.std.specs.List.Sorted.{IsStrictlySortedBy}
-use Rattle.std.specs.declared.cmp.Ordering.{Ordering}
 use Rattle.std.specs.declared.cmp.Ordering.TheVariants.{Less, Equal, Greater}
 use Rattle.std.specs.Ordering.{int_cmp, int_eq, match_ordering}
 use Rattle.std.proofs.lemmas.Bool.Decides.{nat_tests}
 use Rattle.std.proofs.lemmas.List.{map-append, drop_all, length-drop, length_push}
 use Rattle.dr_base.specs.declared.event.Event.{Event}
-use Rattle.dr_base.specs.declared.row.Row.{Row}
-use Rattle.dr_agg.specs.declared.kind.Kind.{Kind}
-use Rattle.dr_agg.specs.Rollup.{rollup_onto, AllFit}
+use Rattle.dr_agg.specs.Rollup.{rollup_onto}
 use Rattle.dr_events.specs.Fits.{FitsSchema}
-use Rattle.dr_spec.specs.Columns.{kinds_of}
 use Rattle.dr_spec.specs.WellFormed.{IsWellFormed}
 use Rattle.dr_spec.specs.declared.schema.Schema.{Schema}
+use Rattle.dr_rollup.specs.OpenRows.{OpenRows}
 use Rattle.dr_timeline.specs.declared.chunk.Chunk.{Chunk}
-use Rattle.dr_timeline.specs.declared.sealed_range.SealedRange.{SealedRange}
-use Rattle.dr_timeline.specs.Unrolled.{unrolled, rolled_up}
+use Rattle.dr_rollup.specs.Unrolled.{rolled_up}
 use Rattle.dr_timeline.specs.Chunks.{chunk, chunk_list, chunks, with_value}
 use Rattle.dr_timeline.specs.AtKey.{at_key}
-use Rattle.dr_timeline.specs.State.{State, Cut, Range, Tile, open_from, open_events, sealed_in}
+use Rattle.dr_timeline.specs.State.{State, Cut, Range, open_from, open_events, sealed_in}
 use Rattle.dr_timeline.specs.Steps.{at_chunk, open_cut, with_seal, open_in, with_event, sealed_at, accepted}
-use Rattle.dr_timeline.specs.Held.{range_of, ranges_of, cut_of, Holds, HasFewRows, open_count, total_open, Keeps, no_chunk, with_row, with_open_sealed, is_full, seals_of, sealed_if_full, grown, at_start, chunk_at, has_open, IsBelow, IsFirst}
+use Rattle.dr_timeline.specs.Held.{range_of, ranges_of, cut_of, index_of, Holds, HasFewRows, open_count, Keeps, no_chunk, with_one, with_open_sealed, is_full, seals_of, sealed_if_full, grown, at_start, chunk_at, has_open, IsBelow, IsFirst}
 use Rattle.dr_timeline.proofs.Parts.{has, part-none, values_onto-push, rising-values, Covers-values_onto, int_eq-itself, is_eq-true}
 use Rattle.dr_timeline.proofs.Places.{chunk_at-new}
 use Rattle.dr_timeline.proofs.Each.{All-push, All-same}
 use Rattle.dr_timeline.proofs.Tiles.{end_from, end_from-append, tile-end}
-use Rattle.dr_timeline.proofs.Holding.{AllFit-rolled_up, holds-other, holds-own, holds-sealed, own-list}
+use Rattle.dr_timeline.proofs.Holding.{holds-other, holds-own, holds-sealed}
 use Rattle.dr_timeline.proofs.Changes.{cuts-at_start, sealed_in-cuts, starts-at_start, starts-here, total-at_start, All-chunk_at, All-at_start}
 
 -- ---- the chunk there
 
-pub holds-no_chunk : (schema : Schema) (es : List Event) (k : ℤ) → chunk_list schema es k ≡ [] → Holds schema es (no_chunk k)
+pub holds-no_chunk : (schema : Schema) (es : List Event) (k : ℤ) → chunk_list schema es k ≡ [] → Holds schema es (no_chunk schema k)
 unfolding rollup_onto
 holds-no_chunk schema es k none = record {
   events = ap (λ (l : List Event). length l) (sym none);
   tiled = zero_itself;
   sealed = tt;
-  open_rows = ap (λ (l : List Event). rolled_up schema (drop 0 l)) (sym none);
+  index = ap (λ (l : List Event). index_of schema (rolled_up schema (drop 0 l))) (sym none);
 }
   where
     zero_itself : 0 ≤ 0
@@ -48,9 +44,9 @@ pub rising-starts : (schema : Schema) (es : List Event) (cs : List Chunk) → ma
 rising-starts schema es cs starts = subst (λ (ks : List ℤ). IsStrictlySortedBy int_cmp ks) (sym starts) (rising-values (chunk schema) es)
 
 -- the chunk of a start holds the rows of its ranges, whether or not it is new
-pub holds-chunk_at : (schema : Schema) (es : List Event) (cs : List Chunk) (k : ℤ) → map (λ c. c.start) cs ≡ chunks schema es → AllByRecursion (Holds schema es) cs → Holds schema es (chunk_at k cs) × ((chunk_at k cs).start ≡ k)
+pub holds-chunk_at : (schema : Schema) (es : List Event) (cs : List Chunk) (k : ℤ) → map (λ c. c.start) cs ≡ chunks schema es → AllByRecursion (Holds schema es) cs → Holds schema es (chunk_at schema k cs) × ((chunk_at schema k cs).start ≡ k)
 holds-chunk_at schema es cs k starts each =
-    All-chunk_at (Holds schema es) cs k each
+    All-chunk_at schema (Holds schema es) cs k each
     (λ none. holds-no_chunk schema es k (part-none (chunk schema) k (chunks schema es) es (Covers-values_onto (chunk schema) [] es) (ap (has k) (sym starts) ∙ none)))
     (rising-starts schema es cs starts)
 
@@ -69,28 +65,28 @@ open-some schema es k c held at some none =
     absurd (omega arith)
 
 -- the open events of a state whose chunks are kept
-pub open-new : (schema : Schema) (es : List Event) (cs : List Chunk) (k : ℤ) (serials commits i : ℕ) → map (λ c. c.start) cs ≡ chunks schema es → AllByRecursion (Holds schema es) cs
+pub open-new : (schema : Schema) (es : List Event) (cs : List Chunk) (k : ℤ) (serials commits lost thrown i : ℕ) → map (λ c. c.start) cs ≡ chunks schema es → AllByRecursion (Holds schema es) cs
     → AllByRecursion (λ d. int_cmp k d.start ≡ Greater) (take i cs) → IsBelow k (drop i cs)
-    → open_in (record { schema = schema; stream = es; cuts = map cut_of cs; serials = serials; commits = commits }) k ≡ []
-open-new schema es cs k serials commits i starts each before below =
+    → open_in (record { schema = schema; stream = es; cuts = map cut_of cs; serials = serials; commits = commits; unparseable = lost; thrown_away = thrown }) k ≡ []
+open-new schema es cs k serials commits lost thrown i starts each before below =
     let held = holds-chunk_at schema es cs k starts each in
-    ap (open_events (chunk_list schema es k)) (sealed_in-cuts cs k)
-    ∙ open-none schema es k (chunk_at k cs) held.0 held.1 (ap has_open (chunk_at-new cs k i before below))
+    ap (open_events (chunk_list schema es k)) (sealed_in-cuts schema cs k)
+    ∙ open-none schema es k (chunk_at schema k cs) held.0 held.1 (ap has_open (chunk_at-new schema cs k i before below))
 
-pub open-empty : (schema : Schema) (es : List Event) (cs : List Chunk) (k : ℤ) (serials commits : ℕ) → map (λ c. c.start) cs ≡ chunks schema es → AllByRecursion (Holds schema es) cs → has_open (chunk_at k cs) ≡ false
-    → open_in (record { schema = schema; stream = es; cuts = map cut_of cs; serials = serials; commits = commits }) k ≡ []
-open-empty schema es cs k serials commits starts each none =
+pub open-empty : (schema : Schema) (es : List Event) (cs : List Chunk) (k : ℤ) (serials commits lost thrown : ℕ) → map (λ c. c.start) cs ≡ chunks schema es → AllByRecursion (Holds schema es) cs → has_open (chunk_at schema k cs) ≡ false
+    → open_in (record { schema = schema; stream = es; cuts = map cut_of cs; serials = serials; commits = commits; unparseable = lost; thrown_away = thrown }) k ≡ []
+open-empty schema es cs k serials commits lost thrown starts each none =
     let held = holds-chunk_at schema es cs k starts each in
-    ap (open_events (chunk_list schema es k)) (sealed_in-cuts cs k) ∙ open-none schema es k (chunk_at k cs) held.0 held.1 none
+    ap (open_events (chunk_list schema es k)) (sealed_in-cuts schema cs k) ∙ open-none schema es k (chunk_at schema k cs) held.0 held.1 none
 
 has-some : (c : Chunk) → has_open c ≡ true → open_from (ranges_of c) < c.events
 has-some c h = grind (arith, nat_tests)
 
-pub open-there : (schema : Schema) (es : List Event) (cs : List Chunk) (k : ℤ) (serials commits : ℕ) → map (λ c. c.start) cs ≡ chunks schema es → AllByRecursion (Holds schema es) cs → has_open (chunk_at k cs) ≡ true
-    → open_in (record { schema = schema; stream = es; cuts = map cut_of cs; serials = serials; commits = commits }) k ≡ [] → ⊥
-open-there schema es cs k serials commits starts each some none =
+pub open-there : (schema : Schema) (es : List Event) (cs : List Chunk) (k : ℤ) (serials commits lost thrown : ℕ) → map (λ c. c.start) cs ≡ chunks schema es → AllByRecursion (Holds schema es) cs → has_open (chunk_at schema k cs) ≡ true
+    → open_in (record { schema = schema; stream = es; cuts = map cut_of cs; serials = serials; commits = commits; unparseable = lost; thrown_away = thrown }) k ≡ [] → ⊥
+open-there schema es cs k serials commits lost thrown starts each some none =
     let held = holds-chunk_at schema es cs k starts each in
-    open-some schema es k (chunk_at k cs) held.0 held.1 (has-some (chunk_at k cs) some) (sym (ap (open_events (chunk_list schema es k)) (sealed_in-cuts cs k)) ∙ none)
+    open-some schema es k (chunk_at schema k cs) held.0 held.1 (has-some (chunk_at schema k cs) some) (sym (ap (open_events (chunk_list schema es k)) (sealed_in-cuts schema cs k)) ∙ none)
 
 -- ---- the end of a sealed open range
 
@@ -107,38 +103,37 @@ seal-cut serial n c is =
 
 -- ---- a seal
 
-pub keeps-sealed : (schema : Schema) (ks : List Kind) (es : List Event) (cs : List Chunk) (seals commits : ℕ) (k : ℤ) (i serial : ℕ) → Keeps schema ks es cs seals commits
-    → i < length cs → AllByRecursion (λ d. int_cmp k d.start ≡ Greater) (take i cs) → IsFirst k (drop i cs) → has_open (chunk_at k cs) ≡ true
-    → Keeps schema ks es (at_start (with_open_sealed serial) k cs) (seals + 1) commits
-keeps-sealed schema ks es cs seals commits k i serial kept lt before here test =
-    let some : open_from (ranges_of (chunk_at k cs)) < (chunk_at k cs).events = has-some (chunk_at k cs) test in
+pub keeps-sealed : (schema : Schema) (es : List Event) (cs : List Chunk) (seals commits : ℕ) (k : ℤ) (i serial : ℕ) → Keeps schema es cs seals commits
+    → i < length cs → AllByRecursion (λ d. int_cmp k d.start ≡ Greater) (take i cs) → IsFirst k (drop i cs) → has_open (chunk_at schema k cs) ≡ true
+    → Keeps schema es (at_start schema (with_open_sealed serial) k cs) (seals + 1) commits
+keeps-sealed schema es cs seals commits k i serial kept lt before here test =
+    let some : open_from (ranges_of (chunk_at schema k cs)) < (chunk_at schema k cs).events = has-some (chunk_at schema k cs) test in
     let rising = rising-starts schema es cs kept.starts in
     let held = holds-chunk_at schema es cs k kept.starts kept.each in
-    let total = total-at_start cs k (with_open_sealed serial) in
-    let none = none-open serial (chunk_at k cs) in
+    let total = total-at_start schema cs k (with_open_sealed serial) in
+    let none = none-open serial (chunk_at schema k cs) in
     let so_far = kept.seals in
     record {
       formed = kept.formed;
-      kinds = kept.kinds;
       fit = kept.fit;
-      starts = starts-here cs k i (with_open_sealed serial) (λ c. refl) lt before here ∙ kept.starts;
-      each = All-at_start (Holds schema es) (Holds schema es) cs k (with_open_sealed serial) (λ c e h. h) (holds-sealed schema es serial (chunk_at k cs) some held.0) kept.each rising;
-      few = All-at_start (HasFewRows schema) (HasFewRows schema) cs k (with_open_sealed serial) (λ c e h. h) kept.formed.limits.some_rows kept.few rising;
+      starts = starts-here schema cs k i (with_open_sealed serial) (λ c. refl) lt before here ∙ kept.starts;
+      each = All-at_start schema (Holds schema es) (Holds schema es) cs k (with_open_sealed serial) (λ c e h. h) (holds-sealed schema es serial (chunk_at schema k cs) some held.0) kept.each rising;
+      few = All-at_start schema (HasFewRows schema) (HasFewRows schema) cs k (with_open_sealed serial) (λ c e h. h) kept.formed.limits.some_rows kept.few rising;
       seals = omega arith;
       commits = kept.commits;
     }
 
 pub cuts-sealed : (schema : Schema) (es : List Event) (cs : List Chunk) (k : ℤ) (serial : ℕ) → map (λ c. c.start) cs ≡ chunks schema es → AllByRecursion (Holds schema es) cs
-    → map cut_of (at_start (with_open_sealed serial) k cs) ≡ at_chunk k (with_seal (length (chunk_list schema es k)) serial) (map cut_of cs)
+    → map cut_of (at_start schema (with_open_sealed serial) k cs) ≡ at_chunk k (with_seal (length (chunk_list schema es k)) serial) (map cut_of cs)
 cuts-sealed schema es cs k serial starts each =
     let held = holds-chunk_at schema es cs k starts each in
-    cuts-at_start cs k (with_open_sealed serial) (with_seal (length (chunk_list schema es k)) serial)
-    (seal-cut serial (length (chunk_list schema es k)) (chunk_at k cs) (held.0.events ∙ ap (λ j. length (chunk_list schema es j)) held.1))
+    cuts-at_start schema cs k (with_open_sealed serial) (with_seal (length (chunk_list schema es k)) serial)
+    (seal-cut serial (length (chunk_list schema es k)) (chunk_at schema k cs) (held.0.events ∙ ap (λ j. length (chunk_list schema es j)) held.1))
 
 -- ---- one more event
 
 abbrev pub full_after : Schema → Event → List Chunk → Bool
-full_after schema e cs = is_full schema.limits.max_rows_in_memory (with_row schema.rollup (kinds_of schema) (unrolled schema e) (chunk_at (chunk schema e) cs))
+full_after schema e cs = is_full (with_one e (chunk_at schema (chunk schema e) cs))
 
 if-start : (serial : ℕ) (b : Bool) (c : Chunk) → (cond b (with_open_sealed serial c) c).start ≡ c.start
 if-start serial true c = refl
@@ -146,17 +141,18 @@ if-start serial false c = refl
 
 -- the row's chunk after the event
 grown-holds : (schema : Schema) (es : List Event) (e : Event) (serial : ℕ) (b : Bool) (c : Chunk) → Holds schema es c → c.start ≡ chunk schema e
-    → Holds schema (es ++ e ∷ []) (cond b (with_open_sealed serial (with_row schema.rollup (kinds_of schema) (unrolled schema e) c)) (with_row schema.rollup (kinds_of schema) (unrolled schema e) c))
+    → Holds schema (es ++ e ∷ []) (cond b (with_open_sealed serial (with_one e c)) (with_one e c))
 grown-holds schema es e serial b c held at =
     let own : int_eq (chunk schema e) c.start ≡ true = ap (int_eq (chunk schema e)) at ∙ int_eq-itself (chunk schema e) in
     let new = holds-own schema es e c own held in
     let past : open_from (ranges_of c) ≤ c.events = tile-end 0 c.events (ranges_of c) held.tiled in
-    elim b as (λ x. Holds schema (es ++ e ∷ []) (cond x (with_open_sealed serial (with_row schema.rollup (kinds_of schema) (unrolled schema e) c)) (with_row schema.rollup (kinds_of schema) (unrolled schema e) c)))
-    [ true ↦ holds-sealed schema (es ++ e ∷ []) serial (with_row schema.rollup (kinds_of schema) (unrolled schema e) c) (omega arith) new | false ↦ new ]
+    elim b as (λ x. Holds schema (es ++ e ∷ []) (cond x (with_open_sealed serial (with_one e c)) (with_one e c)))
+    [ true ↦ holds-sealed schema (es ++ e ∷ []) serial (with_one e c) (omega arith) new | false ↦ new ]
 
-grown-few : (schema : Schema) (serial : ℕ) (c : Chunk) → IsWellFormed schema → HasFewRows schema (sealed_if_full schema.limits.max_rows_in_memory serial c)
-grown-few schema serial c formed =
-    elim (is_full schema.limits.max_rows_in_memory c) as (λ b. is_full schema.limits.max_rows_in_memory c ≡ b → HasFewRows schema (cond b (with_open_sealed serial c) c)) [
+grown-few : (schema : Schema) (es : List Event) (serial : ℕ) (c : Chunk) → IsWellFormed schema → Holds schema es c → HasFewRows schema (sealed_if_full serial c)
+grown-few schema es serial c formed held =
+    let limit : c.index.limit ≡ schema.limits.max_rows_in_memory = ap (λ (x : OpenRows). x.limit) held.index in
+    elim (is_full c) as (λ b. is_full c ≡ b → HasFewRows schema (cond b (with_open_sealed serial c) c)) [
       | true ↦ λ h. formed.limits.some_rows
       | false ↦ λ h. grind (arith, nat_tests)
     ] refl
@@ -167,29 +163,29 @@ grown-open serial true old new le =
     let sealed : open_count (with_open_sealed serial new) + 1 ≤ open_count old + 1 = omega arith in sealed
 grown-open serial false old new le = let same : open_count new + 0 ≤ open_count old + 1 = omega arith in same
 
-pub keeps-grown : (schema : Schema) (ks : List Kind) (es : List Event) (cs : List Chunk) (seals commits : ℕ) (e : Event) (serial : ℕ) → Keeps schema ks es cs seals commits → FitsSchema schema e
-    → Keeps schema ks (es ++ e ∷ []) (at_start (grown schema.rollup (kinds_of schema) schema.limits.max_rows_in_memory serial (unrolled schema e)) (chunk schema e) cs) (seals + seals_of (full_after schema e cs)) commits
-keeps-grown schema ks es cs seals commits e serial kept fits =
+pub keeps-grown : (schema : Schema) (es : List Event) (cs : List Chunk) (seals commits : ℕ) (e : Event) (serial : ℕ) → Keeps schema es cs seals commits → FitsSchema schema e
+    → Keeps schema (es ++ e ∷ []) (at_start schema (grown serial e) (chunk schema e) cs) (seals + seals_of (full_after schema e cs)) commits
+keeps-grown schema es cs seals commits e serial kept fits =
     let k : ℤ = chunk schema e in
-    let change : Chunk → Chunk = grown schema.rollup (kinds_of schema) schema.limits.max_rows_in_memory serial (unrolled schema e) in
+    let change : Chunk → Chunk = grown serial e in
     let rising = rising-starts schema es cs kept.starts in
     let held = holds-chunk_at schema es cs k kept.starts kept.each in
-    let c : Chunk = chunk_at k cs in
-    let row : Chunk = with_row schema.rollup (kinds_of schema) (unrolled schema e) c in
+    let c : Chunk = chunk_at schema k cs in
+    let row : Chunk = with_one e c in
+    let own : int_eq (chunk schema e) c.start ≡ true = ap (int_eq (chunk schema e)) held.1 ∙ int_eq-itself (chunk schema e) in
     let past : open_from (ranges_of c) ≤ c.events = tile-end 0 c.events (ranges_of c) held.0.tiled in
     let more : open_count row ≤ open_count c + 1 = omega arith in
     let opened = grown-open serial (full_after schema e cs) c row more in
-    let total = total-at_start cs k change in
+    let total = total-at_start schema cs k change in
     let so_far = kept.seals in
     let long : length (es ++ e ∷ []) ≡ length es + 1 = length_push es e in
     record {
       formed = kept.formed;
-      kinds = kept.kinds;
       fit = All-push (FitsSchema schema) es e kept.fit fits;
-      starts = starts-at_start cs k change (λ d. if-start serial (is_full schema.limits.max_rows_in_memory (with_row schema.rollup (kinds_of schema) (unrolled schema e) d)) (with_row schema.rollup (kinds_of schema) (unrolled schema e) d))
+      starts = starts-at_start schema cs k change (λ d. if-start serial (is_full (with_one e d)) (with_one e d))
           ∙ ap (with_value k) kept.starts ∙ sym (values_onto-push (chunk schema) [] es e);
-      each = All-at_start (Holds schema es) (Holds schema (es ++ e ∷ [])) cs k change (λ d other h. holds-other schema es e d other h) (grown-holds schema es e serial (full_after schema e cs) c held.0 held.1) kept.each rising;
-      few = All-at_start (HasFewRows schema) (HasFewRows schema) cs k change (λ d other h. h) (grown-few schema serial row kept.formed) kept.few rising;
+      each = All-at_start schema (Holds schema es) (Holds schema (es ++ e ∷ [])) cs k change (λ d other h. holds-other schema es e d other h) (grown-holds schema es e serial (full_after schema e cs) c held.0 held.1) kept.each rising;
+      few = All-at_start schema (HasFewRows schema) (HasFewRows schema) cs k change (λ d other h. h) (grown-few schema (es ++ e ∷ []) serial row kept.formed (holds-own schema es e c own held.0)) kept.few rising;
       seals = omega arith;
       commits = kept.commits;
     }
@@ -219,52 +215,52 @@ sealed_in-opened k (c ∷ cs) =
     ] refl
 
 -- what a contract sees after the event
-pub state-grown : (schema : Schema) (ks : List Kind) (es : List Event) (cs : List Chunk) (seals commits : ℕ) (e : Event) → Keeps schema ks es cs seals commits
-    → record { schema = schema; stream = es ++ e ∷ []; cuts = map cut_of (at_start (grown schema.rollup (kinds_of schema) schema.limits.max_rows_in_memory (seals + commits) (unrolled schema e)) (chunk schema e) cs); serials = seals + seals_of (full_after schema e cs) + commits; commits = commits }
-    ≡ accepted (record { schema = schema; stream = es; cuts = map cut_of cs; serials = seals + commits; commits = commits }) e
-state-grown schema ks es cs seals commits e kept =
+pub state-grown : (schema : Schema) (es : List Event) (cs : List Chunk) (seals commits lost thrown : ℕ) (e : Event) → Keeps schema es cs seals commits
+    → record { schema = schema; stream = es ++ e ∷ []; cuts = map cut_of (at_start schema (grown (seals + commits) e) (chunk schema e) cs); serials = seals + seals_of (full_after schema e cs) + commits; commits = commits; unparseable = lost; thrown_away = thrown }
+    ≡ accepted (record { schema = schema; stream = es; cuts = map cut_of cs; serials = seals + commits; commits = commits; unparseable = lost; thrown_away = thrown }) e
+state-grown schema es cs seals commits lost thrown e kept =
     let k : ℤ = chunk schema e in
     let new : List Event = es ++ e ∷ [] in
     let n : ℕ = length (chunk_list schema new k) in
     let serial : ℕ = seals + commits in
-    let change : Chunk → Chunk = grown schema.rollup (kinds_of schema) schema.limits.max_rows_in_memory serial (unrolled schema e) in
-    let c : Chunk = chunk_at k cs in
-    let row : Chunk = with_row schema.rollup (kinds_of schema) (unrolled schema e) c in
-    let before : State = record { schema = schema; stream = es; cuts = map cut_of cs; serials = serial; commits = commits } in
+    let change : Chunk → Chunk = grown serial e in
+    let c : Chunk = chunk_at schema k cs in
+    let row : Chunk = with_one e c in
+    let before : State = record { schema = schema; stream = es; cuts = map cut_of cs; serials = serial; commits = commits; unparseable = lost; thrown_away = thrown } in
     let opened : State = with_event before e in
     let held = holds-chunk_at schema es cs k kept.starts kept.each in
     let own : int_eq (chunk schema e) c.start ≡ true = ap (int_eq (chunk schema e)) held.1 ∙ int_eq-itself (chunk schema e) in
     let holds : Holds schema new row = holds-own schema es e c own held.0 in
-    let sealed : sealed_in k (at_chunk k (λ c. c) (map cut_of cs)) ≡ ranges_of row = sealed_in-opened k (map cut_of cs) ∙ sealed_in-cuts cs k in
-    let rows : rolled_up schema (open_in opened k) ≡ row.rows =
-    (λ i. rolled_up schema (open_events (chunk_list schema new ((sym held.1) i)) (sealed i))) ∙ sym holds.open_rows in
-    let full : nat_le schema.limits.max_rows_in_memory (length (rolled_up schema (open_in opened k))) ≡ full_after schema e cs = ap (λ (rs : List Row). nat_le schema.limits.max_rows_in_memory (length rs)) rows in
+    let sealed : sealed_in k (at_chunk k (λ c. c) (map cut_of cs)) ≡ ranges_of row = sealed_in-opened k (map cut_of cs) ∙ sealed_in-cuts schema cs k in
+    let rows : index_of schema (rolled_up schema (open_in opened k)) ≡ row.index =
+    (λ i. index_of schema (rolled_up schema (open_events (chunk_list schema new ((sym held.1) i)) (sealed i)))) ∙ sym holds.index in
+    let full : nat_le schema.limits.max_rows_in_memory (length (rolled_up schema (open_in opened k))) ≡ full_after schema e cs = ap (λ (x : OpenRows). nat_le x.limit (length x.rows)) rows in
     let count : row.events ≡ n = holds.events ∙ ap (λ j. length (chunk_list schema new j)) held.1 in
     let by_case : (b : Bool) → full_after schema e cs ≡ b
-    → record { schema = schema; stream = new; cuts = map cut_of (at_start change k cs); serials = seals + seals_of b + commits; commits = commits } ≡ cond b (sealed_at k opened) opened = λ b.
-    elim b as (λ x. full_after schema e cs ≡ x → record { schema = schema; stream = new; cuts = map cut_of (at_start change k cs); serials = seals + seals_of x + commits; commits = commits } ≡ cond x (sealed_at k opened) opened) [
+    → record { schema = schema; stream = new; cuts = map cut_of (at_start schema change k cs); serials = seals + seals_of b + commits; commits = commits; unparseable = lost; thrown_away = thrown } ≡ cond b (sealed_at k opened) opened = λ b.
+    elim b as (λ x. full_after schema e cs ≡ x → record { schema = schema; stream = new; cuts = map cut_of (at_start schema change k cs); serials = seals + seals_of x + commits; commits = commits; unparseable = lost; thrown_away = thrown } ≡ cond x (sealed_at k opened) opened) [
       | true ↦ λ h.
           let cut : cut_of (change c) ≡ with_seal n serial (cut_of c) = ap (λ x. cut_of (cond x (with_open_sealed serial row) row)) h ∙ seal-cut serial n row count in
-          let cuts : map cut_of (at_start change k cs) ≡ at_chunk k (with_seal n serial) (at_chunk k (λ c. c) (map cut_of cs)) =
-          cuts-at_start cs k change (with_seal n serial) cut ∙ sym (at_key-twice (λ (c : Cut). c.chunk) (open_cut k) (with_seal n serial) k (map cut_of cs) refl) in
+          let cuts : map cut_of (at_start schema change k cs) ≡ at_chunk k (with_seal n serial) (at_chunk k (λ c. c) (map cut_of cs)) =
+          cuts-at_start schema cs k change (with_seal n serial) cut ∙ sym (at_key-twice (λ (c : Cut). c.chunk) (open_cut k) (with_seal n serial) k (map cut_of cs) refl) in
           let numbers : seals + 1 + commits ≡ seals + commits + 1 = omega arith in
-          λ i. record { schema = schema; stream = new; cuts = cuts i; serials = numbers i; commits = commits }
+          λ i. record { schema = schema; stream = new; cuts = cuts i; serials = numbers i; commits = commits; unparseable = lost; thrown_away = thrown }
       | false ↦ λ h.
           let cut : cut_of (change c) ≡ cut_of c = ap (λ x. cut_of (cond x (with_open_sealed serial row) row)) h in
-          let cuts : map cut_of (at_start change k cs) ≡ at_chunk k (λ c. c) (map cut_of cs) = cuts-at_start cs k change (λ c. c) cut in
+          let cuts : map cut_of (at_start schema change k cs) ≡ at_chunk k (λ c. c) (map cut_of cs) = cuts-at_start schema cs k change (λ c. c) cut in
           let numbers : seals + 0 + commits ≡ seals + commits = omega arith in
-          λ i. record { schema = schema; stream = new; cuts = cuts i; serials = numbers i; commits = commits }
+          λ i. record { schema = schema; stream = new; cuts = cuts i; serials = numbers i; commits = commits; unparseable = lost; thrown_away = thrown }
     ] in
     by_case (full_after schema e cs) refl ∙ ap (λ b. cond b (sealed_at k opened) opened) (sym full)
 
 -- what a contract sees after a seal
-pub state-sealed : (schema : Schema) (ks : List Kind) (es : List Event) (cs : List Chunk) (seals commits : ℕ) (k : ℤ) → Keeps schema ks es cs seals commits
-    → record { schema = schema; stream = es; cuts = map cut_of (at_start (with_open_sealed (seals + commits)) k cs); serials = seals + 1 + commits; commits = commits }
-    ≡ sealed_at k (record { schema = schema; stream = es; cuts = map cut_of cs; serials = seals + commits; commits = commits })
-state-sealed schema ks es cs seals commits k kept =
+pub state-sealed : (schema : Schema) (es : List Event) (cs : List Chunk) (seals commits lost thrown : ℕ) (k : ℤ) → Keeps schema es cs seals commits
+    → record { schema = schema; stream = es; cuts = map cut_of (at_start schema (with_open_sealed (seals + commits)) k cs); serials = seals + 1 + commits; commits = commits; unparseable = lost; thrown_away = thrown }
+    ≡ sealed_at k (record { schema = schema; stream = es; cuts = map cut_of cs; serials = seals + commits; commits = commits; unparseable = lost; thrown_away = thrown })
+state-sealed schema es cs seals commits lost thrown k kept =
     let cuts = cuts-sealed schema es cs k (seals + commits) kept.starts kept.each in
     let numbers : seals + 1 + commits ≡ seals + commits + 1 = omega arith in
-    λ i. record { schema = schema; stream = es; cuts = cuts i; serials = numbers i; commits = commits }
+    λ i. record { schema = schema; stream = es; cuts = cuts i; serials = numbers i; commits = commits; unparseable = lost; thrown_away = thrown }
 
 -- ---- what the calls ask
 
@@ -274,8 +270,8 @@ length-filter p (x ∷ xs) =
     let less = length-filter p xs in
     elim (p x) as (λ b. length (cond b (x ∷ filter p xs) (filter p xs)) ≤ suc (length xs)) [ true ↦ omega arith | false ↦ omega arith ]
 
-pub chunks-fit : (schema : Schema) (es : List Event) (cs : List Chunk) → length es < 18446744073709551615 → AllByRecursion (Holds schema es) cs → AllByRecursion (λ c. AllFit (kinds_of schema) c.rows × (c.events < 18446744073709551615)) cs
+pub chunks-fit : (schema : Schema) (es : List Event) (cs : List Chunk) → length es < 18446744073709551615 → AllByRecursion (Holds schema es) cs → AllByRecursion (λ c. (c.index.schema ≡ schema) × (c.events < 18446744073709551615)) cs
 chunks-fit schema es cs few each = All-same (Holds schema es) _ (λ c h.
     let less = length-filter (λ e. int_eq (chunk schema e) c.start) es in
     let count = h.events in
-    (subst (AllFit (kinds_of schema)) (sym h.open_rows) (AllFit-rolled_up schema _), omega arith)) cs each
+    (ap (λ (x : OpenRows). x.schema) h.index, omega arith)) cs each

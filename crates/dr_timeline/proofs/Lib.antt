@@ -1,5 +1,6 @@
 pub mod Each
 pub mod Places
+pub mod Searching
 pub mod Totals
 pub mod Parts
 pub mod Tiles
@@ -13,6 +14,7 @@ pub mod Matching
 pub mod Pinning
 pub mod Keeping
 pub mod Standing
+pub mod Placing
 pub mod Running
 pub mod CutSteps
 pub mod RawRuns

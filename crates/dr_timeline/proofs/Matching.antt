@@ -27,7 +27,7 @@ use Rattle.dr_query.specs.Selection.{selected}
 use Rattle.dr_query.specs.Groups.{wider, span_of_row, span, bucket, filled, in_bucket, group, groups}
 use Rattle.dr_query.specs.Answer.{answer, answer_of}
 use Rattle.dr_query.specs.Matching.{matches_optional, matches_in, aggregation_matches, is_matching}
-use Rattle.dr_timeline.specs.Unrolled.{unrolled, rolled_up}
+use Rattle.dr_rollup.specs.Unrolled.{unrolled, rolled_up}
 use Rattle.dr_spec.specs.Columns.{kinds_of}
 use Rattle.dr_timeline.specs.Chunks.{chunk, chunk_list, chunks}
 use Rattle.dr_timeline.specs.RawAnswer.{raw_answer}

@@ -2,61 +2,43 @@
 use Rattle.std.proofs.Common.{◌≡◌, ◌∙◌, sym, refl, ap, ℤ, ℕ, ◌+◌, ◌<◌, ◌≤◌, List, [], ◌∷◌, ◌++◌, length, take, drop, get_or, zero, suc, arith}
 use Rattle.std.specs.List.{AllByRecursion}
 use Rattle.std.specs.declared.cmp.Ordering.TheVariants.{Less, Equal, Greater}
-use Rattle.std.specs.Ordering.{int_cmp, match_ordering}
+use Rattle.std.specs.Ordering.{int_cmp}
 use Rattle.std.proofs.Math.ListN.{set}
 use Rattle.std.proofs.lemmas.List.{drop_more, take_more, drop_all, take_all, take-set, drop-set, take-append-drop}
+use Rattle.dr_spec.specs.declared.schema.Schema.{Schema}
 use Rattle.dr_timeline.specs.declared.chunk.Chunk.{Chunk}
 use Rattle.dr_timeline.proofs.Each.{All-push}
 use Rattle.dr_timeline.specs.AtKey.{at_key}
 use Rattle.dr_timeline.specs.Held.{no_chunk, IsBelow, IsFirst, at_start, chunk_at, changed_at}
 
--- one more chunk lies before
-pub passes_more : (cs : List Chunk) (k : ℤ) (c : Chunk) (i : ℕ) → i < length cs → c ≡ get_or cs i c → int_cmp k c.start ≡ Greater
-    → AllByRecursion (λ d. int_cmp k d.start ≡ Greater) (take i cs) → AllByRecursion (λ d. int_cmp k d.start ≡ Greater) (take (i + 1) cs)
-passes_more cs k c i lt is test h =
-    rw (take_more cs i c lt, ← is) (All-push (λ d. int_cmp k d.start ≡ Greater) (take i cs) c h test)
-
-pub below_here : (cs : List Chunk) (k : ℤ) (c : Chunk) (i : ℕ) → i < length cs → c ≡ get_or cs i c → int_cmp k c.start ≡ Less → IsBelow k (drop i cs)
-below_here cs k c i lt is test = rw (drop_more cs i c lt, ← is) test
-
-pub first_here : (cs : List Chunk) (k : ℤ) (c : Chunk) (i : ℕ) → i < length cs → c ≡ get_or cs i c → int_cmp k c.start ≡ Equal → IsFirst k (drop i cs)
-first_here cs k c i lt is test = rw (drop_more cs i c lt, ← is) test
-
-pub below_end : (cs : List Chunk) (k : ℤ) (i : ℕ) → length cs ≤ i → IsBelow k (drop i cs)
-below_end cs k i le = rw (drop_all i cs le) tt
-
-pub passes_all : (cs : List Chunk) (k : ℤ) (i : ℕ) → length cs ≤ i
-    → AllByRecursion (λ d. int_cmp k d.start ≡ Greater) (take i cs) → AllByRecursion (λ d. int_cmp k d.start ≡ Greater) (take (length cs) cs)
-passes_all cs k i le h = let g = rw (take_all i cs le) at h in rw (take_all (length cs) cs (omega arith)) g
-
 -- a change where the chunk is new
-pub at_start-new : (cs : List Chunk) (k : ℤ) (i : ℕ) (change : Chunk → Chunk) → AllByRecursion (λ d. int_cmp k d.start ≡ Greater) (take i cs) → IsBelow k (drop i cs)
-    → at_start change k cs ≡ take i cs ++ (change (no_chunk k) ∷ drop i cs)
+pub at_start-new : (schema : Schema) (cs : List Chunk) (k : ℤ) (i : ℕ) (change : Chunk → Chunk) → AllByRecursion (λ d. int_cmp k d.start ≡ Greater) (take i cs) → IsBelow k (drop i cs)
+    → at_start schema change k cs ≡ take i cs ++ (change (no_chunk schema k) ∷ drop i cs)
 unfolding at_key
-at_start-new [] k zero change before below = refl
-at_start-new (c ∷ cs) k zero change before below = rw below refl
-at_start-new [] k (suc i) change before below = refl
-at_start-new (c ∷ cs) k (suc i) change before below = rw before.0 (ap (λ ds. c ∷ ds) (at_start-new cs k i change before.1 below))
+at_start-new schema [] k zero change before below = refl
+at_start-new schema (c ∷ cs) k zero change before below = rw below refl
+at_start-new schema [] k (suc i) change before below = refl
+at_start-new schema (c ∷ cs) k (suc i) change before below = rw before.0 (ap (λ ds. c ∷ ds) (at_start-new schema cs k i change before.1 below))
 
 -- a change where it stands
-pub at_start-here : (cs : List Chunk) (k : ℤ) (i : ℕ) (change : Chunk → Chunk) (d : Chunk) → i < length cs → AllByRecursion (λ d. int_cmp k d.start ≡ Greater) (take i cs) → IsFirst k (drop i cs)
-    → at_start change k cs ≡ changed_at i change d cs
+pub at_start-here : (schema : Schema) (cs : List Chunk) (k : ℤ) (i : ℕ) (change : Chunk → Chunk) (d : Chunk) → i < length cs → AllByRecursion (λ d. int_cmp k d.start ≡ Greater) (take i cs) → IsFirst k (drop i cs)
+    → at_start schema change k cs ≡ changed_at i change d cs
 unfolding at_key
-at_start-here [] k i change d lt before here = absurd (omega arith)
-at_start-here (c ∷ cs) k zero change d lt before here = rw here refl
-at_start-here (c ∷ cs) k (suc i) change d lt before here = rw before.0 (ap (λ ds. c ∷ ds) (at_start-here cs k i change d (omega arith) before.1 here))
+at_start-here schema [] k i change d lt before here = absurd (omega arith)
+at_start-here schema (c ∷ cs) k zero change d lt before here = rw here refl
+at_start-here schema (c ∷ cs) k (suc i) change d lt before here = rw before.0 (ap (λ ds. c ∷ ds) (at_start-here schema cs k i change d (omega arith) before.1 here))
 
 -- the chunk there
-pub chunk_at-new : (cs : List Chunk) (k : ℤ) (i : ℕ) → AllByRecursion (λ d. int_cmp k d.start ≡ Greater) (take i cs) → IsBelow k (drop i cs) → chunk_at k cs ≡ no_chunk k
-chunk_at-new [] k zero before below = refl
-chunk_at-new (c ∷ cs) k zero before below = rw below refl
-chunk_at-new [] k (suc i) before below = refl
-chunk_at-new (c ∷ cs) k (suc i) before below = rw before.0 (chunk_at-new cs k i before.1 below)
+pub chunk_at-new : (schema : Schema) (cs : List Chunk) (k : ℤ) (i : ℕ) → AllByRecursion (λ d. int_cmp k d.start ≡ Greater) (take i cs) → IsBelow k (drop i cs) → chunk_at schema k cs ≡ no_chunk schema k
+chunk_at-new schema [] k zero before below = refl
+chunk_at-new schema (c ∷ cs) k zero before below = rw below refl
+chunk_at-new schema [] k (suc i) before below = refl
+chunk_at-new schema (c ∷ cs) k (suc i) before below = rw before.0 (chunk_at-new schema cs k i before.1 below)
 
-pub chunk_at-here : (cs : List Chunk) (k : ℤ) (i : ℕ) (d : Chunk) → i < length cs → AllByRecursion (λ d. int_cmp k d.start ≡ Greater) (take i cs) → IsFirst k (drop i cs) → chunk_at k cs ≡ get_or cs i d
-chunk_at-here [] k i d lt before here = absurd (omega arith)
-chunk_at-here (c ∷ cs) k zero d lt before here = rw here refl
-chunk_at-here (c ∷ cs) k (suc i) d lt before here = rw before.0 (chunk_at-here cs k i d (omega arith) before.1 here)
+pub chunk_at-here : (schema : Schema) (cs : List Chunk) (k : ℤ) (i : ℕ) (d : Chunk) → i < length cs → AllByRecursion (λ d. int_cmp k d.start ≡ Greater) (take i cs) → IsFirst k (drop i cs) → chunk_at schema k cs ≡ get_or cs i d
+chunk_at-here schema [] k i d lt before here = absurd (omega arith)
+chunk_at-here schema (c ∷ cs) k zero d lt before here = rw here refl
+chunk_at-here schema (c ∷ cs) k (suc i) d lt before here = rw before.0 (chunk_at-here schema cs k i d (omega arith) before.1 here)
 
 pub set-parts : {A : Type 0} (xs : List A) (i : ℕ) (v : A) → i < length xs → set xs i v ≡ take i xs ++ (v ∷ drop (i + 1) xs)
 set-parts xs i v lt =

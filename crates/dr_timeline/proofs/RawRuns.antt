@@ -18,7 +18,7 @@ use Rattle.dr_timeline.specs.declared.step.Step.{Step}
 use Rattle.dr_timeline.specs.declared.step.Step.TheVariants.{Accept, Seal, Plan, Commit, Pin, Ask, Audit}
 use Rattle.dr_timeline.specs.declared.reply.Reply.{Reply}
 use Rattle.dr_timeline.specs.declared.reply.Reply.TheVariants.{Accepted, Sealed, Job as JobGiven, Committed, Pinned as PinGiven, Answer, Refused, NoSuch}
-use Rattle.dr_timeline.specs.Unrolled.{rolled_up}
+use Rattle.dr_rollup.specs.Unrolled.{rolled_up}
 use Rattle.dr_timeline.specs.Chunks.{chunk, chunk_list, chunks, values_onto}
 use Rattle.dr_timeline.specs.RawAnswer.{raw_answer}
 use Rattle.dr_timeline.specs.State.{State, Cut, AreCuts, empty_state}

@@ -13,7 +13,7 @@ use Rattle.dr_timeline.specs.declared.job.Job.{Job}
 use Rattle.dr_timeline.specs.declared.timeline_error.TimelineError.{TimelineError}
 use Rattle.dr_timeline.specs.declared.timeline_error.TimelineError.TheVariants.{NoMemory, StreamFull, NothingToSeal, NoSuchRange, Stale, CommitsFull}
 use Rattle.dr_timeline.specs.Refusal.{number_of}
-use Rattle.dr_timeline.specs.Unrolled.{rolled_up}
+use Rattle.dr_rollup.specs.Unrolled.{rolled_up}
 use Rattle.dr_timeline.specs.Chunks.{chunk}
 use Rattle.dr_timeline.specs.State.{State}
 use Rattle.dr_timeline.specs.Steps.{accepted, with_event, sealed_at, open_in, StandsAt, Commits}

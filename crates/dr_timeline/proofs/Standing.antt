@@ -1,32 +1,29 @@
 -- Jobs over the sealed ranges of a chunk.
-use Rattle.std.proofs.Common.{◌≡◌, ◌∙◌, sym, refl, ap, subst, ℕ, ℤ, suc, ◌+◌, ◌-◌, ◌<◌, ◌≤◌, List, [], ◌∷◌, ◌++◌, length, map, take, drop, arith}
+use Rattle.std.proofs.Common.{◌≡◌, ◌∙◌, sym, refl, ap, subst, ℕ, ℤ, ◌+◌, ◌-◌, ◌<◌, ◌≤◌, List, [], ◌∷◌, ◌++◌, length, map, take, drop, arith}
 use Rattle.std.specs.List.{AllByRecursion}
 use Rattle.std.specs.declared.cmp.Ordering.TheVariants.{Greater}
 use Rattle.std.specs.Ordering.{int_cmp}
 use Rattle.std.proofs.lemmas.List.{map-append, drop-map, take-map, length-map, length-take, length-drop, take-append-drop, drop-drop}
 use Rattle.dr_base.specs.declared.event.Event.{Event}
-use Rattle.dr_agg.specs.declared.kind.Kind.{Kind}
 use Rattle.dr_agg.specs.Rollup.{AllFit}
 use Rattle.dr_spec.specs.Columns.{kinds_of}
 use Rattle.dr_spec.specs.declared.schema.Schema.{Schema}
 use Rattle.dr_timeline.specs.declared.chunk.Chunk.{Chunk}
-use Rattle.dr_timeline.specs.declared.fragment.Fragment.{Fragment}
 use Rattle.dr_timeline.specs.declared.job.Job.{Job}
-use Rattle.dr_timeline.specs.declared.purpose.Purpose.{Purpose}
 use Rattle.dr_timeline.specs.declared.sealed_range.SealedRange.{SealedRange}
-use Rattle.dr_timeline.specs.Chunks.{chunk_list, chunks}
-use Rattle.dr_timeline.specs.State.{State, Range, Cut, sealed_in, open_from}
-use Rattle.dr_timeline.specs.Joined.{joined, joined_fragment, FitsJob}
-use Rattle.dr_timeline.specs.Steps.{fragment_of, ranges_at, job_of, StandsAt, least_version, joined_range, replaced, committed, at_chunk}
-use Rattle.dr_timeline.specs.Held.{range_of, ranges_of, cut_of, Holds, HasFewRows, Keeps, StandsIn, with_range, at_start, chunk_at, open_count, total_open, IsFirst}
+use Rattle.dr_timeline.specs.Chunks.{chunks}
+use Rattle.dr_timeline.specs.State.{State, Range, sealed_in, open_from}
+use Rattle.dr_timeline.specs.Joined.{joined, joined_fragment}
+use Rattle.dr_timeline.specs.Steps.{fragment_of, ranges_at, StandsAt, joined_range, replaced, committed}
+use Rattle.dr_timeline.specs.Held.{range_of, ranges_of, cut_of, Holds, HasFewRows, Keeps, StandsIn, with_range, at_start, chunk_at, open_count, IsFirst}
 use Rattle.dr_timeline.proofs.Each.{All-left, All-right}
 use Rattle.dr_timeline.proofs.Holding.{AllFit-rolled_up, holds-replaced}
 use Rattle.dr_timeline.proofs.Changes.{cuts-at_start, sealed_in-cuts, starts-here, total-at_start, All-at_start, All-chunk_at}
 use Rattle.dr_timeline.proofs.Keeping.{holds-chunk_at, rising-starts}
 
 -- what a contract sees of kept chunks
-abbrev pub seen : Schema → List Event → List Chunk → ℕ → ℕ → State
-seen schema es cs serials commits = record { schema = schema; stream = es; cuts = map cut_of cs; serials = serials; commits = commits }
+abbrev pub seen : Schema → List Event → List Chunk → (serials commits lost thrown : ℕ) → State
+seen schema es cs serials commits lost thrown = record { schema = schema; stream = es; cuts = map cut_of cs; serials = serials; commits = commits; unparseable = lost; thrown_away = thrown }
 
 All-part : {A : Type 0} (P : A → Type 0) (xs : List A) (place count : ℕ) → AllByRecursion P xs → AllByRecursion P (take count (drop place xs))
 All-part P xs place count h =
@@ -47,28 +44,28 @@ inputs-of schema es k [] h = refl
 inputs-of schema es k (s ∷ ss) h = λ i. (sym h.0) i ∷ inputs-of schema es k ss h.1 i
 
 -- the sealed ranges that a state shows of a chunk
-pub shown-part : (schema : Schema) (es : List Event) (cs : List Chunk) (serials commits : ℕ) (k : ℤ) (c : Chunk) (place count : ℕ) → chunk_at k cs ≡ c
-    → ranges_at (seen schema es cs serials commits) k place count ≡ map range_of (take count (drop place c.sealed))
-shown-part schema es cs serials commits k c place count here =
-    ap (λ rs. take count (drop place rs)) (sealed_in-cuts cs k ∙ ap ranges_of here) ∙ part-ranges c.sealed place count
+pub shown-part : (schema : Schema) (es : List Event) (cs : List Chunk) (serials commits lost thrown : ℕ) (k : ℤ) (c : Chunk) (place count : ℕ) → chunk_at schema k cs ≡ c
+    → ranges_at (seen schema es cs serials commits lost thrown) k place count ≡ map range_of (take count (drop place c.sealed))
+shown-part schema es cs serials commits lost thrown k c place count here =
+    ap (λ rs. take count (drop place rs)) (sealed_in-cuts schema cs k ∙ ap ranges_of here) ∙ part-ranges c.sealed place count
 
-pub shown-serials : (schema : Schema) (es : List Event) (cs : List Chunk) (serials commits : ℕ) (k : ℤ) (c : Chunk) (place count : ℕ) → chunk_at k cs ≡ c
-    → map (λ r. r.serial) (ranges_at (seen schema es cs serials commits) k place count) ≡ map (λ s. s.serial) (take count (drop place c.sealed))
-shown-serials schema es cs serials commits k c place count here =
-    ap (map (λ r. r.serial)) (shown-part schema es cs serials commits k c place count here) ∙ serials-of (take count (drop place c.sealed))
+pub shown-serials : (schema : Schema) (es : List Event) (cs : List Chunk) (serials commits lost thrown : ℕ) (k : ℤ) (c : Chunk) (place count : ℕ) → chunk_at schema k cs ≡ c
+    → map (λ r. r.serial) (ranges_at (seen schema es cs serials commits lost thrown) k place count) ≡ map (λ s. s.serial) (take count (drop place c.sealed))
+shown-serials schema es cs serials commits lost thrown k c place count here =
+    ap (map (λ r. r.serial)) (shown-part schema es cs serials commits lost thrown k c place count here) ∙ serials-of (take count (drop place c.sealed))
 
-pub shown-inputs : (schema : Schema) (es : List Event) (cs : List Chunk) (serials commits : ℕ) (k : ℤ) (c : Chunk) (place count : ℕ) → chunk_at k cs ≡ c → map (λ c. c.start) cs ≡ chunks schema es → AllByRecursion (Holds schema es) cs
-    → map (fragment_of schema es k) (ranges_at (seen schema es cs serials commits) k place count) ≡ map (λ s. s.fragment) (take count (drop place c.sealed))
-shown-inputs schema es cs serials commits k c place count here starts each =
+pub shown-inputs : (schema : Schema) (es : List Event) (cs : List Chunk) (serials commits lost thrown : ℕ) (k : ℤ) (c : Chunk) (place count : ℕ) → chunk_at schema k cs ≡ c → map (λ c. c.start) cs ≡ chunks schema es → AllByRecursion (Holds schema es) cs
+    → map (fragment_of schema es k) (ranges_at (seen schema es cs serials commits lost thrown) k place count) ≡ map (λ s. s.fragment) (take count (drop place c.sealed))
+shown-inputs schema es cs serials commits lost thrown k c place count here starts each =
     let held = holds-chunk_at schema es cs k starts each in
     let start : c.start ≡ k = ap (λ (d : Chunk). d.start) (sym here) ∙ held.1 in
     let sealed : AllByRecursion (λ s. s.fragment ≡ fragment_of schema es k (range_of s)) c.sealed =
     subst (λ (j : ℤ). AllByRecursion (λ s. s.fragment ≡ fragment_of schema es j (range_of s)) c.sealed) start (subst (Holds schema es) here held.0).sealed in
-    ap (map (fragment_of schema es k)) (shown-part schema es cs serials commits k c place count here)
+    ap (map (fragment_of schema es k)) (shown-part schema es cs serials commits lost thrown k c place count here)
     ∙ inputs-of schema es k (take count (drop place c.sealed)) (All-part (λ s. s.fragment ≡ fragment_of schema es k (range_of s)) c.sealed place count sealed)
 
-pub shown-length : (schema : Schema) (es : List Event) (cs : List Chunk) (serials commits : ℕ) (k : ℤ) (c : Chunk) → chunk_at k cs ≡ c → length (sealed_in k (seen schema es cs serials commits).cuts) ≡ length c.sealed
-shown-length schema es cs serials commits k c here = ap (λ rs. length rs) (sealed_in-cuts cs k ∙ ap ranges_of here) ∙ length-map c.sealed range_of
+pub shown-length : (schema : Schema) (es : List Event) (cs : List Chunk) (serials commits lost thrown : ℕ) (k : ℤ) (c : Chunk) → chunk_at schema k cs ≡ c → length (sealed_in k (seen schema es cs serials commits lost thrown).cuts) ≡ length c.sealed
+shown-length schema es cs serials commits lost thrown k c here = ap (λ rs. length rs) (sealed_in-cuts schema cs k ∙ ap ranges_of here) ∙ length-map c.sealed range_of
 
 -- the rows of planned inputs fit the schema
 pub fits-fragments : (schema : Schema) (es : List Event) (k : ℤ) (rs : List Range) → AllByRecursion (λ f. AllFit (kinds_of schema) f.rows) (map (fragment_of schema es k) rs)
@@ -76,22 +73,22 @@ fits-fragments schema es k [] = tt
 fits-fragments schema es k (r ∷ rs) = (AllFit-rolled_up schema _, fits-fragments schema es k rs)
 
 -- a job stands among the sealed ranges that are kept just where it stands among those that a contract sees
-pub stands-at : (schema : Schema) (es : List Event) (cs : List Chunk) (serials commits : ℕ) (job : Job) (c : Chunk) (place : ℕ) → chunk_at job.chunk cs ≡ c → map (λ c. c.start) cs ≡ chunks schema es → AllByRecursion (Holds schema es) cs
-    → StandsIn c.sealed job place → StandsAt (seen schema es cs serials commits) job place
-stands-at schema es cs serials commits job c place here starts each stands = record {
+pub stands-at : (schema : Schema) (es : List Event) (cs : List Chunk) (serials commits lost thrown : ℕ) (job : Job) (c : Chunk) (place : ℕ) → chunk_at schema job.chunk cs ≡ c → map (λ c. c.start) cs ≡ chunks schema es → AllByRecursion (Holds schema es) cs
+    → StandsIn c.sealed job place → StandsAt (seen schema es cs serials commits lost thrown) job place
+stands-at schema es cs serials commits lost thrown job c place here starts each stands = record {
   some = stands.some;
-  within = subst (λ (n : ℕ). place + length job.inputs ≤ n) (sym (shown-length schema es cs serials commits job.chunk c here)) stands.within;
-  serials = shown-serials schema es cs serials commits job.chunk c place (length job.inputs) here ∙ stands.serials;
-  inputs = shown-inputs schema es cs serials commits job.chunk c place (length job.inputs) here starts each ∙ stands.inputs;
+  within = subst (λ (n : ℕ). place + length job.inputs ≤ n) (sym (shown-length schema es cs serials commits lost thrown job.chunk c here)) stands.within;
+  serials = shown-serials schema es cs serials commits lost thrown job.chunk c place (length job.inputs) here ∙ stands.serials;
+  inputs = shown-inputs schema es cs serials commits lost thrown job.chunk c place (length job.inputs) here starts each ∙ stands.inputs;
 }
 
-pub stands-in : (schema : Schema) (es : List Event) (cs : List Chunk) (serials commits : ℕ) (job : Job) (c : Chunk) (place : ℕ) → chunk_at job.chunk cs ≡ c → map (λ c. c.start) cs ≡ chunks schema es → AllByRecursion (Holds schema es) cs
-    → StandsAt (seen schema es cs serials commits) job place → StandsIn c.sealed job place
-stands-in schema es cs serials commits job c place here starts each stands = record {
+pub stands-in : (schema : Schema) (es : List Event) (cs : List Chunk) (serials commits lost thrown : ℕ) (job : Job) (c : Chunk) (place : ℕ) → chunk_at schema job.chunk cs ≡ c → map (λ c. c.start) cs ≡ chunks schema es → AllByRecursion (Holds schema es) cs
+    → StandsAt (seen schema es cs serials commits lost thrown) job place → StandsIn c.sealed job place
+stands-in schema es cs serials commits lost thrown job c place here starts each stands = record {
   some = stands.some;
-  within = subst (λ (n : ℕ). place + length job.inputs ≤ n) (shown-length schema es cs serials commits job.chunk c here) stands.within;
-  serials = sym (shown-serials schema es cs serials commits job.chunk c place (length job.inputs) here) ∙ stands.serials;
-  inputs = sym (shown-inputs schema es cs serials commits job.chunk c place (length job.inputs) here starts each) ∙ stands.inputs;
+  within = subst (λ (n : ℕ). place + length job.inputs ≤ n) (shown-length schema es cs serials commits lost thrown job.chunk c here) stands.within;
+  serials = sym (shown-serials schema es cs serials commits lost thrown job.chunk c place (length job.inputs) here) ∙ stands.serials;
+  inputs = sym (shown-inputs schema es cs serials commits lost thrown job.chunk c place (length job.inputs) here starts each) ∙ stands.inputs;
 }
 
 -- ---- a merge
@@ -113,7 +110,7 @@ part-length ss place count le =
     omega arith
 
 -- the new range stands for the inputs of the job
-pub merged-holds : (schema : Schema) (es : List Event) (cs : List Chunk) (job : Job) (c : Chunk) (place : ℕ) (new : SealedRange) → chunk_at job.chunk cs ≡ c → map (λ c. c.start) cs ≡ chunks schema es → AllByRecursion (Holds schema es) cs
+pub merged-holds : (schema : Schema) (es : List Event) (cs : List Chunk) (job : Job) (c : Chunk) (place : ℕ) (new : SealedRange) → chunk_at schema job.chunk cs ≡ c → map (λ c. c.start) cs ≡ chunks schema es → AllByRecursion (Holds schema es) cs
     → StandsIn c.sealed job place → new.fragment ≡ joined_fragment schema job
     → Holds schema es (with_range place (length job.inputs) new c) × (open_from (ranges_of (with_range place (length job.inputs) new c)) ≡ open_from (ranges_of c))
 merged-holds schema es cs job c place new here starts each stands is =
@@ -124,41 +121,40 @@ merged-holds schema es cs job c place new here starts each stands is =
     joined-holds schema es c place (length job.inputs) (take (length job.inputs) (drop place c.sealed)) new refl (omega arith) (subst (Holds schema es) here held.0)
     (is ∙ (λ i. joined schema ((sym start) i) ((sym stands.inputs) i)))
 
-pub keeps-merged : (schema : Schema) (ks : List Kind) (es : List Event) (cs : List Chunk) (seals commits : ℕ) (job : Job) (c : Chunk) (i place : ℕ) (new : SealedRange) → Keeps schema ks es cs seals commits → chunk_at job.chunk cs ≡ c
+pub keeps-merged : (schema : Schema) (es : List Event) (cs : List Chunk) (seals commits : ℕ) (job : Job) (c : Chunk) (i place : ℕ) (new : SealedRange) → Keeps schema es cs seals commits → chunk_at schema job.chunk cs ≡ c
     → i < length cs → AllByRecursion (λ d. int_cmp job.chunk d.start ≡ Greater) (take i cs) → IsFirst job.chunk (drop i cs)
     → StandsIn c.sealed job place → new.fragment ≡ joined_fragment schema job → commits < schema.limits.max_commits
-    → Keeps schema ks es (at_start (with_range place (length job.inputs) new) job.chunk cs) seals (commits + 1)
-keeps-merged schema ks es cs seals commits job c i place new kept there lt before here stands is room =
+    → Keeps schema es (at_start schema (with_range place (length job.inputs) new) job.chunk cs) seals (commits + 1)
+keeps-merged schema es cs seals commits job c i place new kept there lt before here stands is room =
     let change : Chunk → Chunk = with_range place (length job.inputs) new in
     let rising = rising-starts schema es cs kept.starts in
     let merged = merged-holds schema es cs job c place new there kept.starts kept.each stands is in
-    let few : HasFewRows schema (chunk_at job.chunk cs) = (All-chunk_at (HasFewRows schema) cs job.chunk kept.few (λ none. kept.formed.limits.some_rows) rising).0 in
-    let total = total-at_start cs job.chunk change in
-    let same : open_count (change (chunk_at job.chunk cs)) ≡ open_count (chunk_at job.chunk cs) = ap (λ (d : Chunk). open_count (change d)) there ∙ ap (λ n. c.events - n) merged.1 ∙ ap open_count (sym there) in
+    let few : HasFewRows schema (chunk_at schema job.chunk cs) = (All-chunk_at schema (HasFewRows schema) cs job.chunk kept.few (λ none. kept.formed.limits.some_rows) rising).0 in
+    let total = total-at_start schema cs job.chunk change in
+    let same : open_count (change (chunk_at schema job.chunk cs)) ≡ open_count (chunk_at schema job.chunk cs) = ap (λ (d : Chunk). open_count (change d)) there ∙ ap (λ n. c.events - n) merged.1 ∙ ap open_count (sym there) in
     let so_far = kept.seals in
     record {
       formed = kept.formed;
-      kinds = kept.kinds;
       fit = kept.fit;
-      starts = starts-here cs job.chunk i change (λ d. refl) lt before here ∙ kept.starts;
-      each = All-at_start (Holds schema es) (Holds schema es) cs job.chunk change (λ d e h. h) (subst (λ (d : Chunk). Holds schema es (change d)) (sym there) merged.0) kept.each rising;
-      few = All-at_start (HasFewRows schema) (HasFewRows schema) cs job.chunk change (λ d e h. h) few kept.few rising;
+      starts = starts-here schema cs job.chunk i change (λ d. refl) lt before here ∙ kept.starts;
+      each = All-at_start schema (Holds schema es) (Holds schema es) cs job.chunk change (λ d e h. h) (subst (λ (d : Chunk). Holds schema es (change d)) (sym there) merged.0) kept.each rising;
+      few = All-at_start schema (HasFewRows schema) (HasFewRows schema) cs job.chunk change (λ d e h. h) few kept.few rising;
       seals = omega arith;
       commits = omega arith;
     }
 
 -- what a contract sees after a merge
-pub state-merged : (schema : Schema) (ks : List Kind) (es : List Event) (cs : List Chunk) (seals commits : ℕ) (job : Job) (c : Chunk) (place : ℕ) (new : SealedRange) → Keeps schema ks es cs seals commits → chunk_at job.chunk cs ≡ c
-    → range_of new ≡ joined_range (seen schema es cs (seals + commits) commits) job place
-    → seen schema es (at_start (with_range place (length job.inputs) new) job.chunk cs) (seals + (commits + 1)) (commits + 1) ≡ committed (seen schema es cs (seals + commits) commits) job place
-state-merged schema ks es cs seals commits job c place new kept there is =
-    let before : State = seen schema es cs (seals + commits) commits in
+pub state-merged : (schema : Schema) (es : List Event) (cs : List Chunk) (seals commits lost thrown : ℕ) (job : Job) (c : Chunk) (place : ℕ) (new : SealedRange) → Keeps schema es cs seals commits → chunk_at schema job.chunk cs ≡ c
+    → range_of new ≡ joined_range (seen schema es cs (seals + commits) commits lost thrown) job place
+    → seen schema es (at_start schema (with_range place (length job.inputs) new) job.chunk cs) (seals + (commits + 1)) (commits + 1) lost thrown ≡ committed (seen schema es cs (seals + commits) commits lost thrown) job place
+state-merged schema es cs seals commits lost thrown job c place new kept there is =
+    let before : State = seen schema es cs (seals + commits) commits lost thrown in
     let count : ℕ = length job.inputs in
-    let d : Chunk = chunk_at job.chunk cs in
+    let d : Chunk = chunk_at schema job.chunk cs in
     let sealed : map range_of (take place d.sealed ++ (new ∷ drop (place + count) d.sealed)) ≡ take place (ranges_of d) ++ (joined_range before job place ∷ drop (place + count) (ranges_of d)) =
     map-append range_of (take place d.sealed) (new ∷ drop (place + count) d.sealed)
     ∙ (λ i. (sym (take-map range_of place d.sealed)) i ++ (is i ∷ (sym (drop-map range_of (place + count) d.sealed)) i)) in
-    let cuts = cuts-at_start cs job.chunk (with_range place count new) (replaced place count (joined_range before job place))
+    let cuts = cuts-at_start schema cs job.chunk (with_range place count new) (replaced place count (joined_range before job place))
     (ap (λ (rs : List Range). record { chunk = d.start; sealed = rs; publications = d.publications }) sealed) in
     let numbers : seals + (commits + 1) ≡ seals + commits + 1 = omega arith in
-    λ i. record { schema = schema; stream = es; cuts = cuts i; serials = numbers i; commits = commits + 1 }
+    λ i. record { schema = schema; stream = es; cuts = cuts i; serials = numbers i; commits = commits + 1; unparseable = lost; thrown_away = thrown }

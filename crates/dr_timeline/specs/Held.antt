@@ -5,11 +5,8 @@ use Rattle.std.specs.Ordering.{int_cmp}
 use Rattle.std.specs.declared.cmp.Ordering.TheVariants.{Less, Equal, Greater}
 use Rattle.dr_base.specs.declared.event.Event.{Event}
 use Rattle.dr_base.specs.declared.row.Row.{Row}
-use Rattle.dr_agg.specs.declared.kind.Kind.{Kind}
-use Rattle.dr_agg.specs.Rollup.{add_row, AllFit}
 use Rattle.dr_events.specs.Fits.{FitsSchema}
 use Rattle.dr_spec.specs.WellFormed.{IsWellFormed}
-use Rattle.dr_spec.specs.Columns.{kinds_of}
 use Rattle.dr_spec.specs.declared.schema.Schema.{Schema}
 use Rattle.dr_timeline.specs.declared.chunk.Chunk.{Chunk}
 use Rattle.dr_timeline.specs.declared.job.Job.{Job}
@@ -18,10 +15,11 @@ use Rattle.dr_timeline.specs.declared.place.Place.TheVariants.{At, Before}
 use Rattle.dr_timeline.specs.declared.fragment.Fragment.{Fragment}
 use Rattle.dr_timeline.specs.declared.range_info.RangeInfo.{RangeInfo}
 use Rattle.dr_timeline.specs.declared.sealed_range.SealedRange.{SealedRange}
-use Rattle.dr_timeline.specs.Unrolled.{rolled_up}
+use Rattle.dr_rollup.specs.Unrolled.{rolled_up}
+use Rattle.dr_rollup.specs.OpenRows.{OpenRows, rows_with, with_rows}
 use Rattle.dr_timeline.specs.Chunks.{chunk_list, chunks}
 use Rattle.dr_timeline.specs.AtKey.{at_key, item_at}
-use Rattle.dr_timeline.specs.State.{Range, Cut, State, Tile, open_from, open_events}
+use Rattle.dr_timeline.specs.State.{Range, Cut, Tile, open_from, open_events}
 use Rattle.dr_timeline.specs.Steps.{fragment_of}
 
 -- what a contract sees of a sealed range, of those of a chunk, and of a chunk
@@ -34,16 +32,20 @@ ranges_of c = map range_of c.sealed
 abbrev pub cut_of : Chunk → Cut
 cut_of c = record { chunk = c.start; sealed = ranges_of c; publications = c.publications }
 
+-- the index of an open range with these rows
+abbrev pub index_of : Schema → List Row → OpenRows
+index_of schema rows = record { schema = schema; limit = schema.limits.max_rows_in_memory; rows = rows }
+
 -- the chunk holds the rows of its ranges
 pub record Holds (schema : Schema) (es : List Event) (c : Chunk) : Type 0 where
   pub events : c.events ≡ length (chunk_list schema es c.start)
   pub tiled : Tile 0 c.events (ranges_of c)
   pub sealed : AllByRecursion (λ s. s.fragment ≡ fragment_of schema es c.start (range_of s)) c.sealed
-  pub open_rows : c.rows ≡ rolled_up schema (open_events (chunk_list schema es c.start) (ranges_of c))
+  pub index : c.index ≡ index_of schema (rolled_up schema (open_events (chunk_list schema es c.start) (ranges_of c)))
 
 -- its open range has fewer rows than are held in memory
 abbrev pub HasFewRows : Schema → Chunk → Type 0
-HasFewRows schema c = length c.rows < schema.limits.max_rows_in_memory
+HasFewRows schema c = length c.index.rows < schema.limits.max_rows_in_memory
 
 -- how many events of a chunk are in its open range
 abbrev pub open_count : Chunk → ℕ
@@ -53,10 +55,9 @@ abbrev pub total_open : List Chunk → ℕ
 total_open [] = 0
 total_open (c ∷ cs) = open_count c + total_open cs
 
--- the kinds are those of the schema, and the chunks those of the events, which fit it; a seal takes at least one event
-pub record Keeps (schema : Schema) (ks : List Kind) (es : List Event) (cs : List Chunk) (seal_count commit_count : ℕ) : Type 0 where
+-- the chunks are those of the events, which fit the schema; a seal takes at least one event
+pub record Keeps (schema : Schema) (es : List Event) (cs : List Chunk) (seal_count commit_count : ℕ) : Type 0 where
   pub formed : IsWellFormed schema
-  pub kinds : ks ≡ kinds_of schema
   pub fit : AllByRecursion (FitsSchema schema) es
   pub starts : map (λ c. c.start) cs ≡ chunks schema es
   pub each : AllByRecursion (Holds schema es) cs
@@ -65,16 +66,16 @@ pub record Keeps (schema : Schema) (ks : List Kind) (es : List Event) (cs : List
   pub commits : commit_count ≤ schema.limits.max_commits
 
 -- a chunk without events
-abbrev pub no_chunk : ℤ → Chunk
-no_chunk k = record { start = k; events = 0; sealed = []; publications = 0; rows = [] }
+abbrev pub no_chunk : Schema → ℤ → Chunk
+no_chunk schema k = record { start = k; events = 0; sealed = []; publications = 0; index = index_of schema [] }
 
--- a chunk with one more row in its open range
-abbrev pub with_row : Bool → List Kind → Row → Chunk → Chunk
-with_row combines kinds r c = record { start = c.start; events = c.events + 1; sealed = c.sealed; publications = c.publications; rows = add_row combines kinds c.rows r }
+-- a chunk with one more event in its open range
+abbrev pub with_one : Event → Chunk → Chunk
+with_one e c = record c { events = c.events + 1; index = with_rows c.index (rows_with c.index e) }
 
 -- the open range of a chunk with its rows
 abbrev pub open_fragment : Chunk → Fragment
-open_fragment c = record { chunk = c.start; from = open_from (ranges_of c); to = c.events; rows = c.rows }
+open_fragment c = record { chunk = c.start; from = open_from (ranges_of c); to = c.events; rows = c.index.rows }
 
 -- a sealed range as a snapshot shows it
 abbrev pub info_of : SealedRange → RangeInfo
@@ -86,7 +87,7 @@ has_open c = nat_lt (open_from (ranges_of c)) c.events
 
 -- the open range as a snapshot shows it
 abbrev pub open_info_of : Chunk → RangeInfo
-open_info_of c = record { chunk = c.start; from = open_from (ranges_of c); to = c.events; version = 0; rows = length c.rows; sealed = false }
+open_info_of c = record { chunk = c.start; from = open_from (ranges_of c); to = c.events; version = 0; rows = length c.index.rows; sealed = false }
 
 -- the ranges of a chunk as a snapshot shows them, and with their rows
 abbrev pub infos_of_chunk : Chunk → List RangeInfo
@@ -102,42 +103,42 @@ with_sealed_rows serial events rows c = record {
   events = events;
   sealed = c.sealed ++ record { serial = serial; version = 0; fragment = record { chunk = c.start; from = open_from (ranges_of c); to = events; rows = rows } } ∷ [];
   publications = c.publications;
-  rows = [];
+  index = with_rows c.index [];
 }
 
 abbrev pub with_open_sealed : ℕ → Chunk → Chunk
-with_open_sealed serial c = with_sealed_rows serial c.events c.rows c
+with_open_sealed serial c = with_sealed_rows serial c.events c.index.rows c
 
 -- the open range holds as many rows as it may
-abbrev pub is_full : ℕ → Chunk → Bool
-is_full limit c = nat_le limit (length c.rows)
+abbrev pub is_full : Chunk → Bool
+is_full c = nat_le c.index.limit (length c.index.rows)
 
 -- so many ranges are sealed
 abbrev pub seals_of : Bool → ℕ
 seals_of full = if full then 1 else 0
 
-abbrev pub sealed_if_full : ℕ → ℕ → Chunk → Chunk
-sealed_if_full limit serial c = if is_full limit c then with_open_sealed serial c else c
+abbrev pub sealed_if_full : ℕ → Chunk → Chunk
+sealed_if_full serial c = if is_full c then with_open_sealed serial c else c
 
 -- a chunk with one more event
-abbrev pub grown : Bool → List Kind → ℕ → ℕ → Row → Chunk → Chunk
-grown combines kinds limit serial r c = sealed_if_full limit serial (with_row combines kinds r c)
+abbrev pub grown : ℕ → Event → Chunk → Chunk
+grown serial e c = sealed_if_full serial (with_one e c)
 
 -- a range in the place of so many sealed ones, from a place on
 abbrev pub with_range : ℕ → ℕ → SealedRange → Chunk → Chunk
-with_range place count range c = record { start = c.start; events = c.events; sealed = take place c.sealed ++ (range ∷ drop (place + count) c.sealed); publications = c.publications; rows = c.rows }
+with_range place count range c = record c { sealed = take place c.sealed ++ (range ∷ drop (place + count) c.sealed) }
 
 -- the chunks with the one at a place changed
 abbrev pub changed_at : ℕ → (Chunk → Chunk) → Chunk → List Chunk → List Chunk
 changed_at place change d cs = take place cs ++ (change (get_or cs place d) ∷ drop (suc place) cs)
 
 -- the chunk that starts so, changed; it may be new
-abbrev pub at_start : (Chunk → Chunk) → ℤ → List Chunk → List Chunk
-at_start change k cs = at_key (λ c. c.start) (no_chunk k) change k cs
+abbrev pub at_start : Schema → (Chunk → Chunk) → ℤ → List Chunk → List Chunk
+at_start schema change k cs = at_key (λ c. c.start) (no_chunk schema k) change k cs
 
 -- the chunk that starts so; where there is none, one without events
-abbrev pub chunk_at : ℤ → List Chunk → Chunk
-chunk_at k cs = item_at (λ c. c.start) (no_chunk k) k cs
+abbrev pub chunk_at : Schema → ℤ → List Chunk → Chunk
+chunk_at schema k cs = item_at (λ c. c.start) (no_chunk schema k) k cs
 
 -- the job's ranges stand at that place among the sealed ranges of its chunk
 pub record StandsIn (sealed : List SealedRange) (job : Job) (place : ℕ) : Type 0 where

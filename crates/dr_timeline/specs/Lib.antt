@@ -1,10 +1,12 @@
 pub mod Refusal
-pub mod Unrolled
 pub mod Chunks
 pub mod AtKey
 pub mod State
 pub mod Joined
 pub mod Steps
+pub mod Standing
+pub mod Stepping
+pub mod Noted
 pub mod Segments
 pub mod RawAnswer
 pub mod Laws

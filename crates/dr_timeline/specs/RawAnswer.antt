@@ -5,7 +5,7 @@ use Rattle.dr_spec.specs.declared.schema.Schema.{Schema}
 use Rattle.dr_query.specs.declared.query.Query.{Query}
 use Rattle.dr_query.specs.declared.answer_error.AnswerError.{AnswerError}
 use Rattle.dr_query.specs.Answer.{answer}
-use Rattle.dr_timeline.specs.Unrolled.{unrolled}
+use Rattle.dr_rollup.specs.Unrolled.{unrolled}
 
 -- the answer over the events, each as a row of its own: truncated, filtered, grouped and folded one by one
 abbrev pub raw_answer : Schema → Query → List Event → Result (List ℕ) AnswerError

@@ -1,5 +1,5 @@
 -- The numbers and names of the refusals of a timeline.
-use Rattle.std.specs.Prelude.{ℕ, List, codes}
+use Rattle.std.specs.Prelude.{ℕ, List, Bool, true, false, codes}
 use Rattle.dr_timeline.specs.declared.timeline_error.TimelineError.{TimelineError}
 use Rattle.dr_timeline.specs.declared.timeline_error.TimelineError.TheVariants.{NoMemory, StreamFull, NothingToSeal, NoSuchRange, Stale, CommitsFull}
 
@@ -18,3 +18,12 @@ name_of NothingToSeal = codes "NothingToSeal"
 name_of NoSuchRange = codes "NoSuchRange"
 name_of Stale = codes "Stale"
 name_of CommitsFull = codes "CommitsFull"
+
+-- memory ran out
+abbrev pub is_memory : TimelineError → Bool
+is_memory NoMemory = true
+is_memory StreamFull = false
+is_memory NothingToSeal = false
+is_memory NoSuchRange = false
+is_memory Stale = false
+is_memory CommitsFull = false

@@ -5,9 +5,9 @@ use Rattle.dr_base.specs.declared.event.Event.{Event}
 use Rattle.dr_base.specs.declared.row.Row.{Row}
 use Rattle.dr_spec.specs.declared.schema.Schema.{Schema}
 use Rattle.dr_timeline.specs.declared.range_info.RangeInfo.{RangeInfo}
-use Rattle.dr_timeline.specs.Unrolled.{rolled_up}
+use Rattle.dr_rollup.specs.Unrolled.{rolled_up}
 use Rattle.dr_timeline.specs.Chunks.{chunk_list}
-use Rattle.dr_timeline.specs.State.{Range, Cut, State, open_from, open_events, events_of}
+use Rattle.dr_timeline.specs.State.{Range, Cut, State, open_from, events_of}
 
 -- a snapshot: its schema, its events in order, and the ranges, chunks rising, each chunk's in order
 pub record Pinned : Type 0 where

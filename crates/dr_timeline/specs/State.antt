@@ -23,17 +23,19 @@ pub record Cut : Type 0 where
   pub publications : ℕ
 
 -- a timeline: its schema, the accepted events in order, the cuts of each of their chunks, chunks rising, how many seals
--- and commits there were, and how many of these were commits
+-- and commits there were, how many of these were commits, and how many inputs were noted as unparseable and as thrown away
 pub record State : Type 0 where
   pub schema : Schema
   pub stream : List Event
   pub cuts : List Cut
   pub serials : ℕ
   pub commits : ℕ
+  pub unparseable : ℕ
+  pub thrown_away : ℕ
 
 -- nothing is accepted yet
 abbrev pub empty_state : Schema → State
-empty_state schema = record { schema = schema; stream = []; cuts = []; serials = 0; commits = 0 }
+empty_state schema = record { schema = schema; stream = []; cuts = []; serials = 0; commits = 0; unparseable = 0; thrown_away = 0 }
 
 -- where the open range starts: where the last sealed one ends
 abbrev pub open_from : List Range → ℕ

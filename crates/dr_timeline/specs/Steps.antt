@@ -6,7 +6,7 @@ use Rattle.dr_spec.specs.declared.schema.Schema.{Schema}
 use Rattle.dr_timeline.specs.declared.fragment.Fragment.{Fragment}
 use Rattle.dr_timeline.specs.declared.job.Job.{Job}
 use Rattle.dr_timeline.specs.declared.purpose.Purpose.{Purpose}
-use Rattle.dr_timeline.specs.Unrolled.{rolled_up}
+use Rattle.dr_rollup.specs.Unrolled.{rolled_up}
 use Rattle.dr_timeline.specs.Chunks.{chunk, chunk_list}
 use Rattle.dr_timeline.specs.AtKey.{at_key}
 use Rattle.dr_timeline.specs.State.{Range, Cut, State, open_from, open_events, events_of, sealed_in}
@@ -30,17 +30,14 @@ with_seal end serial c = record { chunk = c.chunk; sealed = c.sealed ++ record {
 
 -- the open range of a chunk is sealed with the next serial
 abbrev pub sealed_at : ℤ → State → State
-sealed_at k s = record {
-  schema = s.schema;
-  stream = s.stream;
+sealed_at k s = record s {
   cuts = at_chunk k (with_seal (length (chunk_list s.schema s.stream k)) s.serials) s.cuts;
   serials = s.serials + 1;
-  commits = s.commits;
 }
 
 -- one more event in the open range of its chunk
 abbrev pub with_event : State → Event → State
-with_event s e = record { schema = s.schema; stream = s.stream ++ e ∷ []; cuts = at_chunk (chunk s.schema e) (λ c. c) s.cuts; serials = s.serials; commits = s.commits }
+with_event s e = record s { stream = s.stream ++ e ∷ []; cuts = at_chunk (chunk s.schema e) (λ c. c) s.cuts }
 
 -- where the open range of a chunk has as many rows as are held in memory, it is sealed
 abbrev pub sealed_if_full : ℤ → State → State
@@ -93,17 +90,16 @@ joined_range s job place = record {
 }
 
 abbrev pub committed : State → Job → ℕ → State
-committed s job place = record {
-  schema = s.schema;
-  stream = s.stream;
+committed s job place = record s {
   cuts = at_chunk job.chunk (replaced place (length job.inputs) (joined_range s job place)) s.cuts;
   serials = s.serials + 1;
   commits = s.commits + 1;
 }
 
--- the job was committed where its ranges stood, and the answer is the version of the new one
+-- the job was committed where its ranges stood first, and the answer is the version of the new one
 pub record Commits (s : State) (job : Job) (version : ℕ) (new : State) : Type 0 where
   pub place : ℕ
   pub stands : StandsAt s job place
+  pub first : (earlier : ℕ) → earlier < place → StandsAt s job earlier → ⊥
   pub version_is : version ≡ (joined_range s job place).version
   pub new_is : new ≡ committed s job place

@@ -1,7 +1,8 @@
-ghost use Rattle.std.specs.Prelude.{◌≡◌, ◌<◌, IfOk, OnOk, OnErr};
-ghost use Rattle.dr_agg.specs.Rollup.{AllFit};
-ghost use Rattle.dr_agg.specs.Combination.{FitsColumns};
-ghost use Rattle.dr_timeline.specs.Held.{no_chunk, with_row, grown, is_full, seals_of, with_open_sealed, with_sealed_rows, has_open, open_info_of, open_fragment};
+ghost use Rattle.std.specs.Prelude.{◌≡◌, ◌<◌, ◌≤◌, false, nat_lt, length, IfOk, OnOk, OnErr};
+ghost use Rattle.dr_events.specs.Fits.{FitsSchema};
+ghost use Rattle.dr_gran.specs.Step.{is_all};
+ghost use Rattle.dr_rollup.specs.OpenRows.{rows_with, with_rows};
+ghost use Rattle.dr_timeline.specs.Held.{no_chunk, with_one, grown, is_full, seals_of, with_open_sealed, with_sealed_rows, has_open, open_info_of, open_fragment};
 
 use crate::fragment::Fragment;
 use crate::range_info::RangeInfo;
@@ -9,33 +10,36 @@ use crate::rows::Rows;
 use crate::sealed_range::SealedRange;
 use crate::sealed_ranges::SealedRanges;
 use crate::shared_fragment::SharedFragment;
-use dr_agg::Kind;
-use dr_base::Row;
+use dr_base::Event;
+use dr_rollup::{OpenIndex, RollupError};
+use dr_spec::Schema;
 use std::alloc::{AllocError, Global};
 
 /// A chunk of events: the start of its bucket of the segment granularity, in milliseconds since the epoch, how many
-/// events it has, its sealed ranges in order, how many publications there were, and the rows of its open range.
+/// events it has, its sealed ranges in order, how many publications there were, and the index of its open range.
 #[derive(Drop)]
 pub struct Chunk {
     pub start: i64,
     pub events: usize,
     pub sealed: SealedRanges,
     pub publications: u64,
-    pub rows: Rows,
+    pub index: OpenIndex,
 }
 
 impl Chunk {
-    /// A chunk without events.
-    pub fn new(alloc: Global, start: i64) -> Chunk
-        ensures { result ≡ no_chunk start }
+    /// A chunk without events. The only error is that memory ran out.
+    pub fn new(alloc: Global, schema: &Schema, start: i64) -> Result<Chunk, AllocError>
+        requires kind { is_all schema.now.query_granularity ≡ false }
+        requires limit { schema.now.limits.max_rows_in_memory ≤ 1048576 }
+        ensures { IfOk result (λ chunk. chunk ≡ no_chunk schema.now start) }
     {
-        Chunk {
+        Ok(Chunk {
             start,
             events: 0,
             sealed: SealedRanges::new(alloc),
             publications: 0,
-            rows: Rows::new(alloc),
-        }
+            index: OpenIndex::new(alloc, schema, schema.limits.max_rows_in_memory)?,
+        })
     }
 
     /// Whether the open range has an event.
@@ -54,7 +58,7 @@ impl Chunk {
             from: self.sealed.end(),
             to: self.events,
             version: 0,
-            rows: self.rows.len(),
+            rows: self.index.len(),
             sealed: false,
         }
     }
@@ -67,35 +71,25 @@ impl Chunk {
             chunk: self.start,
             from: self.sealed.end(),
             to: self.events,
-            rows: self.rows.copy()?,
+            rows: Rows::from_vec(self.index.rows()?),
         })
     }
 
-    /// Adds the row of one more event to the open range, and seals it with this serial where it has `limit` rows then.
-    /// Answers how many ranges were sealed by it, 0 or 1. An error leaves the chunk as it was.
-    pub fn grow(
-        &mut self,
-        alloc: Global,
-        combines: bool,
-        kinds: &[Kind],
-        limit: usize,
-        serial: u64,
-        row: Row,
-    ) -> Result<u64, AllocError>
-        requires rows { AllFit kinds.now self.old.rows }
-        requires row { FitsColumns kinds.now row.metrics }
+    /// Adds an event to the open range, and seals it with this serial where it has as many rows as it may then. Answers
+    /// how many ranges were sealed by it, 0 or 1. An error leaves the chunk as it was.
+    pub fn grow(&mut self, alloc: Global, serial: u64, event: &Event) -> Result<u64, AllocError>
+        requires event { FitsSchema self.old.index.schema event.now }
         requires room { self.old.events < 18446744073709551615 }
-        ensures ok { OnOk result (self.new ≡ grown combines kinds.now limit serial row self.old) }
-        ensures seals { IfOk result (λ seals. seals ≡ seals_of (is_full limit (with_row combines kinds.now row self.old))) }
+        ensures ok { OnOk result (self.new ≡ grown serial event.now self.old) }
+        ensures seals { IfOk result (λ seals. seals ≡ seals_of (is_full (with_one event.now self.old))) }
         ensures err { OnErr result (self.new ≡ self.old) }
     {
-        if self.rows.len_with(combines, &row) < limit {
-            self.rows.add(combines, kinds, row)?;
+        if stays_open(&mut self.index, event) {
+            add(&mut self.index, event)?;
             self.events += 1;
             return Ok(0);
         }
-        let mut rows = self.rows.copy()?;
-        rows.add(combines, kinds, row)?;
+        let rows = Rows::from_vec(self.index.rows_with(event)?);
         self.seal_rows(alloc, serial, self.events + 1, rows)?;
         Ok(1)
     }
@@ -105,7 +99,7 @@ impl Chunk {
         ensures ok { OnOk result (self.new ≡ with_open_sealed serial self.old) }
         ensures err { OnErr result (self.new ≡ self.old) }
     {
-        let rows = self.rows.copy()?;
+        let rows = Rows::from_vec(self.index.rows()?);
         self.seal_rows(alloc, serial, self.events, rows)
     }
 
@@ -125,6 +119,7 @@ impl Chunk {
             to: events,
             rows,
         };
+        let fresh = self.index.fresh()?;
         let fragment = SharedFragment::new(alloc, fragment)?;
         self.sealed.push(SealedRange {
             serial,
@@ -132,7 +127,34 @@ impl Chunk {
             fragment,
         })?;
         self.events = events;
-        self.rows = Rows::new(alloc);
+        self.index = fresh;
         Ok(())
+    }
+}
+
+// Whether an index has fewer rows than it may with one more event.
+fn stays_open(index: &mut OpenIndex, event: &Event) -> bool
+    requires { FitsSchema index.old.schema event.now }
+    ensures open { result ≡ nat_lt (length (rows_with index.old event.now)) index.old.limit }
+    ensures same { index.new ≡ index.old }
+{
+    let limit = index.limit();
+    if index.len() + 1 < limit {
+        return true;
+    }
+    index.len_with(event) < limit
+}
+
+// Adds an event to an index that may have the rows with it.
+fn add(index: &mut OpenIndex, event: &Event) -> Result<(), AllocError>
+    requires event { FitsSchema index.old.schema event.now }
+    requires room { length (rows_with index.old event.now) ≤ index.old.limit }
+    ensures ok { OnOk result (index.new ≡ with_rows index.old (rows_with index.old event.now)) }
+    ensures err { OnErr result (index.new ≡ index.old) }
+{
+    match index.add(event) {
+        Ok(()) => Ok(()),
+        Err(RollupError::NoMemory) => Err(AllocError),
+        Err(RollupError::IndexFull) => unreachable!(),
     }
 }

@@ -1,17 +1,18 @@
-ghost use Rattle.std.specs.Prelude.{◌≡◌, ◌+◌, ◌<◌, ◌≤◌, [], IfOk, OnOk, OnErr, length, get_or};
+ghost use Rattle.std.specs.Prelude.{◌≡◌, ◌+◌, ◌<◌, ◌≤◌, [], IfOk, OnOk, OnErr, length, get_or, map};
 ghost use Rattle.std.specs.List.{AllByRecursion};
-ghost use Rattle.dr_agg.specs.Rollup.{AllFit};
-ghost use Rattle.dr_agg.specs.Combination.{FitsColumns};
+ghost use Rattle.std.specs.List.Sorted.{IsStrictlySortedBy};
+ghost use Rattle.std.specs.Ordering.{int_cmp};
+ghost use Rattle.dr_events.specs.Fits.{FitsSchema};
+ghost use Rattle.dr_spec.specs.WellFormed.{IsWellFormed};
 ghost use Rattle.dr_timeline.specs.declared.chunk.Chunk.{Chunk};
-ghost use Rattle.dr_timeline.specs.Held.{grown, is_full, seals_of, at_start, chunk_at, changed_at, with_open_sealed, with_range, with_row, IsPlace};
+ghost use Rattle.dr_timeline.specs.Held.{grown, is_full, seals_of, at_start, chunk_at, changed_at, with_open_sealed, with_range, with_one, IsPlace};
 
 use crate::chunk::Chunk;
 use crate::place::Place;
 use crate::sealed_range::SealedRange;
-use dr_agg::Kind;
-use dr_base::Row;
+use dr_base::Event;
+use dr_spec::Schema;
 use std::alloc::{AllocError, Global};
-use std::cmp::Ordering;
 use std::marker::Model;
 
 /// Chunks, each with a greater start than the one before. A contract sees the list of the chunks.
@@ -42,48 +43,45 @@ impl Chunks {
         self.0.as_slice()
     }
 
-    /// The place of the chunk that starts at this time.
+    /// The place of the chunk that starts at this time, which is found in logarithmic time.
     pub fn place_of(&self, start: i64) -> Place
+        requires { IsStrictlySortedBy int_cmp (map (λ c. c.start) self.now) }
         ensures { IsPlace self.now start result }
     {
-        for (i, chunk) in self.0.iter().enumerate() {
-            match start.cmp(&chunk.start) {
-                Ordering::Less => return Place::Before(i),
-                Ordering::Equal => return Place::At(i),
-                Ordering::Greater => {}
-            }
+        match self.0.binary_search_by_key(&start, |chunk| chunk.start) {
+            Ok(i) => Place::At(i),
+            Err(i) => Place::Before(i),
         }
-        Place::Before(self.0.len())
     }
 
-    /// Adds the row of one more event to the open range of its chunk, which may be new. Answers how many ranges were
-    /// sealed by it, 0 or 1. An error leaves the chunks as they were.
+    /// Adds an event to the open range of its chunk, which may be new. Answers how many ranges were sealed by it, 0 or 1. An
+    /// error leaves the chunks as they were.
     pub fn grow(
         &mut self,
         alloc: Global,
-        combines: bool,
-        kinds: &[Kind],
-        limit: usize,
+        schema: &Schema,
         serial: u64,
         start: i64,
-        row: Row,
+        event: &Event,
     ) -> Result<u64, AllocError>
-        requires rows { AllByRecursion (λ c. AllFit kinds.now c.rows × (c.events < 18446744073709551615)) self.old }
-        requires row { FitsColumns kinds.now row.metrics }
-        ensures ok { OnOk result (self.new ≡ at_start (grown combines kinds.now limit serial row) start self.old) }
-        ensures seals { IfOk result (λ seals. seals ≡ seals_of (is_full limit (with_row combines kinds.now row (chunk_at start self.old)))) }
+        requires formed { IsWellFormed schema.now }
+        requires rising { IsStrictlySortedBy int_cmp (map (λ c. c.start) self.old) }
+        requires chunks { AllByRecursion (λ c. (c.index.schema ≡ schema.now) × (c.events < 18446744073709551615)) self.old }
+        requires event { FitsSchema schema.now event.now }
+        ensures ok { OnOk result (self.new ≡ at_start schema.now (grown serial event.now) start self.old) }
+        ensures seals { IfOk result (λ seals. seals ≡ seals_of (is_full (with_one event.now (chunk_at schema.now start self.old)))) }
         ensures err { OnErr result (self.new ≡ self.old) }
     {
         match self.place_of(start) {
             Place::Before(i) => {
-                let mut chunk = Chunk::new(alloc, start);
-                let seals = chunk.grow(alloc, combines, kinds, limit, serial, row)?;
+                let mut chunk = Chunk::new(alloc, schema, start)?;
+                let seals = chunk.grow(alloc, serial, event)?;
                 self.0.insert(i, chunk)?;
                 Ok(seals)
             }
             Place::At(i) => {
                 let chunk = &mut self.0[i];
-                chunk.grow(alloc, combines, kinds, limit, serial, row)
+                chunk.grow(alloc, serial, event)
             }
         }
     }

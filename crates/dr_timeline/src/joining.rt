@@ -7,9 +7,9 @@ use crate::fragment::Fragment;
 use crate::job::Job;
 use crate::rows::Rows;
 use crate::shared_fragment::SharedFragment;
-use crate::unrolled::columns_of;
 use dr_agg::{Kind, add_row};
 use dr_base::Row;
+use dr_rollup::columns_of;
 use dr_spec::Schema;
 use std::alloc::{AllocError, Global};
 

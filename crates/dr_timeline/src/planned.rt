@@ -1,4 +1,4 @@
-ghost use Rattle.std.specs.Prelude.{◌≡◌, ◌↔◌, ℕ, IfOk, IfSome, IsTrue, IsNone, map};
+ghost use Rattle.std.specs.Prelude.{◌≡◌, ◌<◌, ◌↔◌, ℕ, IfOk, IfSome, IsTrue, IsNone, map};
 ghost use Rattle.dr_timeline.specs.declared.job.Job.{Job};
 ghost use Rattle.dr_timeline.specs.Held.{range_of, StandsIn};
 ghost use Rattle.dr_timeline.specs.Steps.{least_version as least_of};
@@ -34,9 +34,10 @@ pub fn job_over(
     })
 }
 
-/// The place from which on the job's ranges stand among the sealed ranges of its chunk.
+/// The first place from which on the job's ranges stand among the sealed ranges of its chunk.
 pub fn place_of_job(sealed: &[SealedRange], job: &Job) -> Option<usize>
     ensures found { IfSome result (λ place. StandsIn sealed.now job.now place) }
+    ensures first { IfSome result (λ place. (earlier : ℕ) → earlier < place → StandsIn sealed.now job.now earlier → ⊥) }
     ensures none { IsNone result → (place : ℕ) → StandsIn sealed.now job.now place → ⊥ }
 {
     let count = job.inputs.len();

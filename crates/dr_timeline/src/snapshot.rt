@@ -5,7 +5,7 @@ ghost use Rattle.dr_query.specs.Answer.{answer};
 ghost use Rattle.dr_query.specs.Groups.{span, span as span_of_rows};
 ghost use Rattle.dr_query.specs.Matching.{is_matching};
 ghost use Rattle.dr_query.specs.MadeFor.{MadeFor};
-ghost use Rattle.dr_timeline.specs.Unrolled.{unrolled};
+ghost use Rattle.dr_rollup.specs.Unrolled.{unrolled};
 ghost use Rattle.dr_timeline.specs.Segments.{rows_of};
 ghost use Rattle.dr_timeline.specs.Pieces.{rows_in};
 ghost use Rattle.dr_timeline.specs.RawAnswer.{raw_answer};

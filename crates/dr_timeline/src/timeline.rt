@@ -2,6 +2,10 @@ ghost use Rattle.std.specs.Prelude.{◌≡◌, ◌<◌, ◌≤◌, ◌↔◌, �
 ghost use Rattle.dr_timeline.specs.declared.timeline_error.TimelineError.TheVariants.{NoMemory, StreamFull, NothingToSeal, NoSuchRange, Stale, CommitsFull};
 ghost use Rattle.dr_timeline.specs.State.{State, empty_state, sealed_in};
 ghost use Rattle.dr_timeline.specs.Steps.{accepted, sealed_at, open_in, job_of, StandsAt, Commits};
+ghost use Rattle.dr_timeline.specs.Stepping.{accept, seal, plan, commit};
+ghost use Rattle.dr_timeline.specs.Refusal.{is_memory};
+ghost use Rattle.dr_base.specs.Reading.{GivesUnless};
+ghost use Rattle.dr_timeline.specs.Noted.{noted, stats};
 ghost use Rattle.dr_timeline.specs.Held.{info_of, infos_of_chunk, fragments_of_chunk};
 ghost use Rattle.dr_timeline.specs.Joined.{joined_fragment, FitsJob};
 ghost use Rattle.dr_timeline.specs.Segments.{pinned};
@@ -13,6 +17,7 @@ use crate::chunks::Chunks;
 use crate::fragment::Fragment;
 use crate::fragments::Fragments;
 use crate::job::Job;
+use crate::outcome::Outcome;
 use crate::place::Place;
 use crate::planned::{job_over, least_version, place_of_job};
 use crate::purpose::Purpose;
@@ -20,24 +25,26 @@ use crate::range_info::RangeInfo;
 use crate::sealed_range::SealedRange;
 use crate::shared_fragment::SharedFragment;
 use crate::snapshot::Snapshot;
+use crate::stats::Stats;
 use crate::timeline_error::TimelineError;
-use crate::unrolled::{chunk_start, columns_of, unrolled_row};
-use dr_agg::Kind;
+use crate::unrolled::chunk_start;
 use dr_base::Event;
 use dr_spec::IngestSpec;
 use std::alloc::{AllocError, Global};
 use std::marker::Model;
 
 /// The accepted events of a data source, in order, and the ranges that the list of each chunk is cut into. A contract sees
-/// its schema, the list of its events, where each chunk is cut, and how many seals and commits there were.
+/// its schema, the list of its events, where each chunk is cut, how many seals and commits there were, and how many inputs were
+/// noted.
 #[derive(Drop)]
 pub struct Timeline {
     spec: IngestSpec,
-    kinds: Vec<Kind>,
     stream: Vec<Event>,
     chunks: Chunks,
     seals: u64,
     commits: u64,
+    unparseable: u64,
+    thrown_away: u64,
 }
 
 impl Model for Timeline {
@@ -47,9 +54,9 @@ impl Model for Timeline {
 
     ghost Value = { State };
 
-    ghost view = { λ t. record { schema = t.spec; stream = t.stream.items; cuts = map cut_of t.chunks; serials = t.seals + t.commits; commits = t.commits } };
+    ghost view = { λ t. record { schema = t.spec; stream = t.stream.items; cuts = map cut_of t.chunks; serials = t.seals + t.commits; commits = t.commits; unparseable = t.unparseable; thrown_away = t.thrown_away } };
 
-    ghost invariant = { λ t. Keeps t.spec t.kinds.items t.stream.items t.chunks t.seals t.commits };
+    ghost invariant = { λ t. Keeps t.spec t.stream.items t.chunks t.seals t.commits };
 }
 
 impl Timeline {
@@ -58,14 +65,16 @@ impl Timeline {
         ensures empty { IfOk result (λ timeline. timeline ≡ empty_state spec) }
         ensures well_formed { IfOk result (λ timeline. IsWellFormed timeline.schema) }
     {
-        let kinds = columns_of(alloc, spec.schema())?;
+        // The contract of this call says that the schema is well formed.
+        let _ = spec.schema();
         Ok(Timeline {
             spec,
-            kinds,
             stream: Vec::new(alloc),
             chunks: Chunks::new(alloc),
             seals: 0,
             commits: 0,
+            unparseable: 0,
+            thrown_away: 0,
         })
     }
 
@@ -94,6 +103,7 @@ impl Timeline {
         ensures err { OnErr result (self.new ≡ self.old) }
         ensures full { IsErrOf result StreamFull ↔ (self.old.schema.limits.max_retained ≤ length self.old.stream) }
         ensures refusals { IfErr result (λ e. (e ≡ NoMemory) ⊎ (e ≡ StreamFull)) }
+        ensures step { GivesUnless is_memory (λ n. (n, self.new)) result (accept self.old event) }
     {
         let schema = self.spec.schema();
         let number = self.stream.len();
@@ -101,21 +111,34 @@ impl Timeline {
             return Err(TimelineError::StreamFull);
         }
         let alloc = *self.stream.allocator();
-        let row = unrolled_row(alloc, schema, &self.kinds, &event)?;
         let start = chunk_start(schema, &event);
         self.stream.reserve(1)?;
-        let seals = self.chunks.grow(
-            alloc,
-            schema.rollup,
-            &self.kinds,
-            schema.limits.max_rows_in_memory,
-            self.seals + self.commits,
-            start,
-            row,
-        )?;
+        let serial = self.seals + self.commits;
+        let seals = self.chunks.grow(alloc, schema, serial, start, &event)?;
         self.seals += seals;
         self.stream.push(event).unwrap();
         Ok(number as u64)
+    }
+
+    /// Counts an input that became no event. A counter stays at 2^64 - 1 once it is there. It takes no memory.
+    pub fn note(&mut self, outcome: Outcome)
+        ensures { self.new ≡ noted outcome self.old }
+    {
+        match outcome {
+            Outcome::Unparseable => self.unparseable = self.unparseable.saturating_add(1),
+            Outcome::ThrownAway => self.thrown_away = self.thrown_away.saturating_add(1),
+        }
+    }
+
+    /// How many events were accepted, and how many inputs were noted. An event that was refused is in no counter.
+    pub fn stats(&self) -> Stats
+        ensures { result ≡ stats self.now }
+    {
+        Stats {
+            processed: self.stream.len() as u64,
+            unparseable: self.unparseable,
+            thrown_away: self.thrown_away,
+        }
     }
 
     /// Seals the open range of a chunk, which is named by its start in milliseconds since the epoch. An error leaves the
@@ -125,6 +148,7 @@ impl Timeline {
         ensures err { OnErr result (self.new ≡ self.old) }
         ensures nothing { IsErrOf result NothingToSeal ↔ (open_in self.old chunk ≡ []) }
         ensures refusals { IfErr result (λ e. (e ≡ NoMemory) ⊎ (e ≡ NothingToSeal)) }
+        ensures step { GivesUnless is_memory (λ _. self.new) result (seal self.old chunk) }
     {
         let alloc = *self.stream.allocator();
         let serial = self.seals + self.commits;
@@ -153,6 +177,7 @@ impl Timeline {
         ensures fits { IfOk result (λ job. FitsJob self.now.schema job) }
         ensures no_range { IsErrOf result NoSuchRange ↔ ((lo < hi) × (hi ≤ length (sealed_in chunk self.now.cuts)) → ⊥) }
         ensures refusals { IfErr result (λ e. (e ≡ NoMemory) ⊎ (e ≡ NoSuchRange)) }
+        ensures step { GivesUnless is_memory (λ job. job) result (plan self.now chunk lo hi purpose) }
     {
         let alloc = *self.stream.allocator();
         let Place::At(i) = self.chunks.place_of(chunk) else {
@@ -176,6 +201,7 @@ impl Timeline {
         ensures stale { IsErrOf result Stale ↔ ((place : ℕ) → StandsAt self.old job.now place → ⊥) }
         ensures full { IsErrOf result CommitsFull ↔ (((place : ℕ) × StandsAt self.old job.now place) × (self.old.schema.limits.max_commits ≤ self.old.commits)) }
         ensures refusals { IfErr result (λ e. (e ≡ NoMemory) ⊎ (e ≡ Stale) ⊎ (e ≡ CommitsFull)) }
+        ensures step { GivesUnless is_memory (λ version. (version, self.new)) result (commit self.old job.now) }
     {
         let alloc = *self.stream.allocator();
         let Place::At(i) = self.chunks.place_of(job.chunk) else {

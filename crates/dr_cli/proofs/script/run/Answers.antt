@@ -13,4 +13,4 @@ returns-in_ok-flush-in-Some-Err-clause-answers g c =
 pub returns-in_ok-put-in-Some-Ok-clause-answers : goal.returns-in_ok-put-in-Some-Ok-clause-answers
 returns-in_ok-put-in-Some-Ok-clause-answers g c =
     let opens = rw c.in-Some-Ok.field-0-is at c.in-Some-Ok.ensures.opening in
-    opened_then _ _ c.in-Some-Ok.timeline _ _ _ _ _ c.answer_lines.result opens c.in_ok-put-in-Some-Ok.ensures.bytes c.answer_lines.ensures.answers
+    opened_then _ _ c.in-Some-Ok.session _ _ _ _ _ c.answer_lines.result opens c.in_ok-put-in-Some-Ok.ensures.bytes c.answer_lines.ensures.answers

@@ -1,5 +1,5 @@
 use Rattle.std.proofs.Common.{◌≡◌, take, map}
-use Rattle.dr_timeline.specs.Unrolled.{unrolled}
+use Rattle.dr_rollup.specs.Unrolled.{unrolled}
 use Rattle.dr_timeline.proofs.unrolled.unrolled_rows.Given as goal
 
 abbrev pub invariant-loop-event : goal.invariant-loop-event

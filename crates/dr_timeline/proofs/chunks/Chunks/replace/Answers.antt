@@ -1,4 +1,4 @@
-use Rattle.std.proofs.Common.{◌≡◌, ◌∙◌, sym, ap, subst, length, get_or, ◌<◌, List}
+use Rattle.std.proofs.Common.{◌∙◌, sym, ap, subst, length, ◌<◌, List}
 use Rattle.dr_timeline.specs.declared.chunk.Chunk.{Chunk}
 use Rattle.dr_timeline.specs.declared.sealed_range.SealedRange.{SealedRange}
 use Rattle.dr_timeline.specs.Held.{with_range, changed_at}
@@ -11,5 +11,5 @@ returns c = λ d.
     let x : Chunk = c.index_mut-chunk.result.now in
     let lt : c.args.chunk < length c.self.inside.0.items = subst (λ (cs : List Chunk). c.args.chunk < length cs) (sym items) c.requires.chunk in
     changed-set c.self.inside.0.items c.args.chunk (with_range c.args.place c.args.count c.args.range) x _ d lt c.index_mut-chunk.ensures.value
-    (ap (λ (ss : List SealedRange). record { start = x.start; events = x.events; sealed = ss; publications = x.publications; rows = x.rows }) c.replace.ensures)
+    (ap (λ (ss : List SealedRange). record x { sealed = ss }) c.replace.ensures)
     ∙ ap (changed_at c.args.chunk (with_range c.args.place c.args.count c.args.range) d) items

@@ -1,9 +1,9 @@
-use Rattle.std.proofs.Common.{◌≡◌, ◌∙◌, sym, ap, map, List}
+use Rattle.std.proofs.Common.{◌≡◌, ◌∙◌, sym, ap, map}
 use Rattle.dr_query.specs.Answer.{answer}
 use Rattle.dr_query.specs.Groups.{span}
 use Rattle.dr_timeline.specs.Segments.{Pinned, rows_over, rows_of}
 use Rattle.dr_timeline.specs.Pieces.{rows_held, rows_in}
-use Rattle.dr_timeline.specs.Unrolled.{unrolled}
+use Rattle.dr_rollup.specs.Unrolled.{unrolled}
 use Rattle.dr_timeline.specs.RawAnswer.{raw_answer}
 use Rattle.dr_timeline.proofs.Matching.{span-cut_rows, answer-cut_rows}
 use Rattle.dr_timeline.proofs.Pinning.{held-rows, lent-rows}

@@ -1,44 +1,52 @@
-use Rattle.std.proofs.Common.{◌≡◌, ◌++◌, ◌∷◌, [], ◌∙◌, sym, ap, refl, map, subst, w64, FitsSigned, rules, arith, length, ◌<◌, ◌+◌, List}
+use Rattle.std.proofs.Common.{◌≡◌, ◌++◌, ◌∷◌, [], ◌∙◌, sym, ap, refl, map, subst, ℕ, Ok, w64, FitsSigned, rules, arith, length, ◌<◌, ◌+◌, List}
 use Rattle.std.proofs.lemmas.Int.{to_z-of_z}
-use Rattle.std.specs.List.{AllByRecursion}
-use Rattle.dr_base.specs.declared.event.Event.{Event}
-use Rattle.dr_agg.specs.declared.kind.Kind.{Kind}
-use Rattle.dr_agg.specs.Rollup.{AllFit}
 use Rattle.dr_events.specs.Fits.{FitsSchema}
 use Rattle.dr_spec.specs.Columns.{kinds_of}
+use Rattle.dr_spec.specs.declared.schema.Schema.{Schema}
 use Rattle.dr_timeline.specs.declared.chunk.Chunk.{Chunk}
 use Rattle.dr_timeline.specs.State.{State}
 use Rattle.dr_timeline.specs.Steps.{accepted}
 use Rattle.dr_timeline.specs.Held.{cut_of}
 use Rattle.dr_timeline.proofs.Holding.{fits-unrolled}
-use Rattle.dr_timeline.proofs.Keeping.{keeps-grown, state-grown, chunks-fit}
+use Rattle.dr_timeline.proofs.Keeping.{keeps-grown, state-grown, chunks-fit, rising-starts}
+use Rattle.dr_timeline.proofs.Placing.{accept-ok}
 use Rattle.dr_timeline.proofs.timeline.Timeline.accept.Goals as goal
 
-pub grow-requires-clause-rows : goal.grow-requires-clause-rows
-grow-requires-clause-rows c =
+pub grow-requires-clause-rising : goal.grow-requires-clause-rising
+grow-requires-clause-rising c = rising-starts c.self.inside.spec c.self.inside.stream.items c.self.inside.chunks c.self.invariant.starts
+
+pub grow-requires-clause-chunks : goal.grow-requires-clause-chunks
+grow-requires-clause-chunks c =
     let room = c.if-number-schema.false in
     let number : c.len-number.result ≡ length c.self.inside.stream.items = search rules in
     let bound = c.schema-schema.ensures.well_formed.limits.few_retained in
     let few : length c.self.inside.stream.items < 18446744073709551615 = omega arith in
-    rw (c.deref-2.ensures.value, c.self.invariant.kinds) (chunks-fit c.self.inside.spec c.self.inside.stream.items c.self.inside.chunks few c.self.invariant.each)
-
-pub grow-requires-clause-row : goal.grow-requires-clause-row
-grow-requires-clause-row c = rw (c.deref-2.ensures.value, c.in_ok-row.ensures, c.schema-schema.ensures.value, c.self.invariant.kinds) (fits-unrolled c.self.inside.spec c.args.event)
+    rw c.schema-schema.ensures.value (chunks-fit c.self.inside.spec c.self.inside.stream.items c.self.inside.chunks few c.self.invariant.each)
 
 pub invariant_of-self-2 : goal.invariant_of-self-2
 invariant_of-self-2 c =
     let fits : FitsSigned w64 c.chunk_start-start.result = search rules in
     let stream : c.push.new.self.items ≡ c.self.inside.stream.items ++ c.args.event ∷ [] = rw (c.push.ensures.items, c.unwrap.ensures, c.in_ok-reserve.ensures.items) refl in
-    let put = rw (to_z-of_z w64 c.chunk_start-start.result fits, c.chunk_start-start.ensures, c.schema-schema.ensures.value, c.deref-2.ensures.value, c.self.invariant.kinds, c.in_ok-row.ensures, c.schema-schema.ensures.value) at c.in_ok-seals.ensures.ok in
-    let seals = rw (to_z-of_z w64 c.chunk_start-start.result fits, c.chunk_start-start.ensures, c.schema-schema.ensures.value, c.deref-2.ensures.value, c.self.invariant.kinds, c.in_ok-row.ensures, c.schema-schema.ensures.value) at c.in_ok-seals.ensures.seals in
-    rw (stream, put, seals) (keeps-grown c.self.inside.spec c.self.inside.kinds.items c.self.inside.stream.items c.self.inside.chunks c.self.inside.seals c.self.inside.commits c.args.event (c.self.inside.seals + c.self.inside.commits) c.self.invariant (subst (λ (s : State). FitsSchema s.schema c.args.event) (sym c.self.view_is) c.requires))
+    let put = rw (to_z-of_z w64 c.chunk_start-start.result fits, c.chunk_start-start.ensures, c.schema-schema.ensures.value) at c.in_ok-seals.ensures.ok in
+    let seals = rw (to_z-of_z w64 c.chunk_start-start.result fits, c.chunk_start-start.ensures, c.schema-schema.ensures.value) at c.in_ok-seals.ensures.seals in
+    rw (stream, put, seals) (keeps-grown c.self.inside.spec c.self.inside.stream.items c.self.inside.chunks c.self.inside.seals c.self.inside.commits c.args.event (c.self.inside.seals + c.self.inside.commits) c.self.invariant (subst (λ (s : State). FitsSchema s.schema c.args.event) (sym c.self.view_is) c.requires))
 
 pub returns-clause-ok : goal.returns-clause-ok
 returns-clause-ok c =
+    let t = c.self.inside in
     let fits : FitsSigned w64 c.chunk_start-start.result = search rules in
     let stream : c.push.new.self.items ≡ c.self.inside.stream.items ++ c.args.event ∷ [] = rw (c.push.ensures.items, c.unwrap.ensures, c.in_ok-reserve.ensures.items) refl in
-    let put = rw (to_z-of_z w64 c.chunk_start-start.result fits, c.chunk_start-start.ensures, c.schema-schema.ensures.value, c.deref-2.ensures.value, c.self.invariant.kinds, c.in_ok-row.ensures, c.schema-schema.ensures.value) at c.in_ok-seals.ensures.ok in
-    let seals = rw (to_z-of_z w64 c.chunk_start-start.result fits, c.chunk_start-start.ensures, c.schema-schema.ensures.value, c.deref-2.ensures.value, c.self.invariant.kinds, c.in_ok-row.ensures, c.schema-schema.ensures.value) at c.in_ok-seals.ensures.seals in
+    let put = rw (to_z-of_z w64 c.chunk_start-start.result fits, c.chunk_start-start.ensures, c.schema-schema.ensures.value) at c.in_ok-seals.ensures.ok in
+    let seals = rw (to_z-of_z w64 c.chunk_start-start.result fits, c.chunk_start-start.ensures, c.schema-schema.ensures.value) at c.in_ok-seals.ensures.seals in
     rw (stream, put, seals)
-    (state-grown c.self.inside.spec c.self.inside.kinds.items c.self.inside.stream.items c.self.inside.chunks c.self.inside.seals c.self.inside.commits c.args.event c.self.invariant
+    (state-grown t.spec t.stream.items t.chunks t.seals t.commits t.unparseable t.thrown_away c.args.event c.self.invariant
     ∙ ap (λ (s : State). accepted s c.args.event) c.self.view_is)
+
+pub returns-clause-step : goal.returns-clause-step
+returns-clause-step c =
+    let t = c.self.inside in
+    let number : c.len-number.result ≡ length t.stream.items = search rules in
+    let below = subst (λ (schema : Schema). c.len-number.result < schema.limits.max_retained) c.schema-schema.ensures.value c.if-number-schema.false in
+    let room : length t.stream.items < t.spec.limits.max_retained = subst (λ (n : ℕ). n < t.spec.limits.max_retained) number below in
+    accept-ok c.args.self.now c.args.event (subst (λ (s : State). length s.stream < s.schema.limits.max_retained) c.self.view_is room)
+    ∙ (λ i. Ok ((ap (λ (s : State). length s.stream) (sym c.self.view_is) ∙ sym number) i, (sym (returns-clause-ok c)) i))

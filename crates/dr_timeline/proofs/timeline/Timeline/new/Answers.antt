@@ -1,9 +1,8 @@
 use Rattle.std.proofs.Common.{refl, arith}
-use Rattle.dr_timeline.proofs.Keeping.{keeps-grown}
 use Rattle.dr_timeline.specs.Chunks.{values_onto}
 use Rattle.dr_timeline.proofs.timeline.Timeline.new.Goals as goal
 
 pub invariant_of-result : goal.invariant_of-result
 unfolding values_onto
-invariant_of-result c = rw (c.in_ok-kinds.ensures, c.schema.ensures.value, c.new.ensures.items, c.new-2.ensures)
-    (record { formed = c.schema.ensures.well_formed; kinds = refl; fit = tt; starts = refl; each = tt; few = tt; seals = omega arith; commits = omega arith })
+invariant_of-result c = rw (c.new.ensures.items, c.new-2.ensures)
+    (record { formed = c.schema.ensures.well_formed; fit = tt; starts = refl; each = tt; few = tt; seals = omega arith; commits = omega arith })

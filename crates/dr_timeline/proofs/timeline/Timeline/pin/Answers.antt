@@ -1,13 +1,10 @@
-use Rattle.std.proofs.Common.{◌≡◌, ◌∙◌, sym, ap, refl, subst, map, take, length, ◌≤◌, ◌+◌, List}
+use Rattle.std.proofs.Common.{◌≡◌, ◌∙◌, sym, ap, subst, map, take, length, ◌≤◌, ◌+◌, List}
 use Rattle.std.specs.List.{flat_map}
 use Rattle.std.proofs.lemmas.List.{take_all}
 use Rattle.dr_base.specs.declared.event.Event.{Event}
-use Rattle.dr_spec.specs.WellFormed.{IsWellFormed}
-use Rattle.dr_spec.specs.declared.schema.Schema.{Schema}
 use Rattle.dr_timeline.specs.declared.chunk.Chunk.{Chunk}
-use Rattle.dr_timeline.specs.declared.range_info.RangeInfo.{RangeInfo}
 use Rattle.dr_timeline.specs.Held.{cut_of, infos_of_chunk, fragments_of_chunk}
-use Rattle.dr_timeline.specs.Segments.{infos, pinned, Pinned}
+use Rattle.dr_timeline.specs.Segments.{infos, pinned}
 use Rattle.dr_timeline.proofs.Pinning.{rows_of_range, infos-chunks, rows-chunks, are-cuts}
 use Rattle.dr_timeline.proofs.timeline.Timeline.pin.Goals as goal
 
@@ -40,6 +37,6 @@ returns c =
     let stream : c.in_ok-copy_events.field-0.items ≡ es = c.in_ok-copy_events.ensures ∙ c.deref.ensures.value in
     let all : take c.loop-chunk.chunk-index t.chunks ≡ t.chunks = take_all c.loop-chunk.chunk-index t.chunks (subst (λ (cs : List Chunk). length cs ≤ c.loop-chunk.chunk-index) items c.loop-chunk-test.false) in
     let ranges : c.loop-chunk.ranges.items ≡ infos t.spec es (map cut_of t.chunks) = c.loop-chunk.invariant.1 ∙ ap (flat_map infos_of_chunk) all ∙ infos-chunks t.spec es t.chunks i.each in
-    let shown : record { schema = c.in_ok-copy.field-0; stream = c.in_ok-copy_events.field-0.items; ranges = c.loop-chunk.ranges.items } ≡ pinned (record { schema = t.spec; stream = es; cuts = map cut_of t.chunks; serials = t.seals + t.commits; commits = t.commits }) =
+    let shown : record { schema = c.in_ok-copy.field-0; stream = c.in_ok-copy_events.field-0.items; ranges = c.loop-chunk.ranges.items } ≡ pinned (record { schema = t.spec; stream = es; cuts = map cut_of t.chunks; serials = t.seals + t.commits; commits = t.commits; unparseable = t.unparseable; thrown_away = t.thrown_away }) =
     λ j. record { schema = schema j; stream = stream j; ranges = ranges j } in
     shown ∙ ap pinned c.self.view_is

@@ -1,8 +1,7 @@
-use Rattle.std.proofs.Common.{◌≡◌, ◌∙◌, sym, ap, refl, subst, map, take, drop, ℕ, ℤ, [], w64, arith, rules, length, get_or, ◌<◌, ◌≤◌, ◌-◌, ◌+◌, List}
+use Rattle.std.proofs.Common.{◌≡◌, ◌∙◌, sym, ap, refl, subst, Ok, map, take, drop, ℕ, ℤ, [], w64, arith, rules, length, get_or, ◌<◌, ◌≤◌, ◌-◌, ◌+◌, List}
 use Rattle.std.proofs.lemmas.Int.{to_z-of_z}
 use Rattle.std.proofs.lemmas.Result.{err_from_is_err_and}
 use Rattle.dr_timeline.specs.declared.chunk.Chunk.{Chunk}
-use Rattle.dr_timeline.specs.declared.job.Job.{Job}
 use Rattle.dr_timeline.specs.declared.sealed_range.SealedRange.{SealedRange}
 use Rattle.dr_timeline.specs.State.{State, sealed_in}
 use Rattle.dr_timeline.specs.Steps.{job_of, ranges_at}
@@ -11,8 +10,13 @@ use Rattle.dr_timeline.specs.Held.{chunk_at, ranges_of}
 use Rattle.dr_timeline.proofs.Places.{chunk_at-here, chunk_at-new}
 use Rattle.dr_timeline.proofs.Changes.{sealed_in-cuts}
 use Rattle.dr_timeline.proofs.Standing.{seen, shown-length, shown-serials, shown-inputs, fits-fragments}
+use Rattle.dr_timeline.proofs.Placing.{plan-ok, plan-none}
+use Rattle.dr_timeline.proofs.Keeping.{rising-starts}
 use Rattle.dr_timeline.proofs.timeline.Timeline.plan.Goals as goal
 use Rattle.dr_timeline.proofs.timeline.Timeline.plan.Goals.{then-lo-hi-via-then-lo-hi, then-lo-hi-via-else-lo-hi+then-hi-sealed}
+
+pub place_of-requires : goal.place_of-requires
+place_of-requires c = rising-starts c.self.inside.spec c.self.inside.stream.items c.self.inside.chunks c.self.invariant.starts
 
 pub returns-in_default-clause-no_range : goal.returns-in_default-clause-no_range
 returns-in_default-clause-no_range c =
@@ -20,7 +24,7 @@ returns-in_default-clause-no_range c =
     let place = rw (to_z-of_z w64 c.args.chunk c.ranges.chunk) at c.in_default.ensures in
     let none : length (sealed_in c.args.chunk c.args.self.now.cuts) ≡ 0 =
     ap (λ (s : State). length (sealed_in c.args.chunk s.cuts)) (sym c.self.view_is)
-    ∙ ap (λ rs. length rs) (sealed_in-cuts t.chunks c.args.chunk ∙ ap ranges_of (chunk_at-new t.chunks c.args.chunk c.in_default.field-0 place.1 place.2)) in
+    ∙ ap (λ rs. length rs) (sealed_in-cuts t.spec t.chunks c.args.chunk ∙ ap ranges_of (chunk_at-new t.spec t.chunks c.args.chunk c.in_default.field-0 place.1 place.2)) in
     (λ h p. let lt = p.0 in let le = p.1 in absurd (omega arith), λ h. refl)
 
 pub returns-then-lo-hi-clause-no_range : goal.returns-then-lo-hi-clause-no_range
@@ -29,11 +33,11 @@ returns-then-lo-hi-clause-no_range c =
     let k = c.self.invariant in
     let place = rw (to_z-of_z w64 c.args.chunk c.ranges.chunk) at c.in-At.ensures in
     let x : Chunk = c.index-as_slice-i.result in
-    let here : chunk_at c.args.chunk t.chunks ≡ x =
-    chunk_at-here t.chunks c.args.chunk c.in-At.i x place.0 place.1 place.2 ∙ ap (λ (cs : List Chunk). get_or cs c.in-At.i x) (sym c.as_slice.ensures) ∙ sym c.index-as_slice-i.is in
+    let here : chunk_at t.spec c.args.chunk t.chunks ≡ x =
+    chunk_at-here t.spec t.chunks c.args.chunk c.in-At.i x place.0 place.1 place.2 ∙ ap (λ (cs : List Chunk). get_or cs c.in-At.i x) (sym c.as_slice.ensures) ∙ sym c.index-as_slice-i.is in
     let ranges : c.as_slice-sealed.result.now ≡ x.sealed = c.as_slice-sealed.ensures ∙ ap (λ (d : Chunk). d.sealed) (sym c.index-as_slice-i.is) in
     let count : length (sealed_in c.args.chunk c.args.self.now.cuts) ≡ length c.as_slice-sealed.result.now =
-    ap (λ (s : State). length (sealed_in c.args.chunk s.cuts)) (sym c.self.view_is) ∙ shown-length t.spec t.stream.items t.chunks (t.seals + t.commits) t.commits c.args.chunk x here ∙ ap (λ (ss : List SealedRange). length ss) (sym ranges) in (
+    ap (λ (s : State). length (sealed_in c.args.chunk s.cuts)) (sym c.self.view_is) ∙ shown-length t.spec t.stream.items t.chunks (t.seals + t.commits) t.commits t.unparseable t.thrown_away c.args.chunk x here ∙ ap (λ (ss : List SealedRange). length ss) (sym ranges) in (
       λ h p. let lt = p.0 in let le = p.1 in elim c.then-lo-hi.branch [
         | then-lo-hi-via-then-lo-hi w ↦ let test = w.if-lo-hi.true in absurd (omega arith)
         | then-lo-hi-via-else-lo-hi+then-hi-sealed w ↦ let test = w.if-hi-sealed.true in absurd (omega arith)
@@ -47,11 +51,11 @@ returns-in_err-job_over-clause-no_range c =
     let k = c.self.invariant in
     let place = rw (to_z-of_z w64 c.args.chunk c.ranges.chunk) at c.in-At.ensures in
     let x : Chunk = c.index-as_slice-i.result in
-    let here : chunk_at c.args.chunk t.chunks ≡ x =
-    chunk_at-here t.chunks c.args.chunk c.in-At.i x place.0 place.1 place.2 ∙ ap (λ (cs : List Chunk). get_or cs c.in-At.i x) (sym c.as_slice.ensures) ∙ sym c.index-as_slice-i.is in
+    let here : chunk_at t.spec c.args.chunk t.chunks ≡ x =
+    chunk_at-here t.spec t.chunks c.args.chunk c.in-At.i x place.0 place.1 place.2 ∙ ap (λ (cs : List Chunk). get_or cs c.in-At.i x) (sym c.as_slice.ensures) ∙ sym c.index-as_slice-i.is in
     let ranges : c.as_slice-sealed.result.now ≡ x.sealed = c.as_slice-sealed.ensures ∙ ap (λ (d : Chunk). d.sealed) (sym c.index-as_slice-i.is) in
     let count : length (sealed_in c.args.chunk c.args.self.now.cuts) ≡ length c.as_slice-sealed.result.now =
-    ap (λ (s : State). length (sealed_in c.args.chunk s.cuts)) (sym c.self.view_is) ∙ shown-length t.spec t.stream.items t.chunks (t.seals + t.commits) t.commits c.args.chunk x here ∙ ap (λ (ss : List SealedRange). length ss) (sym ranges) in
+    ap (λ (s : State). length (sealed_in c.args.chunk s.cuts)) (sym c.self.view_is) ∙ shown-length t.spec t.stream.items t.chunks (t.seals + t.commits) t.commits t.unparseable t.thrown_away c.args.chunk x here ∙ ap (λ (ss : List SealedRange). length ss) (sym ranges) in
     let lt = c.if-lo-hi.false in
     let le = c.if-hi-sealed.false in
     let p = err_from_is_err_and c.from_residual.result c.from_residual.ensures.1 in
@@ -63,11 +67,11 @@ returns-clause-no_range c =
     let k = c.self.invariant in
     let place = rw (to_z-of_z w64 c.args.chunk c.ranges.chunk) at c.in-At.ensures in
     let x : Chunk = c.index-as_slice-i.result in
-    let here : chunk_at c.args.chunk t.chunks ≡ x =
-    chunk_at-here t.chunks c.args.chunk c.in-At.i x place.0 place.1 place.2 ∙ ap (λ (cs : List Chunk). get_or cs c.in-At.i x) (sym c.as_slice.ensures) ∙ sym c.index-as_slice-i.is in
+    let here : chunk_at t.spec c.args.chunk t.chunks ≡ x =
+    chunk_at-here t.spec t.chunks c.args.chunk c.in-At.i x place.0 place.1 place.2 ∙ ap (λ (cs : List Chunk). get_or cs c.in-At.i x) (sym c.as_slice.ensures) ∙ sym c.index-as_slice-i.is in
     let ranges : c.as_slice-sealed.result.now ≡ x.sealed = c.as_slice-sealed.ensures ∙ ap (λ (d : Chunk). d.sealed) (sym c.index-as_slice-i.is) in
     let count : length (sealed_in c.args.chunk c.args.self.now.cuts) ≡ length c.as_slice-sealed.result.now =
-    ap (λ (s : State). length (sealed_in c.args.chunk s.cuts)) (sym c.self.view_is) ∙ shown-length t.spec t.stream.items t.chunks (t.seals + t.commits) t.commits c.args.chunk x here ∙ ap (λ (ss : List SealedRange). length ss) (sym ranges) in
+    ap (λ (s : State). length (sealed_in c.args.chunk s.cuts)) (sym c.self.view_is) ∙ shown-length t.spec t.stream.items t.chunks (t.seals + t.commits) t.commits t.unparseable t.thrown_away c.args.chunk x here ∙ ap (λ (ss : List SealedRange). length ss) (sym ranges) in
     let lt = c.if-lo-hi.false in
     let le = c.if-hi-sealed.false in
     (λ h. cc, λ h. absurd (h (omega arith, omega arith)))
@@ -78,15 +82,15 @@ returns-clause-job c =
     let k = c.self.invariant in
     let place = rw (to_z-of_z w64 c.args.chunk c.ranges.chunk) at c.in-At.ensures in
     let x : Chunk = c.index-as_slice-i.result in
-    let here : chunk_at c.args.chunk t.chunks ≡ x =
-    chunk_at-here t.chunks c.args.chunk c.in-At.i x place.0 place.1 place.2 ∙ ap (λ (cs : List Chunk). get_or cs c.in-At.i x) (sym c.as_slice.ensures) ∙ sym c.index-as_slice-i.is in
+    let here : chunk_at t.spec c.args.chunk t.chunks ≡ x =
+    chunk_at-here t.spec t.chunks c.args.chunk c.in-At.i x place.0 place.1 place.2 ∙ ap (λ (cs : List Chunk). get_or cs c.in-At.i x) (sym c.as_slice.ensures) ∙ sym c.index-as_slice-i.is in
     let ranges : c.as_slice-sealed.result.now ≡ x.sealed = c.as_slice-sealed.ensures ∙ ap (λ (d : Chunk). d.sealed) (sym c.index-as_slice-i.is) in
     let count : length (sealed_in c.args.chunk c.args.self.now.cuts) ≡ length c.as_slice-sealed.result.now =
-    ap (λ (s : State). length (sealed_in c.args.chunk s.cuts)) (sym c.self.view_is) ∙ shown-length t.spec t.stream.items t.chunks (t.seals + t.commits) t.commits c.args.chunk x here ∙ ap (λ (ss : List SealedRange). length ss) (sym ranges) in
+    ap (λ (s : State). length (sealed_in c.args.chunk s.cuts)) (sym c.self.view_is) ∙ shown-length t.spec t.stream.items t.chunks (t.seals + t.commits) t.commits t.unparseable t.thrown_away c.args.chunk x here ∙ ap (λ (ss : List SealedRange). length ss) (sym ranges) in
     let slice : take (c.args.hi - c.args.lo) (drop c.args.lo c.as_slice-sealed.result.now) ≡ take (c.args.hi - c.args.lo) (drop c.args.lo x.sealed) = ap (λ (ss : List SealedRange). take (c.args.hi - c.args.lo) (drop c.args.lo ss)) ranges in
-    let serials = ap (map (λ (s : SealedRange). s.serial)) slice ∙ sym (shown-serials t.spec t.stream.items t.chunks (t.seals + t.commits) t.commits c.args.chunk x c.args.lo (c.args.hi - c.args.lo) here) in
-    let inputs = ap (map (λ (s : SealedRange). s.fragment)) slice ∙ sym (shown-inputs t.spec t.stream.items t.chunks (t.seals + t.commits) t.commits c.args.chunk x c.args.lo (c.args.hi - c.args.lo) here k.starts k.each) in
-    let job : c.in_ok-job_over.field-0 ≡ job_of (seen t.spec t.stream.items t.chunks (t.seals + t.commits) t.commits) c.args.chunk c.args.lo c.args.hi c.args.purpose =
+    let serials = ap (map (λ (s : SealedRange). s.serial)) slice ∙ sym (shown-serials t.spec t.stream.items t.chunks (t.seals + t.commits) t.commits t.unparseable t.thrown_away c.args.chunk x c.args.lo (c.args.hi - c.args.lo) here) in
+    let inputs = ap (map (λ (s : SealedRange). s.fragment)) slice ∙ sym (shown-inputs t.spec t.stream.items t.chunks (t.seals + t.commits) t.commits t.unparseable t.thrown_away c.args.chunk x c.args.lo (c.args.hi - c.args.lo) here k.starts k.each) in
+    let job : c.in_ok-job_over.field-0 ≡ job_of (seen t.spec t.stream.items t.chunks (t.seals + t.commits) t.commits t.unparseable t.thrown_away) c.args.chunk c.args.lo c.args.hi c.args.purpose =
     rw (to_z-of_z w64 c.args.chunk c.ranges.chunk) at c.in_ok-job_over.ensures ∙ (λ i. record { chunk = c.args.chunk; serials = serials i; inputs = inputs i; purpose = c.args.purpose }) in
     job ∙ ap (λ (s : State). job_of s c.args.chunk c.args.lo c.args.hi c.args.purpose) c.self.view_is
 
@@ -96,15 +100,36 @@ returns-clause-fits c =
     let k = c.self.invariant in
     let place = rw (to_z-of_z w64 c.args.chunk c.ranges.chunk) at c.in-At.ensures in
     let x : Chunk = c.index-as_slice-i.result in
-    let here : chunk_at c.args.chunk t.chunks ≡ x =
-    chunk_at-here t.chunks c.args.chunk c.in-At.i x place.0 place.1 place.2 ∙ ap (λ (cs : List Chunk). get_or cs c.in-At.i x) (sym c.as_slice.ensures) ∙ sym c.index-as_slice-i.is in
+    let here : chunk_at t.spec c.args.chunk t.chunks ≡ x =
+    chunk_at-here t.spec t.chunks c.args.chunk c.in-At.i x place.0 place.1 place.2 ∙ ap (λ (cs : List Chunk). get_or cs c.in-At.i x) (sym c.as_slice.ensures) ∙ sym c.index-as_slice-i.is in
     let ranges : c.as_slice-sealed.result.now ≡ x.sealed = c.as_slice-sealed.ensures ∙ ap (λ (d : Chunk). d.sealed) (sym c.index-as_slice-i.is) in
     let count : length (sealed_in c.args.chunk c.args.self.now.cuts) ≡ length c.as_slice-sealed.result.now =
-    ap (λ (s : State). length (sealed_in c.args.chunk s.cuts)) (sym c.self.view_is) ∙ shown-length t.spec t.stream.items t.chunks (t.seals + t.commits) t.commits c.args.chunk x here ∙ ap (λ (ss : List SealedRange). length ss) (sym ranges) in
+    ap (λ (s : State). length (sealed_in c.args.chunk s.cuts)) (sym c.self.view_is) ∙ shown-length t.spec t.stream.items t.chunks (t.seals + t.commits) t.commits t.unparseable t.thrown_away c.args.chunk x here ∙ ap (λ (ss : List SealedRange). length ss) (sym ranges) in
     let slice : take (c.args.hi - c.args.lo) (drop c.args.lo c.as_slice-sealed.result.now) ≡ take (c.args.hi - c.args.lo) (drop c.args.lo x.sealed) = ap (λ (ss : List SealedRange). take (c.args.hi - c.args.lo) (drop c.args.lo ss)) ranges in
-    let serials = ap (map (λ (s : SealedRange). s.serial)) slice ∙ sym (shown-serials t.spec t.stream.items t.chunks (t.seals + t.commits) t.commits c.args.chunk x c.args.lo (c.args.hi - c.args.lo) here) in
-    let inputs = ap (map (λ (s : SealedRange). s.fragment)) slice ∙ sym (shown-inputs t.spec t.stream.items t.chunks (t.seals + t.commits) t.commits c.args.chunk x c.args.lo (c.args.hi - c.args.lo) here k.starts k.each) in
-    let job : c.in_ok-job_over.field-0 ≡ job_of (seen t.spec t.stream.items t.chunks (t.seals + t.commits) t.commits) c.args.chunk c.args.lo c.args.hi c.args.purpose =
+    let serials = ap (map (λ (s : SealedRange). s.serial)) slice ∙ sym (shown-serials t.spec t.stream.items t.chunks (t.seals + t.commits) t.commits t.unparseable t.thrown_away c.args.chunk x c.args.lo (c.args.hi - c.args.lo) here) in
+    let inputs = ap (map (λ (s : SealedRange). s.fragment)) slice ∙ sym (shown-inputs t.spec t.stream.items t.chunks (t.seals + t.commits) t.commits t.unparseable t.thrown_away c.args.chunk x c.args.lo (c.args.hi - c.args.lo) here k.starts k.each) in
+    let job : c.in_ok-job_over.field-0 ≡ job_of (seen t.spec t.stream.items t.chunks (t.seals + t.commits) t.commits t.unparseable t.thrown_away) c.args.chunk c.args.lo c.args.hi c.args.purpose =
     rw (to_z-of_z w64 c.args.chunk c.ranges.chunk) at c.in_ok-job_over.ensures ∙ (λ i. record { chunk = c.args.chunk; serials = serials i; inputs = inputs i; purpose = c.args.purpose }) in
-    let fits : FitsJob t.spec c.in_ok-job_over.field-0 = subst (FitsJob t.spec) (sym job) (fits-fragments t.spec t.stream.items c.args.chunk (ranges_at (seen t.spec t.stream.items t.chunks (t.seals + t.commits) t.commits) c.args.chunk c.args.lo (c.args.hi - c.args.lo))) in
+    let fits : FitsJob t.spec c.in_ok-job_over.field-0 = subst (FitsJob t.spec) (sym job) (fits-fragments t.spec t.stream.items c.args.chunk (ranges_at (seen t.spec t.stream.items t.chunks (t.seals + t.commits) t.commits t.unparseable t.thrown_away) c.args.chunk c.args.lo (c.args.hi - c.args.lo))) in
     subst (λ (s : State). FitsJob s.schema c.in_ok-job_over.field-0) c.self.view_is fits
+
+pub returns-in_default-clause-step : goal.returns-in_default-clause-step
+returns-in_default-clause-step c = λ _. plan-none c.args.self.now c.args.chunk c.args.lo c.args.hi c.args.purpose ((returns-in_default-clause-no_range c).0 refl)
+
+pub returns-then-lo-hi-clause-step : goal.returns-then-lo-hi-clause-step
+returns-then-lo-hi-clause-step c = λ _. plan-none c.args.self.now c.args.chunk c.args.lo c.args.hi c.args.purpose ((returns-then-lo-hi-clause-no_range c).0 refl)
+
+pub returns-clause-step : goal.returns-clause-step
+returns-clause-step c =
+    let t = c.self.inside in
+    let k = c.self.invariant in
+    let place = rw (to_z-of_z w64 c.args.chunk c.ranges.chunk) at c.in-At.ensures in
+    let x : Chunk = c.index-as_slice-i.result in
+    let here : chunk_at t.spec c.args.chunk t.chunks ≡ x =
+    chunk_at-here t.spec t.chunks c.args.chunk c.in-At.i x place.0 place.1 place.2 ∙ ap (λ (cs : List Chunk). get_or cs c.in-At.i x) (sym c.as_slice.ensures) ∙ sym c.index-as_slice-i.is in
+    let ranges : c.as_slice-sealed.result.now ≡ x.sealed = c.as_slice-sealed.ensures ∙ ap (λ (d : Chunk). d.sealed) (sym c.index-as_slice-i.is) in
+    let count : length (sealed_in c.args.chunk c.args.self.now.cuts) ≡ length c.as_slice-sealed.result.now =
+    ap (λ (s : State). length (sealed_in c.args.chunk s.cuts)) (sym c.self.view_is) ∙ shown-length t.spec t.stream.items t.chunks (t.seals + t.commits) t.commits t.unparseable t.thrown_away c.args.chunk x here ∙ ap (λ (ss : List SealedRange). length ss) (sym ranges) in
+    let lt = c.if-lo-hi.false in
+    let le = c.if-hi-sealed.false in
+    plan-ok c.args.self.now c.args.chunk c.args.lo c.args.hi c.args.purpose (omega arith) (omega arith) ∙ ap Ok (sym (returns-clause-job c))

@@ -1,16 +1,18 @@
-use Rattle.std.proofs.Common.{◌≡◌, ◌∙◌, sym, ap, refl, subst, map, ℕ, ℤ, false, true, [], w64, arith, rules, length, get_or, ◌<◌, ◌+◌, List}
+use Rattle.std.proofs.Common.{◌≡◌, ◌∙◌, sym, ap, refl, subst, Ok, map, ℕ, ℤ, false, true, [], w64, arith, rules, length, get_or, ◌<◌, ◌+◌, List}
 use Rattle.std.proofs.lemmas.Int.{to_z-of_z}
 use Rattle.std.proofs.lemmas.Result.{err_from_is_err_and}
-use Rattle.dr_base.specs.declared.event.Event.{Event}
 use Rattle.dr_timeline.specs.declared.chunk.Chunk.{Chunk}
-use Rattle.dr_timeline.specs.State.{State, open_events, sealed_in}
-use Rattle.dr_timeline.specs.Chunks.{chunk_list}
+use Rattle.dr_timeline.specs.State.{State}
 use Rattle.dr_timeline.specs.Steps.{sealed_at, open_in}
 use Rattle.dr_timeline.specs.Held.{cut_of, ranges_of, chunk_at, has_open, at_start, with_open_sealed}
 use Rattle.dr_timeline.proofs.Places.{at_start-here, chunk_at-new, chunk_at-here, get_or-same}
 use Rattle.dr_timeline.proofs.Changes.{sealed_in-cuts}
-use Rattle.dr_timeline.proofs.Keeping.{keeps-sealed, state-sealed, open-new, open-empty, open-there}
+use Rattle.dr_timeline.proofs.Keeping.{keeps-sealed, state-sealed, open-new, open-empty, open-there, rising-starts}
+use Rattle.dr_timeline.proofs.Placing.{seal-ok, seal-none}
 use Rattle.dr_timeline.proofs.timeline.Timeline.seal.Goals as goal
+
+pub place_of-requires : goal.place_of-requires
+place_of-requires c = rising-starts c.self.inside.spec c.self.inside.stream.items c.self.inside.chunks c.self.invariant.starts
 
 pub overflow_add-serial : goal.overflow_add-serial
 overflow_add-serial c =
@@ -26,7 +28,7 @@ returns-in_default-clause-nothing c =
     let k = c.self.invariant in
     let place = rw (to_z-of_z w64 c.args.chunk c.ranges.chunk) at c.in_default.ensures in
     let none : open_in c.args.self.now c.args.chunk ≡ [] =
-    ap (λ (s : State). open_in s c.args.chunk) (sym c.self.view_is) ∙ open-new t.spec t.stream.items t.chunks c.args.chunk (t.seals + t.commits) t.commits c.in_default.field-0 k.starts k.each place.1 place.2 in
+    ap (λ (s : State). open_in s c.args.chunk) (sym c.self.view_is) ∙ open-new t.spec t.stream.items t.chunks c.args.chunk (t.seals + t.commits) t.commits t.unparseable t.thrown_away c.in_default.field-0 k.starts k.each place.1 place.2 in
     (λ h. none, λ h. refl)
 
 pub returns-then-not-has_open-clause-nothing : goal.returns-then-not-has_open-clause-nothing
@@ -34,11 +36,11 @@ returns-then-not-has_open-clause-nothing c =
     let t = c.self.inside in
     let k = c.self.invariant in
     let place = rw (to_z-of_z w64 c.args.chunk c.ranges.chunk) at c.in-At.ensures in
-    let here : chunk_at c.args.chunk t.chunks ≡ c.index-as_slice-i.result =
-    chunk_at-here t.chunks c.args.chunk c.in-At.i c.index-as_slice-i.result place.0 place.1 place.2 ∙ ap (λ (cs : List Chunk). get_or cs c.in-At.i c.index-as_slice-i.result) (sym c.as_slice.ensures) ∙ sym c.index-as_slice-i.is in
+    let here : chunk_at t.spec c.args.chunk t.chunks ≡ c.index-as_slice-i.result =
+    chunk_at-here t.spec t.chunks c.args.chunk c.in-At.i c.index-as_slice-i.result place.0 place.1 place.2 ∙ ap (λ (cs : List Chunk). get_or cs c.in-At.i c.index-as_slice-i.result) (sym c.as_slice.ensures) ∙ sym c.index-as_slice-i.is in
     let none : open_in c.args.self.now c.args.chunk ≡ [] =
     ap (λ (s : State). open_in s c.args.chunk) (sym c.self.view_is)
-    ∙ open-empty t.spec t.stream.items t.chunks c.args.chunk (t.seals + t.commits) t.commits k.starts k.each (ap has_open here ∙ sym c.has_open.ensures ∙ c.if-not-has_open.true) in
+    ∙ open-empty t.spec t.stream.items t.chunks c.args.chunk (t.seals + t.commits) t.commits t.unparseable t.thrown_away k.starts k.each (ap has_open here ∙ sym c.has_open.ensures ∙ c.if-not-has_open.true) in
     (λ h. none, λ h. refl)
 
 pub returns-in_err-seal-clause-nothing : goal.returns-in_err-seal-clause-nothing
@@ -46,9 +48,9 @@ returns-in_err-seal-clause-nothing c =
     let t = c.self.inside in
     let k = c.self.invariant in
     let place = rw (to_z-of_z w64 c.args.chunk c.ranges.chunk) at c.in-At.ensures in
-    let here : chunk_at c.args.chunk t.chunks ≡ c.index-as_slice-i.result =
-    chunk_at-here t.chunks c.args.chunk c.in-At.i c.index-as_slice-i.result place.0 place.1 place.2 ∙ ap (λ (cs : List Chunk). get_or cs c.in-At.i c.index-as_slice-i.result) (sym c.as_slice.ensures) ∙ sym c.index-as_slice-i.is in
-    let some = open-there t.spec t.stream.items t.chunks c.args.chunk (t.seals + t.commits) t.commits k.starts k.each (ap has_open here ∙ sym c.has_open.ensures ∙ c.if-not-has_open.false) in
+    let here : chunk_at t.spec c.args.chunk t.chunks ≡ c.index-as_slice-i.result =
+    chunk_at-here t.spec t.chunks c.args.chunk c.in-At.i c.index-as_slice-i.result place.0 place.1 place.2 ∙ ap (λ (cs : List Chunk). get_or cs c.in-At.i c.index-as_slice-i.result) (sym c.as_slice.ensures) ∙ sym c.index-as_slice-i.is in
+    let some = open-there t.spec t.stream.items t.chunks c.args.chunk (t.seals + t.commits) t.commits t.unparseable t.thrown_away k.starts k.each (ap has_open here ∙ sym c.has_open.ensures ∙ c.if-not-has_open.false) in
     let p = err_from_is_err_and c.from_residual.result c.from_residual.ensures.1 in
     rw (p.1, p.2) (λ h. cc, λ h. absurd (some (ap (λ (s : State). open_in s c.args.chunk) c.self.view_is ∙ h)))
 
@@ -57,31 +59,40 @@ invariant_of-self-2 c =
     let t = c.self.inside in
     let k = c.self.invariant in
     let place = rw (to_z-of_z w64 c.args.chunk c.ranges.chunk) at c.in-At.ensures in
-    let here : chunk_at c.args.chunk t.chunks ≡ c.index-as_slice-i.result =
-    chunk_at-here t.chunks c.args.chunk c.in-At.i c.index-as_slice-i.result place.0 place.1 place.2 ∙ ap (λ (cs : List Chunk). get_or cs c.in-At.i c.index-as_slice-i.result) (sym c.as_slice.ensures) ∙ sym c.index-as_slice-i.is in
+    let here : chunk_at t.spec c.args.chunk t.chunks ≡ c.index-as_slice-i.result =
+    chunk_at-here t.spec t.chunks c.args.chunk c.in-At.i c.index-as_slice-i.result place.0 place.1 place.2 ∙ ap (λ (cs : List Chunk). get_or cs c.in-At.i c.index-as_slice-i.result) (sym c.as_slice.ensures) ∙ sym c.index-as_slice-i.is in
     let serial : ℕ = t.seals + t.commits in
-    let changed : c.seal.new.self ≡ at_start (with_open_sealed serial) c.args.chunk t.chunks =
-    c.in_ok-seal.ensures.ok c.index-as_slice-i.result ∙ sym (at_start-here t.chunks c.args.chunk c.in-At.i (with_open_sealed serial) c.index-as_slice-i.result place.0 place.1 place.2) in
-    rw changed (keeps-sealed t.spec t.kinds.items t.stream.items t.chunks t.seals t.commits c.args.chunk c.in-At.i serial k place.0 place.1 place.2 (ap has_open here ∙ sym c.has_open.ensures ∙ c.if-not-has_open.false))
+    let changed : c.seal.new.self ≡ at_start t.spec (with_open_sealed serial) c.args.chunk t.chunks =
+    c.in_ok-seal.ensures.ok c.index-as_slice-i.result ∙ sym (at_start-here t.spec t.chunks c.args.chunk c.in-At.i (with_open_sealed serial) c.index-as_slice-i.result place.0 place.1 place.2) in
+    rw changed (keeps-sealed t.spec t.stream.items t.chunks t.seals t.commits c.args.chunk c.in-At.i serial k place.0 place.1 place.2 (ap has_open here ∙ sym c.has_open.ensures ∙ c.if-not-has_open.false))
 
 pub returns-clause-ok : goal.returns-clause-ok
 returns-clause-ok c =
     let t = c.self.inside in
     let k = c.self.invariant in
     let place = rw (to_z-of_z w64 c.args.chunk c.ranges.chunk) at c.in-At.ensures in
-    let here : chunk_at c.args.chunk t.chunks ≡ c.index-as_slice-i.result =
-    chunk_at-here t.chunks c.args.chunk c.in-At.i c.index-as_slice-i.result place.0 place.1 place.2 ∙ ap (λ (cs : List Chunk). get_or cs c.in-At.i c.index-as_slice-i.result) (sym c.as_slice.ensures) ∙ sym c.index-as_slice-i.is in
+    let here : chunk_at t.spec c.args.chunk t.chunks ≡ c.index-as_slice-i.result =
+    chunk_at-here t.spec t.chunks c.args.chunk c.in-At.i c.index-as_slice-i.result place.0 place.1 place.2 ∙ ap (λ (cs : List Chunk). get_or cs c.in-At.i c.index-as_slice-i.result) (sym c.as_slice.ensures) ∙ sym c.index-as_slice-i.is in
     let serial : ℕ = t.seals + t.commits in
-    let changed : c.seal.new.self ≡ at_start (with_open_sealed serial) c.args.chunk t.chunks =
-    c.in_ok-seal.ensures.ok c.index-as_slice-i.result ∙ sym (at_start-here t.chunks c.args.chunk c.in-At.i (with_open_sealed serial) c.index-as_slice-i.result place.0 place.1 place.2) in
-    rw changed (state-sealed t.spec t.kinds.items t.stream.items t.chunks t.seals t.commits c.args.chunk k ∙ ap (sealed_at c.args.chunk) c.self.view_is)
+    let changed : c.seal.new.self ≡ at_start t.spec (with_open_sealed serial) c.args.chunk t.chunks =
+    c.in_ok-seal.ensures.ok c.index-as_slice-i.result ∙ sym (at_start-here t.spec t.chunks c.args.chunk c.in-At.i (with_open_sealed serial) c.index-as_slice-i.result place.0 place.1 place.2) in
+    rw changed (state-sealed t.spec t.stream.items t.chunks t.seals t.commits t.unparseable t.thrown_away c.args.chunk k ∙ ap (sealed_at c.args.chunk) c.self.view_is)
 
 pub returns-clause-nothing : goal.returns-clause-nothing
 returns-clause-nothing c =
     let t = c.self.inside in
     let k = c.self.invariant in
     let place = rw (to_z-of_z w64 c.args.chunk c.ranges.chunk) at c.in-At.ensures in
-    let here : chunk_at c.args.chunk t.chunks ≡ c.index-as_slice-i.result =
-    chunk_at-here t.chunks c.args.chunk c.in-At.i c.index-as_slice-i.result place.0 place.1 place.2 ∙ ap (λ (cs : List Chunk). get_or cs c.in-At.i c.index-as_slice-i.result) (sym c.as_slice.ensures) ∙ sym c.index-as_slice-i.is in
-    let some = open-there t.spec t.stream.items t.chunks c.args.chunk (t.seals + t.commits) t.commits k.starts k.each (ap has_open here ∙ sym c.has_open.ensures ∙ c.if-not-has_open.false) in
+    let here : chunk_at t.spec c.args.chunk t.chunks ≡ c.index-as_slice-i.result =
+    chunk_at-here t.spec t.chunks c.args.chunk c.in-At.i c.index-as_slice-i.result place.0 place.1 place.2 ∙ ap (λ (cs : List Chunk). get_or cs c.in-At.i c.index-as_slice-i.result) (sym c.as_slice.ensures) ∙ sym c.index-as_slice-i.is in
+    let some = open-there t.spec t.stream.items t.chunks c.args.chunk (t.seals + t.commits) t.commits t.unparseable t.thrown_away k.starts k.each (ap has_open here ∙ sym c.has_open.ensures ∙ c.if-not-has_open.false) in
     (λ h. cc, λ h. absurd (some (ap (λ (s : State). open_in s c.args.chunk) c.self.view_is ∙ h)))
+
+pub returns-in_default-clause-step : goal.returns-in_default-clause-step
+returns-in_default-clause-step c = λ _. seal-none c.args.self.now c.args.chunk ((returns-in_default-clause-nothing c).0 refl)
+
+pub returns-then-not-has_open-clause-step : goal.returns-then-not-has_open-clause-step
+returns-then-not-has_open-clause-step c = λ _. seal-none c.args.self.now c.args.chunk ((returns-then-not-has_open-clause-nothing c).0 refl)
+
+pub returns-clause-step : goal.returns-clause-step
+returns-clause-step c = seal-ok c.args.self.now c.args.chunk (λ h. let bad = (returns-clause-nothing c).1 h in cc) ∙ ap Ok (sym (returns-clause-ok c))
