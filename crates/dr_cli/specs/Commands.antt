@@ -9,6 +9,7 @@ use Rattle.dr_time.specs.declared.time_error.TimeError.TheVariants.{BadInstant}
 use Rattle.dr_time.specs.Instant.{instant_of}
 use Rattle.dr_time.specs.Refusal as time
 use Rattle.dr_gran.specs.Truncation.{truncation}
+use Rattle.dr_base.specs.declared.event.Event.{Event}
 use Rattle.dr_events.specs.declared.unparseable.Unparseable.{Unparseable}
 use Rattle.dr_events.specs.Refusal as event
 use Rattle.dr_events.specs.EventOf.{event_of}
@@ -18,6 +19,9 @@ use Rattle.dr_query.specs.AnswerRefusal as no_answer
 use Rattle.dr_query.specs.QueryOf.{query_of}
 use Rattle.dr_query.specs.Refusal as query
 use Rattle.dr_timeline.specs.declared.job.Job.{Job}
+use Rattle.dr_timeline.specs.declared.outcome.Outcome.TheVariants.{Unparseable as NotParsed}
+use Rattle.dr_timeline.specs.declared.stats.Stats.{Stats}
+use Rattle.dr_timeline.specs.Noted.{noted, stats}
 use Rattle.dr_timeline.specs.declared.purpose.Purpose.TheVariants.{Merge as MergePurpose}
 use Rattle.dr_timeline.specs.Refusal as timeline
 use Rattle.dr_timeline.specs.RawAnswer.{raw_answer}
@@ -28,7 +32,7 @@ use Rattle.dr_cli.specs.declared.cli_error.CliError.{CliError}
 use Rattle.dr_cli.specs.declared.request.Request.{Request}
 use Rattle.dr_cli.specs.declared.request.Request.TheVariants as line
 use Rattle.dr_cli.specs.declared.script_error.ScriptError.{ScriptError}
-use Rattle.dr_cli.specs.declared.script_error.ScriptError.TheVariants.{Cli, Event, Time, Timeline, Query as BadQuery, Answer}
+use Rattle.dr_cli.specs.declared.script_error.ScriptError.TheVariants.{Cli, Time, Timeline, Query as BadQuery, Answer}
 use Rattle.dr_cli.specs.Refusal.{number_of, name_of}
 use Rattle.dr_cli.specs.Refusal as cli
 use Rattle.dr_cli.specs.Request.{or_bad_command}
@@ -54,14 +58,13 @@ refused_by e = refused (number_of e) (name_of e) None
 abbrev pub unparseable_line : ℕ → List ℕ → Option Arg → List ℕ
 unparseable_line number name arg = codes "unparseable " ++ decimal number ++ codes " " ++ name ++ arg_part arg
 
--- such a line is not refused
+-- a line that is no event is not refused
 abbrev pub unparseable : Unparseable → Answered
 unparseable e = answered (unparseable_line (event.number_of e) (event.name_of e) (event.arg_of e))
 
 -- what is written where a command changes nothing
 abbrev pub told : ScriptError → Answered
 told (Cli e) = refused_by e
-told (Event e) = unparseable e
 told (Time e) = refused (time.number_of e) (time.name_of e) None
 told (Timeline e) = refused (timeline.number_of e) (timeline.name_of e) None
 told (BadQuery e) = refused (query.number_of e) (query.name_of e) (query.arg_of e)
@@ -70,7 +73,6 @@ told (Answer e) = refused (no_answer.number_of e) (no_answer.name_of e) None
 -- memory ran out
 abbrev pub is_memory : ScriptError → Bool
 is_memory (Cli e) = cli.is_memory e
-is_memory (Event e) = event.is_memory e
 is_memory (Time e) = false
 is_memory (Timeline e) = timeline.is_memory e
 is_memory (BadQuery e) = query.is_memory e
@@ -78,12 +80,16 @@ is_memory (Answer e) = no_answer.is_memory e
 
 -- ---- commands
 
--- `+ EVENT`: an event is accepted
-abbrev pub add_event : List ℕ → CoreState → Result (Answered × CoreState) ScriptError
-add_event text c = do
-  e ← passed Event (event_of c.timeline.schema 0 text)
+-- an event is accepted; a text that is none is counted
+abbrev pub add_read : Result Event Unparseable → CoreState → Result (Answered × CoreState) ScriptError
+add_read (Ok e) c = do
   n ← passed Timeline (accept c.timeline e)
   Ok (answered (codes "accepted " ++ decimal n.0), with_timeline n.1 c)
+add_read (Err e) c = Ok (unparseable e, with_timeline (noted NotParsed c.timeline) c)
+
+-- `+ EVENT`
+abbrev pub add_event : List ℕ → CoreState → Result (Answered × CoreState) ScriptError
+add_event text c = add_read (event_of c.timeline.schema 0 text) c
 
 -- an instant, as ISO 8601 spells it; bytes that aren't UTF-8 spell none
 abbrev pub instant_in : List ℕ → Result ℤ TimeError
@@ -150,6 +156,17 @@ audit_now text c = do
   a ← passed Answer (raw_answer c.timeline.schema q c.timeline.stream)
   Ok (answered a, c)
 
+-- `stats`: what became of the events
+abbrev pub counts_line : ℕ → ℕ → ℕ → List ℕ
+counts_line processed unparseable thrown_away =
+    ((codes "processed " ++ decimal processed) ++ (codes " unparseable " ++ decimal unparseable)) ++ (codes " thrownAway " ++ decimal thrown_away)
+
+abbrev pub stats_line : Stats → List ℕ
+stats_line n = counts_line n.processed n.unparseable n.thrown_away
+
+abbrev pub tell_stats : CoreState → Result (Answered × CoreState) ScriptError
+tell_stats c = Ok (answered (stats_line (stats c.timeline)), c)
+
 -- what a line asks for is done
 abbrev pub carried_out : CoreState → Request (List ℕ) → Result (Answered × CoreState) ScriptError
 carried_out c (line.Add text) = add_event text c
@@ -161,3 +178,4 @@ carried_out c line.Pin = pin_snapshot c
 carried_out c (line.Query text) = ask_now text c
 carried_out c (line.At number text) = ask_at number text c
 carried_out c (line.Audit text) = audit_now text c
+carried_out c line.Stats = tell_stats c

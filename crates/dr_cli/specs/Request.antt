@@ -5,7 +5,7 @@ use Rattle.dr_events.specs.WholeNumber.{digits_number}
 use Rattle.dr_cli.specs.declared.cli_error.CliError.{CliError}
 use Rattle.dr_cli.specs.declared.cli_error.CliError.TheVariants.{BadCommand}
 use Rattle.dr_cli.specs.declared.request.Request.{Request}
-use Rattle.dr_cli.specs.declared.request.Request.TheVariants.{Add, Seal, Merge, PlanMerge, Commit, Pin, Query, At, Audit}
+use Rattle.dr_cli.specs.declared.request.Request.TheVariants.{Add, Seal, Merge, PlanMerge, Commit, Pin, Query, At, Audit, Stats}
 
 -- what there is, and else no command
 abbrev pub or_bad_command : {A : Type 0} → Option A → Result A CliError
@@ -87,9 +87,13 @@ at_in text = do
   n ← number_in p.0
   Ok (At n p.1)
 
--- a line of one word: `pin`, or `+`, which is an event of no bytes
+-- a line of one word: `pin`, `stats`, or `+`, which is an event of no bytes
 abbrev pub request_alone : List ℕ → Result (Request (List ℕ)) CliError
-request_alone word = if bytes_eq word (codes "+") then Ok (Add []) else (if bytes_eq word (codes "pin") then Ok Pin else Err BadCommand)
+request_alone word =
+    if bytes_eq word (codes "+") then Ok (Add [])
+    else if bytes_eq word (codes "pin") then Ok Pin
+    else if bytes_eq word (codes "stats") then Ok Stats
+    else Err BadCommand
 
 -- a line of a word and what is behind it
 abbrev pub request_with : List ℕ → List ℕ → Result (Request (List ℕ)) CliError

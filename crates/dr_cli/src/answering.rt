@@ -1,10 +1,7 @@
-ghost use Rattle.std.specs.Prelude.{◌≡◌, ◌≤◌, ◌++◌, length, false, true, IfOk, OnErr, OnOk, option_map, string_bytes};
-ghost use Rattle.dr_base.specs.FaultLine.{arg_part};
+ghost use Rattle.std.specs.Prelude.{◌≡◌, ◌≤◌, length, true, OnErr};
 ghost use Rattle.dr_base.specs.Reading.{GivesUnless};
-ghost use Rattle.dr_base.specs.declared.fault.Arg.TheVariants.{Index};
-ghost use Rattle.dr_events.specs.Refusal.{arg_of};
 ghost use Rattle.dr_cli.specs.declared.cli_error.CliError.TheVariants.{NoMemory};
-ghost use Rattle.dr_cli.specs.Commands.{is_memory, refused, refused_by, told, unparseable, unparseable_line};
+ghost use Rattle.dr_cli.specs.Commands.{is_memory, refused, refused_by, told};
 ghost use Rattle.dr_cli.specs.Lines.{longest_line};
 ghost use Rattle.dr_cli.specs.Replies.{IsAnswer, Moves, Opens, seen};
 ghost use Rattle.dr_cli.specs.Script.{line_done};
@@ -15,9 +12,8 @@ use crate::requests::request_in;
 use crate::script_error::ScriptError;
 use crate::session::Session;
 use dr_base::{Arg, fault_line};
-use dr_events::Unparseable;
 use dr_spec::IngestSpec;
-use std::alloc::{AllocError, Global};
+use std::alloc::Global;
 
 /// The session that the first line of a script begins, or what is answered where the line is refused: the refusals of
 /// [`IngestSpec::parse`].
@@ -61,56 +57,10 @@ fn told(alloc: Global, error: ScriptError) -> Reply
 {
     match error {
         ScriptError::Cli(error) => Reply::Fault(error),
-        ScriptError::Event(Unparseable::NoMemory) => Reply::Fault(CliError::NoMemory),
-        ScriptError::Event(error) => told_unparseable(alloc, &error),
         ScriptError::Time(error) => refused(alloc, error.number(), error.name(), None),
         ScriptError::Timeline(error) => refused(alloc, error.number(), error.name(), None),
         ScriptError::Query(error) => refused(alloc, error.number(), error.name(), error.arg()),
         ScriptError::Answer(error) => refused(alloc, error.number(), error.name(), None),
-    }
-}
-
-fn told_unparseable(alloc: Global, error: &Unparseable) -> Reply
-    ensures { IsAnswer (unparseable error.now) (seen result) }
-{
-    match unparseable_line(alloc, error.number(), error.name(), place_of(error)) {
-        Ok(line) => Reply::Said(line.into_bytes()),
-        Err(_) => Reply::Fault(CliError::NoMemory),
-    }
-}
-
-// The place of the column whose field is bad.
-fn place_of(error: &Unparseable) -> Option<usize>
-    ensures { arg_of error.now ≡ option_map Index result }
-{
-    match error {
-        Unparseable::BadDimension(place) | Unparseable::BadMetric(place) => Some(*place),
-        _ => None,
-    }
-}
-
-fn unparseable_line(
-    alloc: Global,
-    number: u16,
-    name: &str,
-    place: Option<usize>,
-) -> Result<String, AllocError>
-    ensures { IfOk result (λ line. string_bytes line ≡ unparseable_line number name.now (option_map Index place)) }
-{
-    let mut line = format!(in alloc; "unparseable {number} {name}")?;
-    push_place(alloc, &mut line, place)?;
-    Ok(line)
-}
-
-fn push_place(alloc: Global, line: &mut String, place: Option<usize>) -> Result<(), AllocError>
-    ensures { OnOk result (string_bytes line.new ≡ string_bytes line.old ++ arg_part (option_map Index place)) }
-{
-    match place {
-        Some(place) => {
-            line.push_str(" ")?;
-            line.push_str(place.to_string(alloc)?.as_str())
-        }
-        None => Ok(()),
     }
 }
 

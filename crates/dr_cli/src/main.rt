@@ -16,6 +16,7 @@ mod script;
 mod script_error;
 mod session;
 mod usage;
+mod wording;
 mod words;
 
 use cli_error::CliError;

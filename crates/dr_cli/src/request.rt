@@ -19,4 +19,6 @@ pub enum Request<T> {
     At(u64, T),
     /// `audit JSON`: answer a query over the accepted events, one by one.
     Audit(T),
+    /// `stats`: tell how many events were accepted, and how many lines became none.
+    Stats,
 }

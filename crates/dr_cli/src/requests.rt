@@ -27,6 +27,9 @@ fn request_alone(word: &[u8]) -> Result<Request<&[u8]>, CliError>
     if word == b"pin".as_slice() {
         return Ok(Request::Pin);
     }
+    if word == b"stats".as_slice() {
+        return Ok(Request::Stats);
+    }
     Err(CliError::BadCommand)
 }
 

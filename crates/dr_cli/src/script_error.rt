@@ -3,7 +3,6 @@ ghost use Rattle.dr_cli.specs.declared.cli_error.CliError.TheVariants.{NoMemory}
 ghost use Rattle.dr_cli.specs.declared.script_error.ScriptError.TheVariants as error;
 
 use crate::cli_error::CliError;
-use dr_events::Unparseable;
 use dr_query::{AnswerError, QueryError};
 use dr_time::TimeError;
 use dr_timeline::TimelineError;
@@ -14,8 +13,6 @@ use std::alloc::{AllocError, AllocFailed};
 pub enum ScriptError {
     /// A refusal of this crate: 0 `NoMemory`, or 101 `BadCommand`.
     Cli(CliError),
-    /// Why a line is no event: 30 to 34.
-    Event(Unparseable),
     /// Why a word is no instant: 10 or 11.
     Time(TimeError),
     /// A refusal of the timeline: 90 to 93, or 95.
@@ -31,14 +28,6 @@ impl From<CliError> for ScriptError {
 
     fn from(error: CliError) -> ScriptError {
         ScriptError::Cli(error)
-    }
-}
-
-impl From<Unparseable> for ScriptError {
-    ghost from_gives = { λ e result. result ≡ error.Event e };
-
-    fn from(error: Unparseable) -> ScriptError {
-        ScriptError::Event(error)
     }
 }
 

@@ -5,7 +5,7 @@ ghost use Rattle.dr_timeline.specs.Joined.{FitsJob};
 ghost use Rattle.dr_timeline.specs.Refusal as timeline_refusal;
 ghost use Rattle.dr_timeline.specs.Run.{empty_core};
 ghost use Rattle.dr_timeline.specs.Stepping.{commit};
-ghost use Rattle.dr_cli.specs.Commands.{add_event, ask_at, ask_now, audit_now, carried_out, chunk_named, commit_job, is_memory, merge_ranges, pin_snapshot, plan_merge, seal_chunk};
+ghost use Rattle.dr_cli.specs.Commands.{add_event, ask_at, ask_now, audit_now, carried_out, chunk_named, commit_job, is_memory, merge_ranges, pin_snapshot, plan_merge, seal_chunk, tell_stats};
 ghost use Rattle.dr_cli.specs.Replies.{seen};
 ghost use Rattle.dr_cli.specs.Seen.{seen_request};
 
@@ -13,11 +13,12 @@ use crate::cli_error::CliError;
 use crate::reply::Reply;
 use crate::request::Request;
 use crate::script_error::ScriptError;
+use crate::wording::{stats_line, unparseable_line};
 use crate::words::instant_in;
-use dr_events::EventReader;
+use dr_events::{EventReader, Unparseable};
 use dr_query::Query;
 use dr_spec::IngestSpec;
-use dr_timeline::{Job, Purpose, Snapshot, Timeline, TimelineError, work};
+use dr_timeline::{Job, Outcome, Purpose, Snapshot, Timeline, TimelineError, work};
 use std::alloc::{AllocError, Global};
 use std::marker::Model;
 
@@ -77,6 +78,7 @@ impl Session {
             Request::Query(text) => self.query(alloc, text),
             Request::At(number, text) => self.at(alloc, number, text),
             Request::Audit(text) => self.audit(alloc, text),
+            Request::Stats => self.stats(alloc),
         }
     }
 
@@ -84,9 +86,18 @@ impl Session {
         ensures step { GivesUnless is_memory (λ reply. (seen reply, self.new)) result (add_event text.now self.old) }
         ensures err { OnErr result (self.new ≡ self.old) }
     {
-        let event = self.events.read(alloc, self.timeline.spec(), SEAT, text)?;
-        let number = self.timeline.accept(event)?;
-        Ok(Reply::Accepted(number))
+        match self.events.read(alloc, self.timeline.spec(), SEAT, text) {
+            Ok(event) => {
+                let number = self.timeline.accept(event)?;
+                Ok(Reply::Accepted(number))
+            }
+            Err(Unparseable::NoMemory) => Err(ScriptError::Cli(CliError::NoMemory)),
+            Err(error) => {
+                let line = unparseable_line(alloc, &error)?;
+                self.timeline.note(Outcome::Unparseable);
+                Ok(Reply::Said(line))
+            }
+        }
     }
 
     fn seal(&mut self, instant: &[u8]) -> Result<Reply, ScriptError>
@@ -170,6 +181,12 @@ impl Session {
         let query = Query::parse(alloc, text, self.timeline.spec().schema())?;
         let snapshot = self.timeline.pin()?;
         Ok(Reply::Said(snapshot.audit(&query)?))
+    }
+
+    fn stats(&self, alloc: Global) -> Result<Reply, ScriptError>
+        ensures { GivesUnless is_memory (λ reply. (seen reply, self.now)) result (tell_stats self.now) }
+    {
+        Ok(Reply::Said(stats_line(alloc, self.timeline.stats())?))
     }
 
     // The start of the chunk in which an instant lies, in milliseconds since the epoch.

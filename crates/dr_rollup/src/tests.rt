@@ -177,6 +177,42 @@ fn keeps_rows_apart_without_rollup(rt: HostRuntime) -> Result<(), Fail> {
 }
 
 #[test]
+fn counts_rows_with_one_more(rt: HostRuntime) -> Result<(), Fail> {
+    let alloc = rt.alloc();
+    let mut index = three_events(alloc, true)?;
+    let known = event(alloc, MIDNIGHT + 20 * MINUTE, "A", 1)?;
+    assert_eq!(rt; index.len_with(&known), 2);
+    let new = event(alloc, MIDNIGHT + 90 * MINUTE, "A", 1)?;
+    assert_eq!(rt; index.len_with(&new), 3);
+    assert_eq!(rt; index.limit(), 3);
+    Ok(())
+}
+
+#[test]
+fn gives_the_rows_with_one_more(rt: HostRuntime) -> Result<(), Fail> {
+    let alloc = rt.alloc();
+    let index = three_events(alloc, true)?;
+    let known = event(alloc, MIDNIGHT + 20 * MINUTE, "A", 1)?;
+    let wanted = [
+        (MIDNIGHT, "A", [3, 13, 1, 7]),
+        (MIDNIGHT + HOUR, "B", [1, -2, -2, -2]),
+    ];
+    expect_rows(&rt, &index.rows_with(&known)?, &wanted);
+    Ok(())
+}
+
+#[test]
+fn begins_again_without_rows(rt: HostRuntime) -> Result<(), Fail> {
+    let alloc = rt.alloc();
+    let mut fresh = three_events(alloc, true)?.fresh()?;
+    assert_eq!(rt; fresh.len(), 0);
+    add(&mut fresh, alloc, MIDNIGHT + 90 * MINUTE, "B", -2)?;
+    let wanted = [(MIDNIGHT + HOUR, "B", [1, -2, -2, -2])];
+    expect_rows(&rt, &fresh.rows()?, &wanted);
+    Ok(())
+}
+
+#[test]
 fn gives_the_row_of_one_event(rt: HostRuntime) -> Result<(), Fail> {
     let alloc = rt.alloc();
     let schema = schema(alloc, true)?;

@@ -6,6 +6,10 @@ pub All-push : {A : Type 0} (P : A → Type 0) (xs : List A) (x : A) → AllByRe
 All-push P [] x h p = (p, tt)
 All-push P (y ∷ ys) x h p = (h.0, All-push P ys x h.1 p)
 
+-- the same, by a name that a function can cite
+pub all_push : {A : Type 0} (P : A → Type 0) (xs : List A) (x : A) → AllByRecursion P xs → P x → AllByRecursion P (xs ++ x ∷ [])
+all_push P xs x all here = All-push P xs x all here
+
 pub All-left : {A : Type 0} (P : A → Type 0) (a b : List A) → AllByRecursion P (a ++ b) → AllByRecursion P a
 All-left P [] b h = tt
 All-left P (x ∷ a) b h = (h.0, All-left P a b h.1)

@@ -116,6 +116,7 @@ keeps-sealed schema es cs seals commits k i serial kept lt before here test =
     record {
       formed = kept.formed;
       fit = kept.fit;
+      retained = kept.retained;
       starts = starts-here schema cs k i (with_open_sealed serial) (λ c. refl) lt before here ∙ kept.starts;
       each = All-at_start schema (Holds schema es) (Holds schema es) cs k (with_open_sealed serial) (λ c e h. h) (holds-sealed schema es serial (chunk_at schema k cs) some held.0) kept.each rising;
       few = All-at_start schema (HasFewRows schema) (HasFewRows schema) cs k (with_open_sealed serial) (λ c e h. h) kept.formed.limits.some_rows kept.few rising;
@@ -163,9 +164,9 @@ grown-open serial true old new le =
     let sealed : open_count (with_open_sealed serial new) + 1 ≤ open_count old + 1 = omega arith in sealed
 grown-open serial false old new le = let same : open_count new + 0 ≤ open_count old + 1 = omega arith in same
 
-pub keeps-grown : (schema : Schema) (es : List Event) (cs : List Chunk) (seals commits : ℕ) (e : Event) (serial : ℕ) → Keeps schema es cs seals commits → FitsSchema schema e
+pub keeps-grown : (schema : Schema) (es : List Event) (cs : List Chunk) (seals commits : ℕ) (e : Event) (serial : ℕ) → Keeps schema es cs seals commits → FitsSchema schema e → length es < schema.limits.max_retained
     → Keeps schema (es ++ e ∷ []) (at_start schema (grown serial e) (chunk schema e) cs) (seals + seals_of (full_after schema e cs)) commits
-keeps-grown schema es cs seals commits e serial kept fits =
+keeps-grown schema es cs seals commits e serial kept fits room =
     let k : ℤ = chunk schema e in
     let change : Chunk → Chunk = grown serial e in
     let rising = rising-starts schema es cs kept.starts in
@@ -182,6 +183,7 @@ keeps-grown schema es cs seals commits e serial kept fits =
     record {
       formed = kept.formed;
       fit = All-push (FitsSchema schema) es e kept.fit fits;
+      retained = omega arith;
       starts = starts-at_start schema cs k change (λ d. if-start serial (is_full (with_one e d)) (with_one e d))
           ∙ ap (with_value k) kept.starts ∙ sym (values_onto-push (chunk schema) [] es e);
       each = All-at_start schema (Holds schema es) (Holds schema (es ++ e ∷ [])) cs k change (λ d other h. holds-other schema es e d other h) (grown-holds schema es e serial (full_after schema e cs) c held.0 held.1) kept.each rising;

@@ -6,6 +6,7 @@ pub mod Parts
 pub mod Tiles
 pub mod Lengths
 pub mod Joins
+pub mod Blocks
 pub mod Holding
 pub mod Changes
 pub mod Grouping

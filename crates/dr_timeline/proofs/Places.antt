@@ -1,13 +1,12 @@
 -- Where a chunk stands among chunks that rise, and a change of it there.
-use Rattle.std.proofs.Common.{◌≡◌, ◌∙◌, sym, refl, ap, ℤ, ℕ, ◌+◌, ◌<◌, ◌≤◌, List, [], ◌∷◌, ◌++◌, length, take, drop, get_or, zero, suc, arith}
+use Rattle.std.proofs.Common.{◌≡◌, ◌∙◌, sym, refl, ap, ℤ, ℕ, ◌+◌, ◌<◌, List, [], ◌∷◌, ◌++◌, length, take, drop, get_or, zero, suc, arith}
 use Rattle.std.specs.List.{AllByRecursion}
-use Rattle.std.specs.declared.cmp.Ordering.TheVariants.{Less, Equal, Greater}
+use Rattle.std.specs.declared.cmp.Ordering.TheVariants.{Greater}
 use Rattle.std.specs.Ordering.{int_cmp}
 use Rattle.std.proofs.Math.ListN.{set}
-use Rattle.std.proofs.lemmas.List.{drop_more, take_more, drop_all, take_all, take-set, drop-set, take-append-drop}
+use Rattle.std.proofs.lemmas.List.{take-set, drop-set, take-append-drop}
 use Rattle.dr_spec.specs.declared.schema.Schema.{Schema}
 use Rattle.dr_timeline.specs.declared.chunk.Chunk.{Chunk}
-use Rattle.dr_timeline.proofs.Each.{All-push}
 use Rattle.dr_timeline.specs.AtKey.{at_key}
 use Rattle.dr_timeline.specs.Held.{no_chunk, IsBelow, IsFirst, at_start, chunk_at, changed_at}
 

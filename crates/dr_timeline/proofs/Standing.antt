@@ -136,6 +136,7 @@ keeps-merged schema es cs seals commits job c i place new kept there lt before h
     record {
       formed = kept.formed;
       fit = kept.fit;
+      retained = kept.retained;
       starts = starts-here schema cs job.chunk i change (λ d. refl) lt before here ∙ kept.starts;
       each = All-at_start schema (Holds schema es) (Holds schema es) cs job.chunk change (λ d e h. h) (subst (λ (d : Chunk). Holds schema es (change d)) (sym there) merged.0) kept.each rising;
       few = All-at_start schema (HasFewRows schema) (HasFewRows schema) cs job.chunk change (λ d e h. h) few kept.few rising;

@@ -62,6 +62,7 @@ pub record Keeps (schema : Schema) (es : List Event) (cs : List Chunk) (seal_cou
   pub starts : map (λ c. c.start) cs ≡ chunks schema es
   pub each : AllByRecursion (Holds schema es) cs
   pub few : AllByRecursion (HasFewRows schema) cs
+  pub retained : length es ≤ schema.limits.max_retained
   pub seals : seal_count + total_open cs ≤ length es
   pub commits : commit_count ≤ schema.limits.max_commits
 

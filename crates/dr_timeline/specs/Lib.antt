@@ -12,6 +12,7 @@ pub mod RawAnswer
 pub mod Laws
 pub mod Run
 pub mod Headline
+pub mod Blocks
 pub mod Held
 pub mod Pieces
 pub mod Shown

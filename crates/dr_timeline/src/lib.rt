@@ -3,6 +3,7 @@
 #![tactic(auto)]
 
 mod answer_text;
+mod block;
 mod bytes;
 mod chunk;
 mod chunks;
@@ -21,6 +22,8 @@ mod purpose;
 mod range_info;
 mod reply;
 mod rows;
+#[cfg(test)]
+mod run_tests;
 mod sealed_range;
 mod sealed_ranges;
 mod serials;
@@ -29,6 +32,7 @@ mod snapshot;
 mod span;
 mod stats;
 mod step;
+mod stream;
 #[cfg(test)]
 mod tests;
 mod timeline;

@@ -15,6 +15,7 @@ use crate::fragments::Fragments;
 use crate::groups::groups_of;
 use crate::range_info::RangeInfo;
 use crate::span::span_of;
+use crate::stream::Stream;
 use crate::unrolled::unrolled_rows;
 use dr_base::{Event, Row};
 use dr_query::{AnswerError, Query};
@@ -30,7 +31,7 @@ pub const MAX_GROUPS: usize = 100_000;
 #[derive(Drop)]
 pub struct Snapshot {
     pub(crate) schema: Schema,
-    pub(crate) stream: Vec<Event>,
+    pub(crate) stream: Stream,
     pub(crate) fragments: Fragments,
     pub(crate) ranges: Vec<RangeInfo>,
 }
@@ -58,7 +59,11 @@ impl Snapshot {
     pub fn event(&self, number: u64) -> Option<&Event>
         ensures { option_map (λ e. e.now) result ≡ slice_get self.now.stream number }
     {
-        self.stream.get(number as usize)
+        let place = number as usize;
+        if place < self.stream.len() {
+            return Some(self.stream.at(place));
+        }
+        None
     }
 
     /// The ranges that the chunks were cut into: chunks rising, those of a chunk in order, the open one last where it has
@@ -95,7 +100,7 @@ impl Snapshot {
         ensures raw_where_matching { is_matching query.now ≡ true
             → Answers (λ text. text.items) result (raw_answer self.now.schema query.now self.now.stream) }
     {
-        let alloc = *self.stream.allocator();
+        let alloc = self.stream.allocator();
         let pieces = self.fragments.pieces(alloc)?;
         answer_pieces(alloc, query, self.span(), &pieces)
     }
@@ -106,20 +111,20 @@ impl Snapshot {
         requires { MadeFor self.now.schema query.now }
         ensures { Answers (λ text. text.items) result (raw_answer self.now.schema query.now self.now.stream) }
     {
-        let alloc = *self.stream.allocator();
+        let alloc = self.stream.allocator();
         let rows = unrolled_rows(alloc, &self.schema, &self.stream)?;
         answer_pieces(alloc, query, self.span(), &[rows.as_slice()])
     }
 }
 
-fn begins_with(events: &[Event], first: &[Event]) -> bool
-    ensures { IsTrue result ↔ ((rest : List Event) × (events.now ≡ first.now ++ rest)) }
+fn begins_with(events: &Stream, first: &Stream) -> bool
+    ensures { IsTrue result ↔ ((rest : List Event) × (events.now.items ≡ first.now.items ++ rest)) }
 {
     if events.len() < first.len() {
         return false;
     }
-    for (i, event) in first.iter().enumerate() {
-        if !event.equals(&events[i]) {
+    for i in 0..first.len() {
+        if !first.at(i).equals(events.at(i)) {
             return false;
         }
     }

@@ -212,6 +212,58 @@ fn refuses_more_events_than_are_retained(rt: HostRuntime) -> Result<(), Fail> {
     Ok(())
 }
 
+#[test]
+fn counts_what_became_of_the_inputs(rt: HostRuntime) -> Result<(), Fail> {
+    let alloc = rt.alloc();
+    let mut timeline = timeline_of(alloc, r#"{"maxRetained":1}"#, &[FIRST])?;
+    timeline.note(Outcome::Unparseable);
+    timeline.note(Outcome::ThrownAway);
+    timeline.note(Outcome::ThrownAway);
+    let event = read_event(alloc, timeline.spec(), 0, SECOND.as_bytes())?;
+    assert!(rt; timeline.accept(event).is_err());
+    let stats = timeline.stats();
+    assert_eq!(rt; stats.processed, 1);
+    assert_eq!(rt; stats.unparseable, 1);
+    assert_eq!(rt; stats.thrown_away, 2);
+    Ok(())
+}
+
+/// A timeline with 1025 times the first event, and then the second.
+fn timeline_of_blocks(alloc: Global) -> Result<Timeline, Fail> {
+    let mut timeline = timeline_with(alloc, NO_LIMIT)?;
+    for _ in 0..1025 {
+        accept(alloc, &mut timeline, FIRST)?;
+    }
+    accept(alloc, &mut timeline, SECOND)?;
+    Ok(timeline)
+}
+
+#[test]
+fn shows_events_across_blocks(rt: HostRuntime) -> Result<(), Fail> {
+    let alloc = rt.alloc();
+    let timeline = timeline_of_blocks(alloc)?;
+    let snapshot = timeline.pin()?;
+    assert_eq!(rt; snapshot.event_count(), 1026);
+    assert!(rt; snapshot.extends(&timeline.pin()?));
+    let event = snapshot.event(1023).ok_or("no event")?;
+    assert_eq!(rt; event.time, 1_704_067_800_000);
+    let event = snapshot.event(1025).ok_or("no event")?;
+    assert_eq!(rt; event.time, 1_704_070_200_000);
+    Ok(())
+}
+
+#[test]
+fn answers_across_blocks(rt: HostRuntime) -> Result<(), Fail> {
+    let alloc = rt.alloc();
+    let timeline = timeline_of_blocks(alloc)?;
+    let wanted = r#"[{"result":{"added":5132,"n":1026},"timestamp":"2024-01-01T00:00:00.000Z"}]"#;
+    let text = answer(alloc, &timeline, SUMS_OVER_OVERLAPPING)?;
+    assert_eq!(rt; text.as_str(), wanted);
+    let text = audit(alloc, &timeline, SUMS_OVER_OVERLAPPING)?;
+    assert_eq!(rt; text.as_str(), wanted);
+    Ok(())
+}
+
 /// A snapshot that was pinned between the first event and the second.
 fn pinned_between_events(alloc: Global) -> Result<Snapshot, Fail> {
     let mut timeline = timeline_of(alloc, NO_LIMIT, &[FIRST])?;

@@ -26,6 +26,7 @@ use crate::sealed_range::SealedRange;
 use crate::shared_fragment::SharedFragment;
 use crate::snapshot::Snapshot;
 use crate::stats::Stats;
+use crate::stream::Stream;
 use crate::timeline_error::TimelineError;
 use crate::unrolled::chunk_start;
 use dr_base::Event;
@@ -39,7 +40,7 @@ use std::marker::Model;
 #[derive(Drop)]
 pub struct Timeline {
     spec: IngestSpec,
-    stream: Vec<Event>,
+    stream: Stream,
     chunks: Chunks,
     seals: u64,
     commits: u64,
@@ -69,7 +70,7 @@ impl Timeline {
         let _ = spec.schema();
         Ok(Timeline {
             spec,
-            stream: Vec::new(alloc),
+            stream: Stream::new(alloc),
             chunks: Chunks::new(alloc),
             seals: 0,
             commits: 0,
@@ -110,13 +111,13 @@ impl Timeline {
         if number >= schema.limits.max_retained {
             return Err(TimelineError::StreamFull);
         }
-        let alloc = *self.stream.allocator();
+        let alloc = self.stream.allocator();
         let start = chunk_start(schema, &event);
-        self.stream.reserve(1)?;
+        self.stream.reserve()?;
         let serial = self.seals + self.commits;
         let seals = self.chunks.grow(alloc, schema, serial, start, &event)?;
         self.seals += seals;
-        self.stream.push(event).unwrap();
+        self.stream.push(event);
         Ok(number as u64)
     }
 
@@ -150,7 +151,7 @@ impl Timeline {
         ensures refusals { IfErr result (λ e. (e ≡ NoMemory) ⊎ (e ≡ NothingToSeal)) }
         ensures step { GivesUnless is_memory (λ _. self.new) result (seal self.old chunk) }
     {
-        let alloc = *self.stream.allocator();
+        let alloc = self.stream.allocator();
         let serial = self.seals + self.commits;
         let Place::At(i) = self.chunks.place_of(chunk) else {
             return Err(TimelineError::NothingToSeal);
@@ -179,7 +180,7 @@ impl Timeline {
         ensures refusals { IfErr result (λ e. (e ≡ NoMemory) ⊎ (e ≡ NoSuchRange)) }
         ensures step { GivesUnless is_memory (λ job. job) result (plan self.now chunk lo hi purpose) }
     {
-        let alloc = *self.stream.allocator();
+        let alloc = self.stream.allocator();
         let Place::At(i) = self.chunks.place_of(chunk) else {
             return Err(TimelineError::NoSuchRange);
         };
@@ -203,7 +204,7 @@ impl Timeline {
         ensures refusals { IfErr result (λ e. (e ≡ NoMemory) ⊎ (e ≡ Stale) ⊎ (e ≡ CommitsFull)) }
         ensures step { GivesUnless is_memory (λ version. (version, self.new)) result (commit self.old job.now) }
     {
-        let alloc = *self.stream.allocator();
+        let alloc = self.stream.allocator();
         let Place::At(i) = self.chunks.place_of(job.chunk) else {
             return Err(TimelineError::Stale);
         };
@@ -231,7 +232,7 @@ impl Timeline {
     pub fn pin(&self) -> Result<Snapshot, AllocError>
         ensures { IfOk result (λ snapshot. snapshot ≡ pinned self.now) }
     {
-        let alloc = *self.stream.allocator();
+        let alloc = self.stream.allocator();
         let mut fragments = Fragments::new(alloc);
         let mut ranges = Vec::new(alloc);
         for chunk in self.chunks.as_slice() {
@@ -239,7 +240,7 @@ impl Timeline {
         }
         Ok(Snapshot {
             schema: self.spec.schema().copy()?,
-            stream: copy_events(alloc, &self.stream)?,
+            stream: self.stream.share()?,
             fragments,
             ranges,
         })
@@ -277,14 +278,4 @@ fn pin_sealed(
         fragments.push(range.fragment.share()?)?;
     }
     Ok(())
-}
-
-fn copy_events(alloc: Global, events: &[Event]) -> Result<Vec<Event>, AllocError>
-    ensures { IfOk result (λ copies. copies.items ≡ events.now) }
-{
-    let mut copies = Vec::with_capacity(alloc, events.len())?;
-    for event in events {
-        copies.push(event.copy()?)?;
-    }
-    Ok(copies)
 }

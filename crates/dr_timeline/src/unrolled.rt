@@ -6,6 +6,7 @@ ghost use Rattle.dr_time.specs.Instant.{IsInstant};
 ghost use Rattle.dr_rollup.specs.Unrolled.{unrolled};
 ghost use Rattle.dr_timeline.specs.Chunks.{chunk};
 
+use crate::stream::Stream;
 use dr_base::{Event, Row};
 use dr_rollup::{columns_of, unrolled_row};
 use dr_spec::Schema;
@@ -15,16 +16,16 @@ use std::alloc::{AllocError, Global};
 pub fn unrolled_rows(
     alloc: Global,
     schema: &Schema,
-    events: &[Event],
+    events: &Stream,
 ) -> Result<Vec<Row>, AllocError>
     requires kind { is_all schema.now.query_granularity ≡ false }
-    requires events { AllByRecursion (FitsSchema schema.now) events.now }
-    ensures { IfOk result (λ rows. rows.items ≡ map (unrolled schema.now) events.now) }
+    requires events { AllByRecursion (FitsSchema schema.now) events.now.items }
+    ensures { IfOk result (λ rows. rows.items ≡ map (unrolled schema.now) events.now.items) }
 {
     let kinds = columns_of(alloc, schema)?;
     let mut rows = Vec::with_capacity(alloc, events.len())?;
-    for event in events {
-        rows.push(unrolled_row(alloc, schema, &kinds, event)?)?;
+    for place in 0..events.len() {
+        rows.push(unrolled_row(alloc, schema, &kinds, events.at(place))?)?;
     }
     Ok(rows)
 }

@@ -1,5 +1,7 @@
 use Rattle.std.proofs.Common.{◌≡◌, ◌++◌, ◌∷◌, [], ◌∙◌, sym, ap, refl, map, subst, ℕ, Ok, w64, FitsSigned, rules, arith, length, ◌<◌, ◌+◌, List}
+use Rattle.dr_base.specs.declared.event.Event.{Event}
 use Rattle.std.proofs.lemmas.Int.{to_z-of_z}
+use Rattle.dr_base.specs.declared.event.Event.{Event}
 use Rattle.dr_events.specs.Fits.{FitsSchema}
 use Rattle.dr_spec.specs.Columns.{kinds_of}
 use Rattle.dr_spec.specs.declared.schema.Schema.{Schema}
@@ -25,17 +27,18 @@ grow-requires-clause-chunks c =
 
 pub invariant_of-self-2 : goal.invariant_of-self-2
 invariant_of-self-2 c =
+    let room : length c.self.inside.stream.items < c.self.inside.spec.limits.max_retained = rw (← c.len-number.ensures, ← c.schema-schema.ensures.value) (omega (arith, c.if-number-schema.false)) in
     let fits : FitsSigned w64 c.chunk_start-start.result = search rules in
-    let stream : c.push.new.self.items ≡ c.self.inside.stream.items ++ c.args.event ∷ [] = rw (c.push.ensures.items, c.unwrap.ensures, c.in_ok-reserve.ensures.items) refl in
+    let stream : c.push.new.self.items ≡ c.self.inside.stream.items ++ c.args.event ∷ [] = c.push.ensures ∙ ap (λ (es : List Event). es ++ c.args.event ∷ []) c.in_ok-reserve.ensures.items in
     let put = rw (to_z-of_z w64 c.chunk_start-start.result fits, c.chunk_start-start.ensures, c.schema-schema.ensures.value) at c.in_ok-seals.ensures.ok in
     let seals = rw (to_z-of_z w64 c.chunk_start-start.result fits, c.chunk_start-start.ensures, c.schema-schema.ensures.value) at c.in_ok-seals.ensures.seals in
-    rw (stream, put, seals) (keeps-grown c.self.inside.spec c.self.inside.stream.items c.self.inside.chunks c.self.inside.seals c.self.inside.commits c.args.event (c.self.inside.seals + c.self.inside.commits) c.self.invariant (subst (λ (s : State). FitsSchema s.schema c.args.event) (sym c.self.view_is) c.requires))
+    rw (stream, put, seals) (keeps-grown c.self.inside.spec c.self.inside.stream.items c.self.inside.chunks c.self.inside.seals c.self.inside.commits c.args.event (c.self.inside.seals + c.self.inside.commits) c.self.invariant (subst (λ (s : State). FitsSchema s.schema c.args.event) (sym c.self.view_is) c.requires) room)
 
 pub returns-clause-ok : goal.returns-clause-ok
 returns-clause-ok c =
     let t = c.self.inside in
     let fits : FitsSigned w64 c.chunk_start-start.result = search rules in
-    let stream : c.push.new.self.items ≡ c.self.inside.stream.items ++ c.args.event ∷ [] = rw (c.push.ensures.items, c.unwrap.ensures, c.in_ok-reserve.ensures.items) refl in
+    let stream : c.push.new.self.items ≡ c.self.inside.stream.items ++ c.args.event ∷ [] = c.push.ensures ∙ ap (λ (es : List Event). es ++ c.args.event ∷ []) c.in_ok-reserve.ensures.items in
     let put = rw (to_z-of_z w64 c.chunk_start-start.result fits, c.chunk_start-start.ensures, c.schema-schema.ensures.value) at c.in_ok-seals.ensures.ok in
     let seals = rw (to_z-of_z w64 c.chunk_start-start.result fits, c.chunk_start-start.ensures, c.schema-schema.ensures.value) at c.in_ok-seals.ensures.seals in
     rw (stream, put, seals)

@@ -15,7 +15,7 @@ invariant_of-result c =
     let es : List Event = t.stream.items in
     let items = c.as_slice-chunk-items.ensures in
     let schema : c.in_ok-copy.field-0 ≡ t.spec = c.in_ok-copy.ensures ∙ c.schema.ensures.value in
-    let stream : c.in_ok-copy_events.field-0.items ≡ es = c.in_ok-copy_events.ensures ∙ c.deref.ensures.value in
+    let stream : c.in_ok-share.field-0.items ≡ es = c.in_ok-share.ensures in
     let all : take c.loop-chunk.chunk-index t.chunks ≡ t.chunks = take_all c.loop-chunk.chunk-index t.chunks (subst (λ (cs : List Chunk). length cs ≤ c.loop-chunk.chunk-index) items c.loop-chunk-test.false) in
     let ranges : c.loop-chunk.ranges.items ≡ infos t.spec es (map cut_of t.chunks) = c.loop-chunk.invariant.1 ∙ ap (flat_map infos_of_chunk) all ∙ infos-chunks t.spec es t.chunks i.each in
     rw (schema, stream) (record {
@@ -34,9 +34,9 @@ returns c =
     let es : List Event = t.stream.items in
     let items = c.as_slice-chunk-items.ensures in
     let schema : c.in_ok-copy.field-0 ≡ t.spec = c.in_ok-copy.ensures ∙ c.schema.ensures.value in
-    let stream : c.in_ok-copy_events.field-0.items ≡ es = c.in_ok-copy_events.ensures ∙ c.deref.ensures.value in
+    let stream : c.in_ok-share.field-0.items ≡ es = c.in_ok-share.ensures in
     let all : take c.loop-chunk.chunk-index t.chunks ≡ t.chunks = take_all c.loop-chunk.chunk-index t.chunks (subst (λ (cs : List Chunk). length cs ≤ c.loop-chunk.chunk-index) items c.loop-chunk-test.false) in
     let ranges : c.loop-chunk.ranges.items ≡ infos t.spec es (map cut_of t.chunks) = c.loop-chunk.invariant.1 ∙ ap (flat_map infos_of_chunk) all ∙ infos-chunks t.spec es t.chunks i.each in
-    let shown : record { schema = c.in_ok-copy.field-0; stream = c.in_ok-copy_events.field-0.items; ranges = c.loop-chunk.ranges.items } ≡ pinned (record { schema = t.spec; stream = es; cuts = map cut_of t.chunks; serials = t.seals + t.commits; commits = t.commits; unparseable = t.unparseable; thrown_away = t.thrown_away }) =
+    let shown : record { schema = c.in_ok-copy.field-0; stream = c.in_ok-share.field-0.items; ranges = c.loop-chunk.ranges.items } ≡ pinned (record { schema = t.spec; stream = es; cuts = map cut_of t.chunks; serials = t.seals + t.commits; commits = t.commits; unparseable = t.unparseable; thrown_away = t.thrown_away }) =
     λ j. record { schema = schema j; stream = stream j; ranges = ranges j } in
     shown ∙ ap pinned c.self.view_is

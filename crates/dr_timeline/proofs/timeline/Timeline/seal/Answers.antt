@@ -16,7 +16,8 @@ place_of-requires c = rising-starts c.self.inside.spec c.self.inside.stream.item
 
 pub overflow_add-serial : goal.overflow_add-serial
 overflow_add-serial c =
-    let count : length c.self.inside.stream.items < 9223372036854775808 = search rules in
+    let retained = c.self.invariant.retained in
+    let few = c.self.invariant.formed.limits.few_retained in
     let seals = c.self.invariant.seals in
     let commits = c.self.invariant.commits in
     let bound = c.self.invariant.formed.limits.few_commits in
