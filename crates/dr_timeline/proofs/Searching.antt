@@ -1,14 +1,14 @@
 -- A binary search among chunks that rise by their starts.
-use Rattle.std.proofs.Common.{◌≡◌, ◌∙◌, sym, refl, ap, subst, ℤ, ℕ, ◌<◌, ◌≤◌, List, [], ◌∷◌, length, map, take, drop, get_or, zero, suc, arith}
+use Rattle.std.proofs.Common.{◌≡◌, ◌∙◌, sym, refl, ap, ℤ, ℕ, ◌<◌, ◌≤◌, List, [], ◌∷◌, length, map, get_or, zero, suc, arith}
 use Rattle.std.specs.List.{AllByRecursion, AllWithin}
-use Rattle.std.specs.List.Sorted.{IsStrictlySortedBy, IsNonDecreasingBy, IsPartitionPoint}
+use Rattle.std.specs.List.Sorted.{IsStrictlySortedBy, IsNonDecreasingBy}
 use Rattle.std.specs.declared.cmp.Ordering.TheVariants.{Less, Equal, Greater}
 use Rattle.std.specs.Ordering.{int_cmp, ordering_index, ordering_reverse}
 use Rattle.std.specs.Cmp.{int_cmp_total}
 use Rattle.std.specs.FinMap.{int_cmp-IsAntisymmetric}
 use Rattle.dr_timeline.specs.declared.chunk.Chunk.{Chunk}
 use Rattle.dr_timeline.specs.declared.place.Place.TheVariants.{At, Before}
-use Rattle.dr_timeline.specs.Held.{IsBelow, IsFirst, IsPlace}
+use Rattle.dr_timeline.specs.Held.{IsPlace}
 
 turned : (a b : ℤ) → int_cmp a b ≡ Less → int_cmp b a ≡ Greater
 turned a b h = int_cmp_total.antisymm b a ∙ ap ordering_reverse h

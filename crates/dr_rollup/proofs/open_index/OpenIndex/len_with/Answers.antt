@@ -1,5 +1,4 @@
-use Rattle.std.proofs.Common.{◌≡◌, ◌∙◌, sym, refl, ap, arith, length}
-use Rattle.dr_rollup.specs.Coding.{numbers_of}
+use Rattle.std.proofs.Common.{◌∙◌, sym, refl, ap, arith, length}
 use Rattle.dr_rollup.proofs.Adding.{length-numbers_of, coded-again, found-count, new-count}
 use Rattle.dr_rollup.proofs.open_index.OpenIndex.len_with.Goals as goal
 

@@ -1,15 +1,11 @@
-use Rattle.std.proofs.Common.{◌≡◌, ◌++◌, ◌∷◌, [], ◌∙◌, sym, ap, refl, map, subst, ℕ, Ok, w64, FitsSigned, rules, arith, length, ◌<◌, ◌+◌, List}
+use Rattle.std.proofs.Common.{◌≡◌, ◌++◌, ◌∷◌, [], ◌∙◌, sym, ap, subst, ℕ, Ok, w64, FitsSigned, rules, arith, length, ◌<◌, ◌+◌, List}
 use Rattle.dr_base.specs.declared.event.Event.{Event}
 use Rattle.std.proofs.lemmas.Int.{to_z-of_z}
 use Rattle.dr_base.specs.declared.event.Event.{Event}
 use Rattle.dr_events.specs.Fits.{FitsSchema}
-use Rattle.dr_spec.specs.Columns.{kinds_of}
 use Rattle.dr_spec.specs.declared.schema.Schema.{Schema}
-use Rattle.dr_timeline.specs.declared.chunk.Chunk.{Chunk}
 use Rattle.dr_timeline.specs.State.{State}
 use Rattle.dr_timeline.specs.Steps.{accepted}
-use Rattle.dr_timeline.specs.Held.{cut_of}
-use Rattle.dr_timeline.proofs.Holding.{fits-unrolled}
 use Rattle.dr_timeline.proofs.Keeping.{keeps-grown, state-grown, chunks-fit, rising-starts}
 use Rattle.dr_timeline.proofs.Placing.{accept-ok}
 use Rattle.dr_timeline.proofs.timeline.Timeline.accept.Goals as goal
