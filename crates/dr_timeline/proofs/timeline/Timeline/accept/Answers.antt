@@ -1,5 +1,4 @@
 use Rattle.std.proofs.Common.{◌≡◌, ◌++◌, ◌∷◌, [], ◌∙◌, sym, ap, subst, ℕ, Ok, w64, FitsSigned, rules, arith, length, ◌<◌, ◌+◌, List}
-use Rattle.dr_base.specs.declared.event.Event.{Event}
 use Rattle.std.proofs.lemmas.Int.{to_z-of_z}
 use Rattle.dr_base.specs.declared.event.Event.{Event}
 use Rattle.dr_events.specs.Fits.{FitsSchema}
