@@ -4,8 +4,8 @@ ghost use Rattle.dr_agg.specs.Combination.{combine_columns, FitsColumns};
 use crate::kind::Kind;
 use dr_base::Numbers;
 
-/// Combines the metrics of one row with those of another, column by column, each by its kind. Both have a value for each
-/// column.
+/// Combines the metrics of one row with those of another, column by column, each by its kind. Condition: both have as many
+/// values as there are kinds.
 pub fn combine_into(kinds: &[Kind], into: &mut Numbers, from: &Numbers)
     requires into { FitsColumns kinds.now into.old }
     requires from { FitsColumns kinds.now from.now }

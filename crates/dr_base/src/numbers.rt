@@ -61,12 +61,13 @@ impl Numbers {
         self.0.get(place).copied()
     }
 
-    /// Puts a number in the place of another.
+    /// Puts a number in the place of another; past the end nothing changes.
     pub fn set(&mut self, place: usize, number: i64)
-        requires { place < length self.old }
         ensures { self.new ≡ slice_set self.old place number }
     {
-        self.0[place] = number;
+        if let Some(slot) = self.0.get_mut(place) {
+            *slot = number;
+        }
     }
 
     /// Adds a number at the end.

@@ -1,4 +1,4 @@
-ghost use Rattle.std.specs.Prelude.{◌≡◌, ◌↔◌, ◌<◌, ◌≤◌, [], None, length, take, IfOk, OnOk, OnErr, IsErrOf, bytes_eq, slice_get, Some, map, string_bytes};
+ghost use Rattle.std.specs.Prelude.{◌≡◌, ◌↔◌, ◌<◌, ◌≤◌, [], None, length, take, IfOk, OnOk, OnErr, IsErrOf, bytes_eq, slice_get, Some, map, string_bytes, option_map};
 ghost use Rattle.std.specs.List.{IsDistinct};
 ghost use Rattle.dr_dict.specs.Dictionary.{number_in, with_text, with_texts};
 
@@ -71,11 +71,13 @@ impl GrowingDict {
     }
 
     /// The text of a number.
-    pub fn text(&self, number: u32) -> &str
-        requires { number < length self.now.texts }
-        ensures { slice_get self.now.texts number ≡ Some result.now }
+    pub fn text(&self, number: u32) -> Option<&str>
+        ensures { option_map (λ t. t.now) result ≡ slice_get self.now.texts number }
     {
-        self.as_slice()[number as usize].as_str()
+        match self.as_slice().get(number as usize) {
+            Some(text) => Some(text.as_str()),
+            None => None,
+        }
     }
 
     /// Adds a text where it is new, and answers its number. An error leaves the dictionary as it was. Refusals: 40

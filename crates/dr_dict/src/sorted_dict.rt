@@ -1,4 +1,4 @@
-ghost use Rattle.std.specs.Prelude.{◌≡◌, ◌<◌, ℕ, List, length, map, IfOk, Some, slice_get, Contains};
+ghost use Rattle.std.specs.Prelude.{◌≡◌, ◌<◌, ℕ, List, length, map, IfOk, Some, slice_get, Contains, option_map};
 ghost use Rattle.std.specs.Ordering.{nat_cmp};
 ghost use Rattle.std.specs.Cmp.Lexicographic.{slice_cmp};
 ghost use Rattle.std.specs.List.Sorted.{IsSorted};
@@ -40,11 +40,13 @@ impl<'a> SortedDict<'a> {
     }
 
     /// The text at a place, from 0.
-    pub fn text(&self, place: usize) -> &str
-        requires { place < length self.now }
-        ensures { slice_get self.now place ≡ Some result.now }
+    pub fn text(&self, place: usize) -> Option<&str>
+        ensures { option_map (λ t. t.now) result ≡ slice_get self.now place }
     {
-        self.texts[place]
+        match self.texts.get(place) {
+            Some(text) => Some(*text),
+            None => None,
+        }
     }
 }
 

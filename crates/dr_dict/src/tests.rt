@@ -36,10 +36,9 @@ fn sorts_texts_by_their_bytes(rt: HostRuntime) -> Result<(), Fail> {
     let dict = two_texts(alloc)?;
     let sorted = SortedDict::of(&dict)?;
     assert_eq!(rt; sorted.len(), 2);
-    if sorted.len() == 2 {
-        assert_eq!(rt; sorted.text(0), "a");
-        assert_eq!(rt; sorted.text(1), "b");
-    }
+    assert_eq!(rt; sorted.text(0), Some("a"));
+    assert_eq!(rt; sorted.text(1), Some("b"));
+    assert_eq!(rt; sorted.text(2), None);
     let places = renumbering(&dict)?;
     assert_eq!(rt; places.as_slice(), [1, 0].as_slice());
     Ok(())
@@ -51,9 +50,8 @@ fn forgets_the_last_texts(rt: HostRuntime) -> Result<(), Fail> {
     let mut dict = two_texts(alloc)?;
     dict.truncate(1);
     assert_eq!(rt; dict.len(), 1);
-    if dict.len() == 1 {
-        assert_eq!(rt; dict.text(0), "b");
-    }
+    assert_eq!(rt; dict.text(0), Some("b"));
+    assert_eq!(rt; dict.text(1), None);
     assert_eq!(rt; dict.number_of(&text(alloc, "a")?), None);
     assert_eq!(rt; dict.add(&text(alloc, "c")?), Ok(1));
     Ok(())

@@ -1,4 +1,5 @@
 ghost use Rattle.std.specs.Prelude.{◌≡◌, ◌≤ℤ◌, IfSome};
+ghost use Rattle.std.specs.Int.{int_max, int_min};
 ghost use Rattle.std.specs.Iterator.{YieldsFirst, item_count};
 ghost use Rattle.dr_time.specs.Instant.{first_instant, last_instant};
 ghost use Rattle.dr_gran.specs.Buckets.{buckets_of, first_common as first_common_of};
@@ -6,6 +7,12 @@ ghost use Rattle.dr_gran.specs.Buckets.{buckets_of, first_common as first_common
 use crate::gran::Gran;
 use dr_time::Union;
 use std::marker::Model;
+
+/// 0001-01-01T00:00:00.000Z
+const FIRST_INSTANT: i64 = -62_135_596_800_000;
+
+/// 9999-12-31T23:59:59.999Z
+const LAST_INSTANT: i64 = 253_402_300_799_999;
 
 /// The buckets that hold a millisecond both of a union of intervals and of a span of times, by their starts, rising.
 /// A contract sees it as the list of those that are still to come.
@@ -33,19 +40,17 @@ impl<'a> Model for Buckets<'a> {
 }
 
 impl<'a> Buckets<'a> {
-    /// The first buckets, at most `bound` of them, of the union's times from `from` to `to`, both included, which are
-    /// times in milliseconds since 1970-01-01T00:00:00Z from 0001-01-01 to 9999-12-31.
+    /// The first buckets, at most `bound` of them, of the union's times from `from` to `to`, both included, in milliseconds
+    /// since 1970-01-01T00:00:00Z. Of this span only what lies from 0001-01-01 to 9999-12-31 counts.
     /// The one bucket of `all` starts where the union does.
     pub fn new(gran: Gran, union: &'a Union, from: i64, to: i64, bound: usize) -> Buckets<'a>
-        requires low { first_instant ≤ℤ from }
-        requires high { to ≤ℤ last_instant }
-        ensures { result ≡ buckets_of bound gran union.now from to }
+        ensures { result ≡ buckets_of bound gran union.now (int_max from first_instant) (int_min to last_instant) }
     {
         Buckets {
             gran,
             union,
-            from,
-            to,
+            from: from.max(FIRST_INSTANT),
+            to: to.min(LAST_INSTANT),
             left: bound,
         }
     }

@@ -4,7 +4,6 @@ use Rattle.std.proofs.lemmas.List.{map-append, length-map}
 use Rattle.std.specs.List.{AllByRecursion, IsDistinct}
 use Rattle.dr_base.specs.declared.event.Event.{Event}
 use Rattle.dr_base.specs.declared.row.Row.{Row}
-use Rattle.dr_gran.specs.Step.{is_all}
 use Rattle.dr_gran.specs.Truncation.{truncation}
 use Rattle.dr_dict.proofs.Texts.{distinct-nil}
 use Rattle.dr_agg.specs.declared.kind.Kind.{Kind}
@@ -57,14 +56,13 @@ module _ (s : Schema) (ks : List Kind) (limit : ℕ) (ds : List Dictionary) (c :
 
   -- with another key that was coded last
   pub coded-again : (d : Coded) → length d.numbers.items ≡ length ds → Holds s ks limit ds d en
-  coded-again d count = record { columns = h.columns; kind = h.kind; small = h.small; combines = h.combines; count = h.count; coded_count = count; sound = h.sound }
+  coded-again d count = record { columns = h.columns; small = h.small; combines = h.combines; count = h.count; coded_count = count; sound = h.sound }
 
   -- and with what stands for the same entries
   pub as-before : (d : Coded) → length d.numbers.items ≡ length ds → (more : List Dictionary) (next : Entries) → more ≡ ds → entries_of next ≡ entries_of en → is_combined next ≡ is_combined en → Holds s ks limit more d next
   as-before d count more next is_more after still =
       record {
         columns = h.columns;
-        kind = h.kind;
         small = h.small;
         combines = still ∙ h.combines;
         count = ap length is_more ∙ h.count;
@@ -107,7 +105,6 @@ module _ (s : Schema) (ks : List Kind) (limit : ℕ) (ds : List Dictionary) (c :
           let x = member (entries_of en) i lt in
           record {
             columns = h.columns;
-            kind = h.kind;
             small = h.small;
             combines = still ∙ sym combined ∙ h.combines;
             count = h.count;
@@ -156,7 +153,6 @@ module _ (s : Schema) (ks : List Kind) (limit : ℕ) (ds : List Dictionary) (c :
             let same : length more ≡ length ds = ap length is_more ∙ length_with ds e.dims in
             record {
               columns = h.columns;
-              kind = h.kind;
               small = h.small;
               combines = still ∙ h.combines;
               count = same ∙ h.count;
@@ -175,11 +171,10 @@ unfolding IsDistinct
 no_keys = tt
 
 -- an index without entries
-pub nothing-holds : (s : Schema) (ks : List Kind) (limit : ℕ) (ds : List Dictionary) (c : Coded) (en : Entries) → ks ≡ kinds_of s → is_all s.query_granularity ≡ false → limit ≤ 1048576 → is_combined en ≡ s.rollup → length ds ≡ length s.dimensions
+pub nothing-holds : (s : Schema) (ks : List Kind) (limit : ℕ) (ds : List Dictionary) (c : Coded) (en : Entries) → ks ≡ kinds_of s → limit ≤ 1048576 → is_combined en ≡ s.rollup → length ds ≡ length s.dimensions
     → length c.numbers.items ≡ length s.dimensions → entries_of en ≡ [] → AllByRecursion (λ (d : Dictionary). d ≡ record { limit = limit; texts = [] }) ds → Holds s ks limit ds c en
-nothing-holds s ks limit ds c en columns kind small combines count coded none empty = record {
+nothing-holds s ks limit ds c en columns small combines count coded none empty = record {
   columns = columns;
-  kind = kind;
   small = small;
   combines = combines;
   count = count;

@@ -1,8 +1,7 @@
 -- What holds between the parts of an open index. No public contract cites this file.
-use Rattle.std.specs.Prelude.{◌≡◌, ℕ, ◌≤◌, Bool, true, false, List, length, map}
+use Rattle.std.specs.Prelude.{◌≡◌, ℕ, ◌≤◌, Bool, true, List, length, map}
 use Rattle.std.specs.List.{AllByRecursion, IsDistinct}
 use Rattle.dr_base.specs.declared.row.Row.{Row}
-use Rattle.dr_gran.specs.Step.{is_all}
 use Rattle.dr_agg.specs.declared.kind.Kind.{Kind}
 use Rattle.dr_agg.specs.Combination.{FitsColumns}
 use Rattle.dr_agg.specs.Rollup.{rollup}
@@ -25,7 +24,6 @@ pub record IsSound (kinds : List Kind) (limit : ℕ) (combines : Bool) (dicts : 
 
 pub record Holds (schema : Schema) (kinds : List Kind) (limit : ℕ) (dicts : List Dictionary) (coded : Coded) (entries : Entries) : Type 0 where
   pub columns : kinds ≡ kinds_of schema
-  pub kind : is_all schema.query_granularity ≡ false
   pub small : limit ≤ 1048576
   pub combines : is_combined entries ≡ schema.rollup
   pub count : length dicts ≡ length schema.dimensions

@@ -1,4 +1,4 @@
-ghost use Rattle.std.specs.Prelude.{◌≡◌, ◌<◌, ◌++◌, length, take, drop, IfOk, OnOk, OnErr};
+ghost use Rattle.std.specs.Prelude.{◌≡◌, ◌<◌, ◌++◌, length, take, drop, slice_get, Some, IfOk, OnOk, OnErr};
 ghost use Rattle.dr_dict.specs.Dictionary.{with_text, with_texts};
 ghost use Rattle.dr_rollup.specs.Coding.{numbers_of, all_known, with_values, texts_of, AreNumbers, HaveRoom};
 
@@ -66,7 +66,14 @@ pub fn texts_of(alloc: Global, dicts: &[GrowingDict], numbers: &[u32]) -> Result
 {
     let mut texts = Vec::with_capacity(alloc, dicts.len())?;
     for (i, dict) in dicts.iter().enumerate() {
-        texts.push(Text::from_str(alloc, dict.text(numbers[i]))?)?;
+        texts.push(Text::from_str(alloc, text_of(dict, numbers[i]))?)?;
     }
     Ok(Texts::from_vec(texts))
+}
+
+fn text_of(dict: &GrowingDict, number: u32) -> &str
+    requires { number < length dict.now.texts }
+    ensures { slice_get dict.now.texts number ≡ Some result.now }
+{
+    dict.text(number).unwrap()
 }

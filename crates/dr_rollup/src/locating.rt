@@ -1,6 +1,5 @@
 ghost use Rattle.std.specs.Prelude.{◌≡◌, ◌<◌, true, false, None, Some, length, slice_get, IfSome};
 ghost use Rattle.std.specs.List.{AllByRecursion};
-ghost use Rattle.dr_gran.specs.Step.{is_all};
 ghost use Rattle.dr_gran.specs.Truncation.{truncation};
 ghost use Rattle.dr_time.specs.Instant.{IsInstant};
 ghost use Rattle.dr_rollup.specs.Unrolled.{unrolled};
@@ -9,6 +8,7 @@ ghost use Rattle.dr_rollup.specs.Coding.{Entry, entries_of, is_combined, numbers
 use crate::coded::Coded;
 use crate::coding::code;
 use crate::entries::Entries;
+use crate::unrolled::row_time;
 use dr_base::{Event, Text};
 use dr_dict::GrowingDict;
 use dr_spec::Schema;
@@ -21,7 +21,6 @@ pub fn locate(
     event: &Event,
     coded: &mut Coded,
 ) -> Option<usize>
-    requires kind { is_all schema.now.query_granularity ≡ false }
     requires event_time { IsInstant event.now.time }
     requires dims { length event.now.dims ≡ length dicts.now }
     requires coded { length coded.old.numbers.items ≡ length dicts.now }
@@ -35,7 +34,7 @@ pub fn locate(
     ensures none { result ≡ None → is_combined entries.now ≡ true → AllByRecursion (λ e. same_keys (unrolled schema.now event.now).key (row_of dicts.now e).key ≡ false) (entries_of entries.now) }
     ensures unlike { result ≡ None → is_combined entries.now ≡ true → AllByRecursion (λ e. same_coded coded.new e.0 ≡ false) (entries_of entries.now) }
 {
-    coded.time = schema.query_granularity.truncate(event.time);
+    coded.time = row_time(schema, event.time);
     find_key(dicts, entries, event.dims.as_slice(), coded)
 }
 

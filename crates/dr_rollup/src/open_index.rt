@@ -1,6 +1,5 @@
-ghost use Rattle.std.specs.Prelude.{◌≡◌, ◌≤◌, ◌<◌, ◌↔◌, [], false, length, IfOk, OnOk, OnErr, IsErrOf};
+ghost use Rattle.std.specs.Prelude.{◌≡◌, ◌≤◌, ◌<◌, ◌↔◌, [], length, IfOk, OnOk, OnErr, IsErrOf};
 ghost use Rattle.std.specs.List.{AllByRecursion};
-ghost use Rattle.dr_gran.specs.Step.{is_all};
 ghost use Rattle.dr_events.specs.Fits.{FitsSchema};
 ghost use Rattle.dr_rollup.specs.OpenRows.{OpenRows, rows_with, with_rows, RollsUp};
 
@@ -46,11 +45,10 @@ impl Model for OpenIndex {
 }
 
 impl OpenIndex {
-    /// An index without rows, which may have as many as `limit`. Times are truncated to the query granularity of the schema,
-    /// which isn't `all`. The only error is that memory ran out.
+    /// An index without rows, which may have as many as `limit`. Times are truncated to the query granularity of the schema;
+    /// with `all`, which no ingestion spec has there, they stay as they are. The only error is that memory ran out.
     pub fn new(alloc: Global, schema: &Schema, limit: usize) -> Result<OpenIndex, AllocError>
-        requires kind { is_all schema.now.query_granularity ≡ false }
-        requires limit { limit ≤ 1048576 }
+        requires { limit ≤ 1048576 }
         ensures { IfOk result (λ index. index ≡ record { schema = schema.now; limit = limit; rows = [] }) }
     {
         let dimensions = schema.dimensions.len();

@@ -22,7 +22,6 @@ pub fn put(
     event: &Event,
 ) -> Result<(), AllocError>
     requires dims { length event.now.dims ≡ length dicts.old.items }
-    requires inputs { length event.now.inputs ≡ length kinds.now }
     requires room { HaveRoom dicts.old.items }
     requires new { is_combined entries.old ≡ true → AllByRecursion (λ e. same_coded coded.now e.0 ≡ false) (entries_of entries.old) }
     ensures dicts { OnOk result (dicts.new.items ≡ with_values dicts.old.items event.now.dims) }

@@ -36,25 +36,23 @@ pub(crate) fn date_of_day(day: i64) -> Date
 }
 
 /// The month of a day from 0000-01-01 to 9999-12-31, by its day number, which is 0 for 1970-01-01.
-/// The months are numbered through from January of the year 0, which is 0.
+/// The months are numbered through from January of the year 0, which is 0. An earlier day counts as the first of these
+/// days, and a later one as the last.
 pub fn month_of_day(day: i64) -> u32
-    requires low { neg_ℤ (pos days_before_1970) ≤ℤ day }
-    requires high { day ≤ℤ pos 2932896 }
-    ensures value { result ≡ month_at (since_year_zero day) }
+    ensures value { neg_ℤ (pos days_before_1970) ≤ℤ day → day ≤ℤ pos 2932896 → result ≡ month_at (since_year_zero day) }
     ensures bound { result < 120000 }
 {
-    let date = date_of_day(day);
+    let date = date_of_day(day.clamp(-719_528, 2_932_896));
     date.year() as u32 * 12 + (date.month() as u32 - 1)
 }
 
-/// The day number of the first day of a month, up to January of the year 10000.
+/// The day number of the first day of a month, up to January of the year 10000; a later month counts as that one.
 pub fn first_day_of_month(month: u32) -> i64
-    requires { month ≤ 120000 }
-    ensures value { result ≡ first_day month }
+    ensures value { month ≤ 120000 → result ≡ first_day month }
     ensures low { neg_ℤ (pos days_before_1970) ≤ℤ result }
     ensures high { result ≤ℤ pos 2932897 }
 {
-    if month == LAST_MONTH {
+    if month >= LAST_MONTH {
         return 2_932_897;
     }
     let first = date((month / 12) as i16, (month % 12 + 1) as i8, 1);

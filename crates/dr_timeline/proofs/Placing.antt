@@ -1,5 +1,5 @@
 -- The place at which the ranges of a job stand, and what a commit is there.
-use Rattle.std.proofs.Common.{◌≡◌, ◌∙◌, sym, refl, ap, ℤ, ℕ, zero, suc, ◌+◌, ◌<◌, ◌≤◌, Bool, true, false, ◌&&◌, List, [], ◌∷◌, length, map, Option, Some, None, Result, Ok, Err, arith, rules, tests}
+use Rattle.std.proofs.Common.{◌≡◌, ◌∙◌, sym, refl, ap, ℤ, ℕ, zero, suc, ◌+◌, ◌<◌, ◌≤◌, Bool, true, false, ◌&&◌, List, [], ◌∷◌, length, map, Some, None, Ok, Err, arith, rules, tests}
 use Rattle.std.specs.Prelude.{nat_eq, nat_lt, nat_le}
 use Rattle.std.specs.Bool.{Decides}
 use Rattle.std.specs.Ordering.{int_eq}
@@ -14,7 +14,7 @@ use Rattle.dr_timeline.specs.declared.job.Job.{Job}
 use Rattle.dr_timeline.specs.declared.purpose.Purpose.{Purpose}
 use Rattle.dr_timeline.specs.declared.timeline_error.TimelineError.TheVariants.{NothingToSeal, NoSuchRange, Stale, CommitsFull}
 use Rattle.dr_timeline.specs.State.{State, sealed_in}
-use Rattle.dr_timeline.specs.Steps.{accepted, sealed_at, open_in, fragment_of, ranges_at, job_of, StandsAt, Commits, joined_range, committed}
+use Rattle.dr_timeline.specs.Steps.{accepted, sealed_at, open_in, fragment_of, ranges_at, job_of, StandsAt, Commits}
 use Rattle.dr_timeline.specs.Standing.{same_row, same_fragment, stands_at, first_place, place_of}
 use Rattle.dr_timeline.specs.Stepping.{accept, seal, plan, commit}
 

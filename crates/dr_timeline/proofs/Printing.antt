@@ -1,13 +1,11 @@
 -- The groups of a query can be printed.
-use Rattle.std.proofs.Common.{◌≡◌, refl, ap, ℤ, pos, suc, List, [], ◌∷◌, ◌++◌, length, map, cond, Option, Some, None, Bool, true, false, inl, arith}
+use Rattle.std.proofs.Common.{◌≡◌, refl, ap, ℤ, pos, suc, List, [], ◌∷◌, length, map, cond, Option, Some, None, Bool, true, false, inl, arith}
 use Rattle.std.specs.Prelude.{unwrap_or}
 use Rattle.std.specs.Int.{int_min}
-use Rattle.std.specs.List.{flat_map, fold, list_any, All, AllByRecursion}
+use Rattle.std.specs.List.{fold, list_any, All, AllByRecursion}
 use Rattle.std.proofs.lemmas.Int.{ints, by_lt_z}
 use Rattle.std.proofs.lemmas.List.Elements.{recursion_from_All}
-use Rattle.dr_base.specs.declared.event.Event.{Event}
 use Rattle.dr_base.specs.declared.row.Row.{Row}
-use Rattle.dr_spec.specs.declared.schema.Schema.{Schema}
 use Rattle.dr_time.specs.declared.interval.Interval.{Interval}
 use Rattle.dr_time.specs.Printed as time
 use Rattle.dr_time.specs.Interval.{is_empty, first_time}

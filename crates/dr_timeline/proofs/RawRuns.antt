@@ -1,5 +1,5 @@
 -- Each answer of a run is the raw answer, over the definitions alone.
-use Rattle.std.proofs.Common.{◌≡◌, ◌≢◌, ◌∙◌, sym, refl, ap, subst, ◌⊎◌, inl, inr, ℕ, ℤ, ◌<◌, ◌≤◌, Bool, true, false, List, [], ◌∷◌, ◌++◌, length, Some, None, zero, suc, cond, nat_le, arith}
+use Rattle.std.proofs.Common.{◌≡◌, ◌∙◌, sym, refl, ap, subst, inl, inr, ℕ, ℤ, ◌≤◌, Bool, true, false, List, [], ◌∷◌, ◌++◌, length, Some, None, zero, suc, cond, nat_le, arith}
 use Rattle.std.specs.Prelude.{Option}
 use Rattle.std.specs.List.{AllByRecursion, slice_get}
 use Rattle.std.proofs.lemmas.List.{append-nil}
@@ -17,14 +17,14 @@ use Rattle.dr_timeline.specs.declared.job.Job.{Job}
 use Rattle.dr_timeline.specs.declared.step.Step.{Step}
 use Rattle.dr_timeline.specs.declared.step.Step.TheVariants.{Accept, Seal, Plan, Commit, Pin, Ask, Audit}
 use Rattle.dr_timeline.specs.declared.reply.Reply.{Reply}
-use Rattle.dr_timeline.specs.declared.reply.Reply.TheVariants.{Accepted, Sealed, Job as JobGiven, Committed, Pinned as PinGiven, Answer, Refused, NoSuch}
+use Rattle.dr_timeline.specs.declared.reply.Reply.TheVariants.{Accepted, Pinned as PinGiven, Refused}
 use Rattle.dr_rollup.specs.Unrolled.{rolled_up}
-use Rattle.dr_timeline.specs.Chunks.{chunk, chunk_list, chunks, values_onto}
+use Rattle.dr_timeline.specs.Chunks.{chunk, values_onto}
 use Rattle.dr_timeline.specs.RawAnswer.{raw_answer}
-use Rattle.dr_timeline.specs.State.{State, Cut, AreCuts, empty_state}
-use Rattle.dr_timeline.specs.Steps.{accepted, with_event, sealed_at, open_in, at_chunk}
+use Rattle.dr_timeline.specs.State.{State, Cut, AreCuts}
+use Rattle.dr_timeline.specs.Steps.{accepted, with_event, sealed_at, open_in}
 use Rattle.dr_timeline.specs.Segments.{Pinned, pinned, infos, rows_over, rows_of}
-use Rattle.dr_timeline.specs.Run.{CoreState, empty_core, FitsStep, Moves, Becomes, Takes, TakesCommit, TakesAsk, TakesAudit, RunFrom, reply_to, with_timeline}
+use Rattle.dr_timeline.specs.Run.{CoreState, empty_core, FitsStep, Moves, TakesCommit, TakesAsk, TakesAudit, RunFrom, reply_to, with_timeline}
 use Rattle.dr_timeline.specs.Headline.{accepted_by, pinned_by, IsRaw, AnswersRaw, AnswersFrom, AnswersAreRaw}
 use Rattle.dr_timeline.proofs.CutSteps.{cuts-opened, cuts-after_seal, cuts-after_merge}
 use Rattle.dr_timeline.proofs.Matching.{answer-cut_rows}

@@ -1,8 +1,7 @@
 -- A run with one more step.
-use Rattle.std.proofs.Common.{◌≡◌, ◌∙◌, sym, refl, ap, subst, ◌⊎◌, inl, inr, ℕ, ℤ, ◌+◌, ◌<◌, ◌≤◌, true, false, cond, List, [], ◌∷◌, ◌++◌, length, take, get_or, slice_get, Some, None, arith}
+use Rattle.std.proofs.Common.{◌≡◌, ◌∙◌, sym, refl, ap, subst, ◌⊎◌, inl, inr, ℕ, ℤ, ◌<◌, ◌≤◌, true, false, cond, List, [], ◌∷◌, ◌++◌, length, slice_get, Some, None, arith}
 use Rattle.std.specs.Prelude.{◌↔◌, IfOk, IfErr, OnErr, IsErrOf, MatchResult, Result, Ok, Err, Option, nat_le}
 use Rattle.std.proofs.lemmas.Bool.Decides.{nat_tests}
-use Rattle.std.proofs.lemmas.List.{take_more}
 use Rattle.dr_base.specs.declared.event.Event.{Event}
 use Rattle.dr_query.specs.declared.query.Query.{Query}
 use Rattle.dr_timeline.specs.declared.step.Step.{Step}
@@ -18,7 +17,7 @@ use Rattle.dr_timeline.specs.Chunks.{chunk}
 use Rattle.dr_timeline.specs.State.{State}
 use Rattle.dr_timeline.specs.Steps.{accepted, with_event, sealed_at, open_in, StandsAt, Commits}
 use Rattle.dr_timeline.specs.Segments.{Pinned}
-use Rattle.dr_timeline.specs.Run.{CoreState, RunFrom, Moves, Becomes, Takes, TakesCommit, TakesAsk, TakesAudit, with_timeline}
+use Rattle.dr_timeline.specs.Run.{CoreState, RunFrom, Moves, Becomes, TakesCommit, TakesAsk, TakesAudit, with_timeline}
 
 pub run_more : (old mid new : CoreState) (ss : List Step) (rs : List Reply) (s : Step) (r : Reply) → RunFrom old ss rs mid → Moves mid s r new → RunFrom old (ss ++ s ∷ []) (rs ++ r ∷ []) new
 run_more old mid new [] [] s r so_far move = (new, subst (λ (c : CoreState). Moves c s r new) so_far move, refl)

@@ -1,11 +1,11 @@
 -- What the answers of a run are, in terms of its steps and replies alone.
-use Rattle.std.specs.Prelude.{◌≡◌, ◌⊎◌, true, ℕ, List, [], ◌∷◌, ◌++◌, Option, Some, None, slice_get}
+use Rattle.std.specs.Prelude.{◌≡◌, ◌⊎◌, true, List, [], ◌∷◌, ◌++◌, Option, Some, None, slice_get}
 use Rattle.dr_base.specs.declared.event.Event.{Event}
 use Rattle.dr_spec.specs.declared.schema.Schema.{Schema}
 use Rattle.dr_query.specs.declared.query.Query.{Query}
 use Rattle.dr_query.specs.Matching.{is_matching}
 use Rattle.dr_timeline.specs.declared.step.Step.{Step}
-use Rattle.dr_timeline.specs.declared.step.Step.TheVariants.{Accept, Seal, Plan, Commit, Pin, Ask, Audit}
+use Rattle.dr_timeline.specs.declared.step.Step.TheVariants.{Accept, Pin, Ask}
 use Rattle.dr_timeline.specs.declared.reply.Reply.{Reply}
 use Rattle.dr_timeline.specs.declared.reply.Reply.TheVariants.{Accepted, Pinned, Refused, NoSuch}
 use Rattle.dr_timeline.specs.RawAnswer.{raw_answer}

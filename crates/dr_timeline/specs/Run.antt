@@ -1,7 +1,6 @@
 -- A run of the core: steps, one after another, with a reply to each.
-use Rattle.std.specs.Prelude.{◌≡◌, ◌⊎◌, ◌<◌, ◌≤◌, ◌-◌, ◌≢◌, ℕ, ℤ, List, [], ◌∷◌, ◌++◌, length, Option, Some, None, Result, Ok, Err, slice_get}
+use Rattle.std.specs.Prelude.{◌≡◌, ◌⊎◌, ◌<◌, ◌≤◌, ◌≢◌, ℕ, List, [], ◌∷◌, ◌++◌, length, Option, Some, None, Result, Ok, Err, slice_get}
 use Rattle.std.specs.List.{AllByRecursion}
-use Rattle.dr_base.specs.declared.event.Event.{Event}
 use Rattle.dr_events.specs.Fits.{FitsSchema}
 use Rattle.dr_spec.specs.declared.schema.Schema.{Schema}
 use Rattle.dr_query.specs.declared.query.Query.{Query}

@@ -1,5 +1,5 @@
 -- Where the ranges of a job stand, as a test and a search.
-use Rattle.std.specs.Prelude.{ℕ, zero, suc, ◌+◌, nat_eq, nat_lt, nat_le, bytes_eq, Bool, ◌&&◌, Option, Some, None, List, length, map, if◌then◌else◌}
+use Rattle.std.specs.Prelude.{ℕ, zero, suc, ◌+◌, nat_eq, nat_lt, nat_le, bytes_eq, Bool, ◌&&◌, Option, Some, None, length, map, if◌then◌else◌}
 use Rattle.std.specs.Ordering.{int_eq}
 use Rattle.std.specs.Cmp.Lexicographic.{pointwise}
 use Rattle.dr_base.specs.declared.row.Row.{Row}

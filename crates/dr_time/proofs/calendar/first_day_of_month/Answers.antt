@@ -6,8 +6,8 @@ use Rattle.jiff_core.proofs.SignedLemmas.{signed_arith}
 use Rattle.dr_time.proofs.CalendarLemmas.{first_day-10000, first_day-days_from_civil}
 use Rattle.dr_time.proofs.calendar.first_day_of_month.Goals as goal
 
-pub returns-then-month-eq-LAST_MONTH-clause-value : goal.returns-then-month-eq-LAST_MONTH-clause-value
-returns-then-month-eq-LAST_MONTH-clause-value c = first_day-10000 c.args.month c.if-month-eq-LAST_MONTH.true
+pub returns-then-month-ge-LAST_MONTH-clause-value : goal.returns-then-month-ge-LAST_MONTH-clause-value
+returns-then-month-ge-LAST_MONTH-clause-value c = λ most. first_day-10000 c.args.month (omega arith)
 
 pub returns-clause-value : goal.returns-clause-value
 returns-clause-value c =
@@ -20,8 +20,8 @@ returns-clause-value c =
     let day_is : c.date-first.result.day ≡ 1 = omega (arith, signed_arith, parts.2) in
     let number = rw (c.to_plain.ensures, parts.0, month_is, day_is) at c.to_unix_epoch_day.ensures.value in
     let cast : to_z w64 (of_z w64 c.from.result) ≡ c.to_unix_epoch_day.result = omega (arith, signed_arith) in
-    cast ∙ (number ∙ first_day-days_from_civil c.args.month)
+    λ most. cast ∙ (number ∙ first_day-days_from_civil c.args.month)
 
 -- no month begins before the year 0
 pub returns-clause-low : goal.returns-clause-low
-returns-clause-low c = omega (arith, signed_arith, returns-clause-value c)
+returns-clause-low c = omega (arith, signed_arith, returns-clause-value c (omega arith))

@@ -1,4 +1,4 @@
-use Rattle.std.proofs.Common.{◌≡◌, ◌∙◌, sym, ap, subst}
+use Rattle.std.proofs.Common.{subst}
 use Rattle.std.proofs.lemmas.Result.{IfOk-weaker}
 use Rattle.dr_spec.specs.WellFormed.{IsWellFormed}
 use Rattle.dr_timeline.specs.Run.{CoreState, RunFrom}

@@ -1,4 +1,4 @@
-use Rattle.std.proofs.Common.{◌≡◌, ◌∙◌, sym, ap, refl, List}
+use Rattle.std.proofs.Common.{◌≡◌, ◌∙◌, ap, refl, List}
 use Rattle.dr_base.specs.declared.row.Row.{Row}
 use Rattle.dr_timeline.specs.declared.fragment.Fragment.{Fragment}
 use Rattle.dr_timeline.proofs.Joins.{join_more, fits_input}

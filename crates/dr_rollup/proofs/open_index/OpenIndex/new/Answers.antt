@@ -5,7 +5,7 @@ use Rattle.dr_rollup.proofs.open_index.OpenIndex.new.Goals as goal
 pub invariant_of-result : goal.invariant_of-result
 invariant_of-result c =
     rw c.in_ok-copy.ensures
-    (nothing-holds c.args.schema.now c.in_ok-columns_of.field-0.items c.args.limit c.in_ok-empty_dicts.field-0.items c.in_ok-zeros.field-0 c.new.result c.in_ok-columns_of.ensures c.requires.kind c.requires.limit c.new.ensures.combined (c.in_ok-empty_dicts.ensures.count ∙ c.len-dimensions.ensures)
+    (nothing-holds c.args.schema.now c.in_ok-columns_of.field-0.items c.args.limit c.in_ok-empty_dicts.field-0.items c.in_ok-zeros.field-0 c.new.result c.in_ok-columns_of.ensures c.requires c.new.ensures.combined (c.in_ok-empty_dicts.ensures.count ∙ c.len-dimensions.ensures)
     (c.in_ok-zeros.ensures ∙ c.len-dimensions.ensures) c.new.ensures.entries c.in_ok-empty_dicts.ensures.empty)
 
 pub returns : goal.returns

@@ -21,6 +21,7 @@ add_row-requires-clause-rows c =
 pub add_row-requires-clause-row : goal.add_row-requires-clause-row
 add_row-requires-clause-row c =
     let s = c.self.inside in
+    let row = c.in_ok-row.ensures (c.deref.ensures.value ∙ c.self.invariant.columns) c.requires.time in
     let fits : FitsColumns c.deref-2.result.now c.in_ok-row.row.metrics =
-    rw (c.deref-2.ensures.value, c.in_ok-row.ensures) (fits-event s.schema s.kinds.items s.limit s.dicts.items s.coded s.entries c.self.invariant c.args.event.now) in
+    rw (c.deref-2.ensures.value, row) (fits-event s.schema s.kinds.items s.limit s.dicts.items s.coded s.entries c.self.invariant c.args.event.now) in
     on_true s.schema.rollup (FitsColumns c.deref-2.result.now c.in_ok-row.row.metrics) fits

@@ -1,4 +1,4 @@
-use Rattle.std.proofs.Common.{◌≡◌, ◌∙◌, sym, ap, subst, length, get_or, ◌<◌, List}
+use Rattle.std.proofs.Common.{◌∙◌, sym, ap, subst, length, ◌<◌, List}
 use Rattle.std.proofs.lemmas.Result.{on_ok_weaker}
 use Rattle.dr_timeline.specs.declared.chunk.Chunk.{Chunk}
 use Rattle.dr_timeline.specs.Held.{with_open_sealed, changed_at}

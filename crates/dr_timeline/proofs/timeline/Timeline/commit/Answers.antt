@@ -1,12 +1,11 @@
-use Rattle.std.proofs.Common.{◌≡◌, ◌∙◌, sym, ap, refl, subst, map, take, drop, ℕ, ℤ, [], w64, arith, rules, FitsSigned, length, get_or, ◌<◌, ◌≤◌, ◌-◌, ◌+◌, List}
+use Rattle.std.proofs.Common.{◌≡◌, ◌∙◌, sym, ap, refl, subst, map, take, drop, ℕ, w64, arith, rules, FitsSigned, length, get_or, ◌<◌, ◌≤◌, ◌-◌, ◌+◌, List}
 use Rattle.std.proofs.lemmas.Int.{to_z-of_z}
 use Rattle.std.proofs.lemmas.Result.{err_from_is_err_and}
 use Rattle.dr_spec.specs.declared.schema.Schema.{Schema}
 use Rattle.dr_timeline.specs.declared.chunk.Chunk.{Chunk}
-use Rattle.dr_timeline.specs.declared.job.Job.{Job}
 use Rattle.dr_timeline.specs.declared.sealed_range.SealedRange.{SealedRange}
 use Rattle.dr_timeline.specs.State.{State, sealed_in}
-use Rattle.dr_timeline.specs.Steps.{StandsAt, Commits, least_version, joined_range, committed}
+use Rattle.dr_timeline.specs.Steps.{StandsAt, least_version, joined_range, committed}
 use Rattle.dr_timeline.specs.Joined.{joined_fragment}
 use Rattle.dr_timeline.specs.Held.{StandsIn, chunk_at, at_start, changed_at, with_range, range_of, ranges_of}
 use Rattle.dr_timeline.proofs.Places.{at_start-here, chunk_at-here, chunk_at-new, get_or-same}
