@@ -120,7 +120,9 @@ impl Session {
         ensures err { OnErr result (self.new ≡ self.old) }
     {
         let chunk = self.chunk_named(instant)?;
-        let job = self.timeline.plan(chunk, lo as usize, hi as usize, Purpose::Merge)?;
+        let job = self
+            .timeline
+            .plan(chunk, lo as usize, hi as usize, Purpose::Merge)?;
         commit(alloc, &mut self.timeline, &job)?;
         Ok(Reply::Merged)
     }
@@ -130,7 +132,9 @@ impl Session {
         ensures err { OnErr result (self.new ≡ self.old) }
     {
         let chunk = self.chunk_named(instant)?;
-        let job = self.timeline.plan(chunk, lo as usize, hi as usize, Purpose::Merge)?;
+        let job = self
+            .timeline
+            .plan(chunk, lo as usize, hi as usize, Purpose::Merge)?;
         let number = self.jobs.len();
         self.jobs.push(job)?;
         Ok(Reply::Job(number))

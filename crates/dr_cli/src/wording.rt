@@ -43,12 +43,7 @@ fn push_place(alloc: Global, line: &mut String, place: Option<usize>) -> Result<
 pub fn stats_line(alloc: Global, stats: Stats) -> Result<Vec<u8>, AllocError>
     ensures { IfOk result (λ line. line.items ≡ stats_line stats) }
 {
-    let line = counts(
-        alloc,
-        stats.processed,
-        stats.unparseable,
-        stats.thrown_away,
-    )?;
+    let line = counts(alloc, stats.processed, stats.unparseable, stats.thrown_away)?;
     Ok(line.into_bytes())
 }
 
@@ -67,12 +62,7 @@ fn counts(
     Ok(line)
 }
 
-fn push_count(
-    alloc: Global,
-    line: &mut String,
-    word: &str,
-    number: u64,
-) -> Result<(), AllocError>
+fn push_count(alloc: Global, line: &mut String, word: &str, number: u64) -> Result<(), AllocError>
     ensures { OnOk result (string_bytes line.new ≡ string_bytes line.old ++ (word.now ++ decimal number)) }
 {
     line.push_str(word)?;

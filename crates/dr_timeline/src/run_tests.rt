@@ -200,7 +200,8 @@ fn answers_are_raw_wherever_seals_and_merges_fall(rt: HostRuntime) -> Result<(),
     for cuts in 0..800 {
         let steps = five_events(rt.alloc(), cuts % 32, cuts / 32 % 5, cuts / 160)?;
         let told = last_two(rt.alloc(), &steps.run(rt.alloc())?)?;
-        let raw = r#"[{"result":{"added":111},"timestamp":"2024-01-01T00:00:00.000Z"}]; [{"result":{"added":111},"timestamp":"2024-01-01T00:00:00.000Z"}]; "#;
+        let raw =
+            r#"[{"result":{"added":111},"timestamp":"2024-01-01T00:00:00.000Z"}]; [{"result":{"added":111},"timestamp":"2024-01-01T00:00:00.000Z"}]; "#;
         assert_eq!(rt; told.as_str(), raw, "cuts {cuts}");
     }
     Ok(())
@@ -237,7 +238,8 @@ fn replies_to_each_step(rt: HostRuntime) -> Result<(), Fail> {
     merge_before_two_pins(rt.alloc(), &mut steps)?;
     asks_and_refusals(rt.alloc(), &mut steps)?;
     let told = replies_of(rt.alloc(), &steps.run(rt.alloc())?)?;
-    let wanted = r#"a0; sealed; a1; pin 0; sealed; job 0; job 1; v0; pin 1; [{"result":{"cnt":2},"timestamp":"2024-01-01T00:00:00.000Z"}]; [{"result":{"cnt":1},"timestamp":"2024-01-01T00:00:00.000Z"}]; [{"result":{"cnt":2},"timestamp":"2024-01-01T00:00:00.000Z"}]; refused 93; refused 92; refused 91; no such; no such; "#;
+    let wanted =
+        r#"a0; sealed; a1; pin 0; sealed; job 0; job 1; v0; pin 1; [{"result":{"cnt":2},"timestamp":"2024-01-01T00:00:00.000Z"}]; [{"result":{"cnt":1},"timestamp":"2024-01-01T00:00:00.000Z"}]; [{"result":{"cnt":2},"timestamp":"2024-01-01T00:00:00.000Z"}]; refused 93; refused 92; refused 91; no such; no such; "#;
     assert_eq!(rt; told.as_str(), wanted);
     Ok(())
 }
