@@ -296,7 +296,7 @@ fn answers_each_line(rt: HostRuntime) -> Result<(), Fail> {
         (" +", "refused 101 BadCommand", 1),
         ("+\r", "refused 101 BadCommand", 1),
         ("query", "refused 101 BadCommand", 1),
-        ("pin", "refused 101 BadCommand", 1),
+        ("pin", "pin 0", 0),
         ("query ", "refused 1 NotJson", 1),
         (
             "query  {\"queryType\":\"x\\n\"}",
