@@ -5,3 +5,4 @@ pub mod FoldLaws
 pub mod Rearranged
 pub mod SoFar
 pub mod Passing
+pub mod Sorting

@@ -270,7 +270,7 @@ rollup_onto_push combines kinds rows [] e = refl
 rollup_onto_push combines kinds rows (d ∷ es) e = rollup_onto_push combines kinds (add_row combines kinds rows d) es e
 
 -- what has the same rows at each key has the same rollup
-same_from_each : (combines : Bool) (kinds : List Kind) (es others : List Row) → ((q : Key) → together combines kinds (rows_at q es) ≡ together combines kinds (rows_at q others))
+pub same_from_each : (combines : Bool) (kinds : List Kind) (es others : List Row) → ((q : Key) → together combines kinds (rows_at q es) ≡ together combines kinds (rows_at q others))
     → rollup combines kinds es ≡ rollup combines kinds others
 same_from_each combines kinds es others h =
     let own = IsRollup-rollup combines kinds others in

@@ -51,6 +51,7 @@ add_row combines kinds [] r = r ∷ []
 add_row combines kinds (x ∷ xs) r =
     match_ordering (key_cmp r.key x.key) (r ∷ x ∷ xs) (if combines then joined kinds x r ∷ xs else (x ∷ add_row combines kinds xs r)) (x ∷ add_row combines kinds xs r)
 
+-- rows with entries added one by one
 unfoldable pub rollup_onto : (combines : Bool) → List Kind → List Row → List Row → List Row
 rollup_onto combines kinds rows [] = rows
 rollup_onto combines kinds rows (e ∷ es) = rollup_onto combines kinds (add_row combines kinds rows e) es

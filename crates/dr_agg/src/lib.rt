@@ -17,7 +17,7 @@ pub use laws::{
     rollup_is_unique, rollup_of_one_more, rollup_of_pieces, rollup_of_rearranged,
     rollup_of_two_pieces,
 };
-pub use rows::{add_row, rollup_rows};
+pub use rows::{add_row, roll_up, rollup_rows, sort_rows};
 
 #[cfg(test)]
 mod tests;

@@ -1,5 +1,6 @@
 ghost use Rattle.std.specs.Prelude.{IfOk};
 ghost use Rattle.dr_agg.specs.Combination.{FitsColumns};
+ghost use Rattle.dr_agg.specs.Rollup.{AllFit};
 
 use super::*;
 use dr_base::{Key, Numbers, Row, Text, Texts};
@@ -53,6 +54,71 @@ fn combines_rows_of_one_key(rt: HostRuntime) -> Result<(), Fail> {
         &rt,
         &rows,
         &[(0, "A", [2, 12, 5, 7]), (HOUR, "B", [1, -2, -2, -2])],
+    );
+    Ok(())
+}
+
+// Rows of two hours and two pages, neither in order nor each of a key of its own.
+fn unordered_rows(alloc: Global) -> Result<Vec<Row>, Fail>
+    ensures { IfOk result (λ rows. AllFit KINDS rows.items) }
+{
+    let mut rows = Vec::new(alloc);
+    rows.push(row(alloc, HOUR, "B", -2)?)?;
+    rows.push(row(alloc, 0, "A", 5)?)?;
+    rows.push(row(alloc, HOUR, "A", 1)?)?;
+    rows.push(row(alloc, 0, "A", 7)?)?;
+    rows.push(row(alloc, HOUR, "B", 3)?)?;
+    Ok(rows)
+}
+
+#[test]
+fn rolls_up_by_sorting(rt: HostRuntime) -> Result<(), Fail> {
+    let alloc = rt.alloc();
+    let wanted = [
+        (0, "A", [2, 12, 5, 7]),
+        (HOUR, "A", [1, 1, 1, 1]),
+        (HOUR, "B", [2, 1, -2, 3]),
+    ];
+    let rows = unordered_rows(alloc)?;
+    let one_by_one = rollup_rows(alloc, true, &KINDS, &rows)?;
+    expect_rows(&rt, &one_by_one, &wanted);
+    let sorted = roll_up(true, &KINDS, rows)?;
+    expect_rows(&rt, &sorted, &wanted);
+    Ok(())
+}
+
+#[test]
+fn sorts_rows_that_stay_apart(rt: HostRuntime) -> Result<(), Fail> {
+    let alloc = rt.alloc();
+    let wanted = [
+        (0, "A", [1, 5, 5, 5]),
+        (0, "A", [1, 7, 7, 7]),
+        (HOUR, "A", [1, 1, 1, 1]),
+        (HOUR, "B", [1, -2, -2, -2]),
+        (HOUR, "B", [1, 3, 3, 3]),
+    ];
+    let rows = unordered_rows(alloc)?;
+    let one_by_one = rollup_rows(alloc, false, &KINDS, &rows)?;
+    expect_rows(&rt, &one_by_one, &wanted);
+    let sorted = roll_up(false, &KINDS, rows)?;
+    expect_rows(&rt, &sorted, &wanted);
+    Ok(())
+}
+
+#[test]
+fn sorts_by_key(rt: HostRuntime) -> Result<(), Fail> {
+    let mut rows = unordered_rows(rt.alloc())?;
+    sort_rows(&mut rows)?;
+    expect_rows(
+        &rt,
+        &rows,
+        &[
+            (0, "A", [1, 5, 5, 5]),
+            (0, "A", [1, 7, 7, 7]),
+            (HOUR, "A", [1, 1, 1, 1]),
+            (HOUR, "B", [1, -2, -2, -2]),
+            (HOUR, "B", [1, 3, 3, 3]),
+        ],
     );
     Ok(())
 }

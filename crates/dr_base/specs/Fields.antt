@@ -15,6 +15,7 @@ Gives view result reading = GivesUnless is_memory view result reading
 abbrev pub IsRefusal : BaseError → BaseError → Type 0
 IsRefusal refusal e = is_memory e ≡ false → refusal ≡ e
 
+-- a value that is there and isn't null
 abbrev pub present : Option Data → Option Data
 present None = None
 present (Some null) = None
@@ -28,6 +29,7 @@ present (Some (object ms)) = Some (object ms)
 abbrev pub field : List ℕ → Data → Option Data
 field name d = present (get name d)
 
+-- the value of a field that is required, or the refusal of its name
 abbrev pub required : List ℕ → Option Data → Result Data BaseError
 required name None = Err (Missing name)
 required name (Some d) = Ok d
@@ -59,6 +61,7 @@ as_bool name (string s) = Err (WrongKind name)
 as_bool name (array ds) = Err (WrongKind name)
 as_bool name (object ms) = Err (WrongKind name)
 
+-- a number that is whole, and of 64 bits with a sign
 abbrev pub whole : List ℕ → Option ℤ → Result ℤ BaseError
 whole name None = Err (WrongKind name)
 whole name (Some n) = Ok n
@@ -81,7 +84,7 @@ as_object name (string s) = Err (WrongKind name)
 as_object name (array ds) = Err (WrongKind name)
 as_object name (object ms) = Ok ms
 
--- a field that is required
+-- a field that is required, of that kind
 abbrev pub text_field : List ℕ → Data → Result (List ℕ) BaseError
 text_field name d = required name (field name d) >>= as_text name
 

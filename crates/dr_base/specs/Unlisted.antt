@@ -1,4 +1,4 @@
--- Keys that no table of fields lists.
+-- Keys that no table of fields lists. That they pass where they ask for nothing is this project's own rule.
 use Rattle.std.specs.Prelude.{ℕ, Bool, true, false, List, Option, Some, None, bytes_eq, ◌||◌, not, if◌then◌else◌}
 use Rattle.std.specs.List.{list_any}
 use Rattle.serde_json.specs.Data.{Data, null, boolean, number, string, array, object, Items, no_items, item, Members, no_members, member}
@@ -20,7 +20,7 @@ is_lenient (string s) = false
 is_lenient (array ds) = is_empty_list ds
 is_lenient (object ms) = is_empty_object ms
 
--- the first key in ascending byte order that isn't listed and asks for something
+-- the first key in ascending byte order, in which the members stand, that isn't listed and asks for something
 unfoldable pub unlisted : List (List ℕ) → Members → Option (List ℕ)
 unlisted listed no_members = None
 unlisted listed (member k d ms) =

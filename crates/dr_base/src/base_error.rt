@@ -19,7 +19,7 @@ pub enum BaseError {
     /// 2: the field is required, and is absent or null.
     #[error("{0} is missing")]
     Missing(Text),
-    /// 3: the value of the field, or the value of that name itself, is of another kind.
+    /// 3: the value of the field, or the value of that name itself, is of another kind, or out of its bounds.
     #[error("{0} is of the wrong kind")]
     WrongKind(Text),
 }

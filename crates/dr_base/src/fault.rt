@@ -1,12 +1,9 @@
 ghost use Rattle.std.specs.Prelude.{◌≡◌, IfOk, string_bytes};
-ghost use Rattle.serde_json.specs.Data.{string};
-ghost use Rattle.serde_json.specs.Written.{compact_text};
 ghost use Rattle.dr_base.specs.FaultLine.{fault_line, arg_text};
 
 use crate::text::Text;
 use serde_json::Value;
 use std::alloc::{AllocError, Global};
-use std::fmt::Write;
 
 /// What a refusal carries: the name that was refused, or the place of a column in its list, from 0.
 #[derive(Debug, Drop)]

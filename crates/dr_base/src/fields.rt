@@ -1,6 +1,5 @@
 ghost use Rattle.std.specs.Prelude.{◌≡◌, option_map};
 ghost use Rattle.serde_json.specs.View.{view, items_view, members_view};
-ghost use Rattle.serde_json.specs.Data.{Data};
 ghost use Rattle.dr_base.specs.declared.base_error.BaseError.TheVariants.{Missing, WrongKind};
 ghost use Rattle.dr_base.specs.Fields.{Gives, IsRefusal, field, required, as_text, as_list, as_bool, as_int, as_object, text_field, int_field, bool_field, list_field};
 

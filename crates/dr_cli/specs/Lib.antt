@@ -1,11 +1,2 @@
 pub mod Refusal
-pub mod Failures
-pub mod Lines
-pub mod Parts
-pub mod Written
 pub mod Usage
-pub mod Request
-pub mod Seen
-pub mod Commands
-pub mod Script
-pub mod Replies

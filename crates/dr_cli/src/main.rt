@@ -1,28 +1,14 @@
-//! The program `druid-node`: its command line, its streams, and the script that it runs on them.
-//! A line of the script is read, given to the timeline, and answered by one line.
+//! The program `druid-node`: its command line and its streams.
 #![tactic(auto)]
 
-mod answering;
 mod cli_error;
 mod command;
-mod counted;
-mod line_reader;
-mod line_writer;
-mod next_line;
-mod reply;
-mod request;
-mod requests;
-mod script;
-mod script_error;
-mod session;
 mod usage;
-mod wording;
-mod words;
 
 use cli_error::CliError;
 use command::Command;
-use counted::Counted;
-use script::run_script;
+use dr_lines::Counted;
+use dr_script::run_script;
 use std::process::ExitCode;
 use std::rt::Env;
 use std::{env, io};

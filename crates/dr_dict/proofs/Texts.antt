@@ -2,6 +2,7 @@
 use Rattle.std.proofs.Common.{◌≡◌, ◌∙◌, sym, refl, ap, ℕ, ◌+◌, ◌<◌, Bool, true, false, cond, not, nat_lt, ◌||◌, List, [], ◌∷◌, ◌++◌, map, length, take, None, Some, bytes_eq, arith, is_some, lt-ltb, le-ltb, true≢false, subst, if◌then◌else◌, suc, zero}
 use Rattle.std.specs.List.{position, position_or_len, list_any, AllByRecursion, IsDistinct}
 use Rattle.std.specs.Cmp.Lexicographic.{nat_list_eq_equiv}
+use Rattle.std.proofs.lemmas.Bool.{or_parts}
 use Rattle.std.proofs.lemmas.List.{length-map}
 use Rattle.std.proofs.lemmas.List.{map-append}
 use Rattle.indexmap.specs.IndexSet.{insert_key}
@@ -80,19 +81,12 @@ all_pushed : {X : Type 0} (P : X → Type 0) (xs : List X) (x : X) → AllByRecu
 all_pushed P [] x all one = (one, tt)
 all_pushed P (y ∷ xs) x all one = (all.0, all_pushed P xs x all.1 one)
 
-first_not : (a b : Bool) → (a || b) ≡ false → a ≡ false
-first_not true b h = h
-first_not false b h = refl
-
-second_not : (a b : Bool) → (a || b) ≡ false → b ≡ false
-second_not true b h = absurd (true≢false h)
-second_not false b h = h
-
 pub distinct-push : (ts : List (List ℕ)) (t : List ℕ) → IsDistinct bytes_eq ts → list_any (bytes_eq t) ts ≡ false → IsDistinct bytes_eq (ts ++ t ∷ [])
 unfolding IsDistinct
 distinct-push [] t d h = (tt, tt)
 distinct-push (u ∷ ts) t d h =
-    (all_pushed (λ y. bytes_eq u y ≡ false) ts t d.0 (nat_list_eq_equiv.symm u t ∙ first_not (bytes_eq t u) _ h), distinct-push ts t d.1 (second_not (bytes_eq t u) _ h))
+    let neither = or_parts (bytes_eq t u) _ h in
+    (all_pushed (λ y. bytes_eq u y ≡ false) ts t d.0 (nat_list_eq_equiv.symm u t ∙ neither.0), distinct-push ts t d.1 neither.1)
 
 all_taken : {X : Type 0} (P : X → Type 0) (n : ℕ) (xs : List X) → AllByRecursion P xs → AllByRecursion P (take n xs)
 all_taken P zero xs all = tt

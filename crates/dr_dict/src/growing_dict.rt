@@ -70,7 +70,7 @@ impl GrowingDict {
         Some(place as u32)
     }
 
-    /// The text of a number.
+    /// The text of a number; none where there are not so many texts.
     pub fn text(&self, number: u32) -> Option<&str>
         ensures { option_map (λ t. t.now) result ≡ slice_get self.now.texts number }
     {

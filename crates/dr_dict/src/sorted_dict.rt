@@ -39,7 +39,7 @@ impl<'a> SortedDict<'a> {
         self.texts.len()
     }
 
-    /// The text at a place, from 0.
+    /// The text at a place, from 0; none past the end.
     pub fn text(&self, place: usize) -> Option<&str>
         ensures { option_map (λ t. t.now) result ≡ slice_get self.now place }
     {

@@ -1,7 +1,6 @@
 use super::*;
 use dr_base::Text;
 use std::alloc::Global;
-use std::process::Abort;
 use std::test::Fail;
 
 fn text(alloc: Global, text: &str) -> Result<Text, Fail> {

@@ -1,4 +1,4 @@
-ghost use Rattle.std.specs.Prelude.{◌≡◌, IfOk};
+ghost use Rattle.std.specs.Prelude.{IfOk};
 ghost use Rattle.serde_json.specs.View.{view};
 ghost use Rattle.dr_events.specs.Refusal.{Gives};
 ghost use Rattle.dr_events.specs.EventOf.{object_of, dims_of, inputs_of, event_in, event_of};

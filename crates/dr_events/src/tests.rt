@@ -2,6 +2,7 @@ use super::*;
 use dr_base::{Arg, Event};
 use dr_spec::IngestSpec;
 use std::alloc::Global;
+use std::process::Abort;
 use std::test::Fail;
 
 const SPEC: &str =
@@ -141,6 +142,19 @@ fn with_a_list(alloc: Global, line: &str) -> Result<String, Fail> {
     }
 }
 
+// Each line is read as the text behind it, also with a list as one more member.
+fn expect_read(rt: &(impl Abort + AllocGlobal), rows: &[(&str, &str)]) -> Result<(), Fail> {
+    let alloc = rt.alloc();
+    for (line, wanted) in rows {
+        let text = read_text(alloc, line)?;
+        assert_eq!(rt; text.as_str(), *wanted, "{line}");
+        let longer = with_a_list(alloc, line)?;
+        let text = read_text(alloc, longer.as_str())?;
+        assert_eq!(rt; text.as_str(), *wanted, "{longer}");
+    }
+    Ok(())
+}
+
 #[test]
 fn refuses_what_is_no_event(rt: HostRuntime) -> Result<(), Fail> {
     let rows = [
@@ -195,14 +209,7 @@ fn refuses_what_is_no_event(rt: HostRuntime) -> Result<(), Fail> {
         (r#"{"t":"2024-01-01","a":"-"}"#, "34 BadMetric 1"),
         (r#"{"t":"2024-01-01","a":" 1"}"#, "34 BadMetric 1"),
     ];
-    for (line, wanted) in &rows {
-        let text = read_text(rt.alloc(), line)?;
-        assert_eq!(rt; text.as_str(), *wanted, "{line}");
-        let longer = with_a_list(rt.alloc(), line)?;
-        let text = read_text(rt.alloc(), longer.as_str())?;
-        assert_eq!(rt; text.as_str(), *wanted, "{longer}");
-    }
-    Ok(())
+    expect_read(&rt, &rows)
 }
 
 #[test]
@@ -253,14 +260,7 @@ fn reads_events(rt: HostRuntime) -> Result<(), Fail> {
             r#"-62135596800000 "0" "é" 1 0 0 0"#,
         ),
     ];
-    for (line, wanted) in &rows {
-        let text = read_text(rt.alloc(), line)?;
-        assert_eq!(rt; text.as_str(), *wanted, "{line}");
-        let longer = with_a_list(rt.alloc(), line)?;
-        let text = read_text(rt.alloc(), longer.as_str())?;
-        assert_eq!(rt; text.as_str(), *wanted, "{longer}");
-    }
-    Ok(())
+    expect_read(&rt, &rows)
 }
 
 #[test]

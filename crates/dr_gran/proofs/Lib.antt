@@ -1,3 +1,4 @@
 pub mod TruncationLemmas
+pub mod StepLemmas
 pub mod NestingLemmas
 pub mod BucketsLemmas

@@ -226,15 +226,16 @@ pub truncation_low : (g : Gran) (t : ℤ) → first_instant ≤ℤ t → first_i
 truncation_low g t h =
     (IsTruncation-truncation g t (omega (arith, signed_arith))).greatest first_instant (first_starts g) h
 
-pub truncation_bounds : (g : Gran) (t : ℤ) → IsInstant t → (first_instant ≤ℤ truncation g t) × (truncation g t ≤ℤ t)
-truncation_bounds g t h = (truncation_low g t h.0, (IsTruncation-truncation g t (omega (arith, signed_arith))).not_after)
+-- the bounds of what is the truncation of an instant, and of what is the next start
+pub truncation_bounds : (g : Gran) (t s : ℤ) → IsInstant t → s ≡ truncation g t → (first_instant ≤ℤ s) × (s ≤ℤ t)
+truncation_bounds g t s h is = rw is (truncation_low g t h.0, (IsTruncation-truncation g t (omega (arith, signed_arith))).not_after)
 
-pub next_bounds : (g : Gran) (t : ℤ) → IsInstant t → (t <ℤ next g t) × (next g t ≤ℤ pos 253_402_473_600_000)
-next_bounds g t h =
+pub next_bounds : (g : Gran) (t s : ℤ) → IsInstant t → s ≡ next g t → (t <ℤ s) × (s ≤ℤ pos 253_402_473_600_000)
+next_bounds g t s h is =
     let following = IsNext-next g t (omega (arith, signed_arith)) in
     let last = last_end g in
     let within = following.least last.end last.starts (omega (arith, signed_arith, last.after)) in
-    (following.after, omega (arith, signed_arith, last.bound))
+    rw is (following.after, omega (arith, signed_arith, last.bound))
 
 -- ---- what the code computes
 

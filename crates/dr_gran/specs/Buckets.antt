@@ -1,4 +1,5 @@
--- The buckets of a granularity that hold a millisecond both of a union of intervals and of a span of times.
+-- The buckets of a granularity that hold a millisecond both of a union of intervals and of a span of times (Apache Druid
+-- documentation, timeseries queries; which empty buckets are filled is this project's own rule).
 use Rattle.std.specs.Prelude.{◌≡◌, ℕ, zero, suc, ◌≤◌, true, ◌⊎◌, if◌then◌else◌, List, [], ◌∷◌, length, take, ℤ, ◌≤ℤ◌, ◌<ℤ◌, int_le, Option, Some, None}
 use Rattle.std.specs.Option.{option_to_list}
 use Rattle.std.specs.List.{AllByRecursion}

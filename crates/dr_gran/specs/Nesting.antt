@@ -1,4 +1,5 @@
--- Which granularity nests in which, as a query granularity does in a segment granularity.
+-- Which granularity nests in which, as a query granularity does in a segment granularity (Apache Druid documentation,
+-- ingestion spec, `granularitySpec`; the table is this project's own).
 use Rattle.std.specs.Prelude.{◌≡◌, ℕ, ◌==◌, ◌%◌, Bool, true, false, List, [], ◌∷◌, ℤ, ◌≤ℤ◌}
 use Rattle.std.specs.List.{list_any}
 use Rattle.dr_gran.specs.declared.gran.Gran.{Gran}

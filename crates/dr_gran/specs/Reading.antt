@@ -1,4 +1,5 @@
--- A granularity as a JSON value: its name, or the object `{"type":"all"}` or `{"type":"none"}`.
+-- A granularity as a JSON value (Apache Druid documentation, query granularities): its name, or the object `{"type":"all"}`
+-- or `{"type":"none"}`.
 use Rattle.std.specs.Prelude.{ℕ, List, [], ◌∷◌, Option, Some, None, Result, Ok, Err, codes}
 use Rattle.serde_json.specs.Data.{Data, null, boolean, number, string, array, object, Members}
 use Rattle.serde_json.specs.Find.{get}

@@ -1,4 +1,5 @@
--- The bucket in which a time lies, by its start and the start of the next one.
+-- The bucket in which a time lies, by its start and the start of the next one (Apache Druid documentation, query
+-- granularities).
 use Rattle.std.specs.Prelude.{◌≡◌, ℕ, ◌+◌, ◌*◌, ◌/◌, ℤ, pos, neg_ℤ, ◌+ℤ◌, ◌-ℤ◌, ◌*ℤ◌, ◌≤ℤ◌, ◌<ℤ◌}
 use Rattle.std.specs.Int.{int_div_euclid}
 use Rattle.dr_time.specs.Calendar.{month_at, since_year_zero}
@@ -22,7 +23,7 @@ abbrev pub following : Step → ℤ → ℤ
 following (Millis origin length) t = truncated (Millis origin length) t +ℤ pos length
 following (Months n) t = month_start (month_of t / n * n + n)
 
--- for all times these are those of a millisecond, which nothing uses
+-- the bucket of all times has neither, and those of a millisecond stand in their place
 abbrev pub truncation : Gran → ℤ → ℤ
 truncation g t = truncated (step_of g) t
 

@@ -50,7 +50,7 @@ impl Gran {
     }
 
     /// Whether this granularity nests in the other, as a query granularity does in a segment granularity: then each of its
-    /// buckets lies in one bucket of the other. No granularity nests in `all` and in `none`, and `all` nests in none.
+    /// buckets lies in one bucket of the other. Nothing nests in `all` or in `none`, and `all` nests in nothing.
     pub fn nests_in(self, other: Gran) -> bool
         ensures { result ≡ nests self other }
     {

@@ -1,4 +1,4 @@
-ghost use Rattle.std.specs.Prelude.{◌≡◌, ◌<◌};
+ghost use Rattle.std.specs.Prelude.{◌≡◌};
 ghost use Rattle.dr_gran.specs.Nesting.{divides as divides_of};
 ghost use Rattle.dr_gran.specs.Step.{IsProper};
 

@@ -1,4 +1,5 @@
--- The answer to a query over rows, as JSON text.
+-- The answer to a query over rows, as JSON text (Apache Druid documentation, timeseries queries; RFC 8259). The order of the
+-- keys and the bound on the groups are this project's own.
 use Rattle.std.specs.Prelude.{ℕ, ℤ, nat_lt, List, [], ◌∷◌, length, map, codes, Result, Ok, Err, if◌then◌else◌}
 use Rattle.serde_json.specs.Data.{Data, number, string, array, object, Members, member, no_members, put}
 use Rattle.serde_json.specs.Find.{of_integer}
@@ -33,6 +34,7 @@ text_of q rows = compact_text (array (items_of (map (result_data q) rows)))
 abbrev pub max_groups : ℕ
 max_groups = 100_000
 
+-- the text of the groups, where there are not too many
 abbrev pub answer_of : Query → List ResultRow → Result (List ℕ) AnswerError
 answer_of q rows = if nat_lt max_groups (length rows) then Err ResultTooLarge else Ok (text_of q rows)
 

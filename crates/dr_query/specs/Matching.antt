@@ -1,4 +1,4 @@
--- Queries whose answers don't depend on how rows were rolled up.
+-- Queries whose answers don't depend on how rows were rolled up (Apache Druid documentation, ingestion: rollup).
 use Rattle.std.specs.Prelude.{Bool, true, false, ◌||◌, not, Option, Some, None}
 use Rattle.std.specs.List.{list_all}
 use Rattle.dr_agg.specs.declared.kind.Kind.{Kind}

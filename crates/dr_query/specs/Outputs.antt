@@ -1,4 +1,4 @@
--- The names of a query's outputs.
+-- The names of a query's outputs (Apache Druid documentation, native queries, aggregations).
 use Rattle.std.specs.Prelude.{◌≢◌, ℕ, List, [], ◌∷◌, ◌++◌, map, bytes_eq, Result, Ok, Err, if◌then◌else◌}
 use Rattle.std.specs.List.{AllPairs, list_any}
 use Rattle.dr_query.specs.declared.aggregation.Aggregation.{Aggregation}

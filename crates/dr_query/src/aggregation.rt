@@ -1,7 +1,7 @@
 ghost use Rattle.std.specs.Prelude.{◌≡◌, ◌||◌, bytes_eq};
 ghost use Rattle.std.specs.List.{list_any};
 ghost use Rattle.serde_json.specs.View.{view, members_view};
-ghost use Rattle.dr_query.specs.AggregationsOf.{is_dimension, no_dimension, column_of, count_of, long_sum_of, aggregation_by, aggregation_of};
+ghost use Rattle.dr_query.specs.AggregationsOf.{is_dimension, column_of, count_of, long_sum_of, aggregation_of};
 ghost use Rattle.dr_query.specs.Matching.{matches_optional, aggregation_matches};
 ghost use Rattle.dr_query.specs.Refusal.{Gives};
 

@@ -1,8 +1,8 @@
-ghost use Rattle.std.specs.Prelude.{◌≡◌, map, ◌||◌, bytes_eq};
+ghost use Rattle.std.specs.Prelude.{◌≡◌, map, ◌||◌};
 ghost use Rattle.serde_json.specs.View.{view, members_view};
 ghost use Rattle.dr_query.specs.Refusal.{Gives};
 ghost use Rattle.dr_query.specs.Step.{no_object, no_unlisted};
-ghost use Rattle.dr_query.specs.QueryOf.{is_unread_type, query_type_of, only_source, data_source_of, is_all, granularity_of, query_fields};
+ghost use Rattle.dr_query.specs.QueryOf.{is_unread_type, query_type_of, data_source_of, is_all, granularity_of, query_fields};
 
 use crate::query_error::QueryError;
 use dr_base::{Text, first_unlisted, required, text_field, text_value};

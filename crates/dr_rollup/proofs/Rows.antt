@@ -1,22 +1,24 @@
 -- Rows in the order of arrival, and their rollup.
-use Rattle.std.proofs.Common.{◌≡◌, ◌∙◌, sym, refl, ap, subst, ℕ, suc, ◌+◌, ◌<◌, ◌&&◌, ◌||◌, not, ℤ, Bool, true, false, cond, List, [], ◌∷◌, ◌++◌, map, length, get_or, arith, true≢false, if◌then◌else◌, append_assoc, filter}
+use Rattle.std.proofs.Common.{◌≡◌, ◌∙◌, sym, refl, ap, subst, ℕ, suc, ◌+◌, ◌||◌, ℤ, Bool, true, false, cond, List, [], ◌∷◌, ◌++◌, map, length, arith, true≢false, if◌then◌else◌, append_assoc}
+use Rattle.std.proofs.lemmas.Bool.{or_parts}
 use Rattle.std.proofs.lemmas.List.{append-nil}
 use Rattle.std.specs.List.{list_any, AllByRecursion, IsDistinct}
-use Rattle.std.specs.List.Sorted.{IsPermutation, IsSortedBy, IsStableBy, ties}
+use Rattle.std.specs.List.Sorted.{IsPermutation, IsSortedBy, IsStableBy}
 use Rattle.std.specs.declared.cmp.Ordering.{Ordering}
 use Rattle.std.specs.declared.cmp.Ordering.TheVariants.{Less, Equal, Greater}
 use Rattle.std.specs.Ordering.{ordering_reverse, is_lt, is_eq, match_ordering}
-use Rattle.std.proofs.lemmas.List.Sorted.{sorted_far, ranks_by, IsPermutation-to_front, IsPermutation-cons, IsPermutation-append_right}
+use Rattle.std.proofs.lemmas.List.Sorted.{IsPermutation-to_front, IsPermutation-cons, IsPermutation-append_right}
 use Rattle.dr_base.specs.declared.key.Key.{Key}
 use Rattle.dr_base.specs.declared.row.Row.{Row}
 use Rattle.dr_base.specs.Order.{key_cmp}
 use Rattle.dr_agg.specs.declared.kind.Kind.{Kind}
 use Rattle.dr_agg.specs.Combination.{combine_columns}
-use Rattle.dr_agg.specs.Rollup.{rows_at, together, IsInOrder, IsRollup, joined, add_row, rollup_onto, rollup}
-use Rattle.dr_agg.proofs.KeyOrder.{key_cmp_total, itself, equal_back, greater_back}
+use Rattle.dr_agg.specs.Rollup.{rows_at, together, IsRollup, joined, add_row, rollup_onto, rollup}
+use Rattle.dr_agg.proofs.KeyOrder.{key_cmp_total, itself}
 use Rattle.dr_agg.proofs.ColumnLaws.{combine_columns-assoc}
 use Rattle.dr_agg.proofs.RollupLaws.{rollup_onto_push, IsRollup-rollup, same_rollup, list_any-rollup}
 use Rattle.dr_agg.proofs.Rearranged.{rollup-IsPermutation}
+use Rattle.dr_agg.proofs.Sorting.{in_order, rows_at-sorted}
 use Rattle.dr_rollup.specs.Coding.{same_keys}
 
 -- ---- a row that another of its key is combined into
@@ -87,24 +89,16 @@ unfolding add_row
 one_more_row combines kinds [] r new = refl
 one_more_row combines kinds (x ∷ xs) r new =
     let behind : (combines ≡ true → list_any (λ y. same_keys r.key y.key) xs ≡ false) → length (x ∷ add_row combines kinds xs r) ≡ suc (suc (length xs)) = λ n. ap suc (one_more_row combines kinds xs r n) in
-    let rest : combines ≡ true → list_any (λ y. same_keys r.key y.key) xs ≡ false = λ c. second_not (same_keys r.key x.key) _ (new c) in
+    let rest : combines ≡ true → list_any (λ y. same_keys r.key y.key) xs ≡ false = λ c. (or_parts (same_keys r.key x.key) _ (new c)).1 in
     elim (key_cmp r.key x.key) as (λ o. key_cmp r.key x.key ≡ o → length (match_ordering o (r ∷ x ∷ xs) (if combines then joined kinds x r ∷ xs else (x ∷ add_row combines kinds xs r)) (x ∷ add_row combines kinds xs r)) ≡ suc (suc (length xs))) [
       | Less ↦ λ t. refl
       | Equal ↦ λ t. elim combines as (λ c. combines ≡ c → length (if c then joined kinds x r ∷ xs else (x ∷ add_row combines kinds xs r)) ≡ suc (suc (length xs))) [
-        | true ↦ λ c. absurd (true≢false (sym (ap is_eq t) ∙ first_not (same_keys r.key x.key) _ (new c)))
+        | true ↦ λ c. absurd (true≢false (sym (ap is_eq t) ∙ (or_parts (same_keys r.key x.key) _ (new c)).0))
         | false ↦ λ c. behind rest
       ] refl
       | Greater ↦ λ t. behind rest
     ]
     refl
-  where
-    first_not : (a b : Bool) → (a || b) ≡ false → a ≡ false
-    first_not true b h = h
-    first_not false b h = refl
-
-    second_not : (a b : Bool) → (a || b) ≡ false → b ≡ false
-    second_not true b h = absurd (true≢false h)
-    second_not false b h = h
 
 -- the rows are those of a, with one for each of b
 rows_more : (combines : Bool) (kinds : List Kind) (a b : List Row) → (combines ≡ true → IsDistinct same_keys (map (λ x. x.key) (a ++ b))) → length (rollup combines kinds (a ++ b)) ≡ length (rollup combines kinds a) + length b
@@ -127,36 +121,6 @@ pub rows-counted : (combines : Bool) (kinds : List Kind) (es : List Row) → (co
 rows-counted combines kinds es d = rows_more combines kinds [] es d ∙ ap (λ l. length l + length es) (no_rows combines kinds) ∙ omega arith
 
 -- ---- rows that are sorted
-
-next : (k : ℕ) → suc k + 1 ≡ suc (k + 1)
-next k = omega arith
-
-before : Row → Row → Bool
-before a b = is_lt (key_cmp a.key b.key)
-
-all_from_places : (P : Row → Type 0) (xs : List Row) (d : Row) → ((k : ℕ) → k < length xs → P (get_or xs k d)) → AllByRecursion P xs
-all_from_places P [] d each = tt
-all_from_places P (x ∷ xs) d each = (each 0 (omega arith), all_from_places P xs d (λ k lt. each (suc k) (omega arith)))
-
-in_order : (xs : List Row) → IsSortedBy (λ a b. is_lt (key_cmp a.key b.key)) xs → IsInOrder xs
-in_order [] up = tt
-in_order (x ∷ xs) up = (
-  all_from_places (λ y. is_lt (key_cmp y.key x.key) ≡ false) xs x (λ k lt. sorted_far (λ a b. is_lt (key_cmp a.key b.key)) (ranks_by key_cmp_total (λ (r : Row). r.key)) (x ∷ xs) up 0 (suc k) x (omega arith) (omega arith)),
-  in_order xs (λ k d low lt. subst (λ n. is_lt (key_cmp (get_or (x ∷ xs) n d).key (get_or xs k d).key) ≡ false) (next k) (up (suc k) d (omega arith) (omega arith))),
-)
-
-tied : (q : Key) (r : Row) → ties (λ (a : Row) (b : Row). is_lt (key_cmp a.key b.key)) (record { key = q; metrics = [] }) r ≡ same_keys q r.key
-tied q r =
-    elim (key_cmp q r.key) as (λ o. key_cmp q r.key ≡ o → (not (is_lt o) && not (is_lt (key_cmp r.key q))) ≡ is_eq o) [
-      | Less ↦ λ t. refl
-      | Equal ↦ λ t. ap (λ o. not (is_lt o)) (equal_back q r.key t)
-      | Greater ↦ λ t. ap (λ o. not (is_lt o)) (greater_back q r.key t)
-    ]
-    refl
-
-alike : (p q : Row → Bool) → ((r : Row) → p r ≡ q r) → (rows : List Row) → filter p rows ≡ filter q rows
-alike p q e [] = refl
-alike p q e (r ∷ rows) = λ i. cond (e r i) (r ∷ alike p q e rows i) (alike p q e rows i)
 
 none_alike : (q : Key) (x : Row) (xs : List Row) → key_cmp q x.key ≡ Equal → AllByRecursion (λ k. same_keys x.key k ≡ false) (map (λ y. y.key) xs) → rows_at q xs ≡ []
 none_alike q x [] t all = refl
@@ -183,8 +147,6 @@ pub sorted-rollup : (combines : Bool) (kinds : List Kind) (es rows : List Row) �
 sorted-rollup combines kinds es rows d up stable =
     let is : IsRollup combines kinds es rows = record {
       ordered = in_order rows up;
-      each = λ q.
-          let p : Row → Bool = ties (λ (a : Row) (b : Row). is_lt (key_cmp a.key b.key)) (record { key = q; metrics = [] }) in
-          sym (alike p (λ r. same_keys q r.key) (tied q) rows) ∙ stable (record { key = q; metrics = [] }) ∙ alike p (λ r. same_keys q r.key) (tied q) es ∙ sym (alone_or_apart combines kinds q es d);
+      each = λ q. rows_at-sorted es rows stable q ∙ sym (alone_or_apart combines kinds q es d);
     } in
     same_rollup combines kinds es rows (rollup combines kinds es) is (IsRollup-rollup combines kinds es)

@@ -22,6 +22,7 @@ pub record IsSound (kinds : List Kind) (limit : ℕ) (combines : Bool) (dicts : 
   pub within : length es ≤ limit
   pub apart : combines ≡ true → IsDistinct same_keys (map (λ r. r.key) (map (row_of dicts) es))
 
+-- the parts of an open index fit its schema and its limit
 pub record Holds (schema : Schema) (kinds : List Kind) (limit : ℕ) (dicts : List Dictionary) (coded : Coded) (entries : Entries) : Type 0 where
   pub columns : kinds ≡ kinds_of schema
   pub small : limit ≤ 1048576

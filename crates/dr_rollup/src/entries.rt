@@ -1,7 +1,6 @@
-ghost use Rattle.std.specs.Prelude.{◌≡◌, ◌<◌, ◌++◌, ◌∷◌, [], true, false, None, length, slice_index_or, slice_set, slice_get, Some, IfSome, OnOk, OnErr};
+ghost use Rattle.std.specs.Prelude.{◌≡◌, ◌<◌, ◌++◌, ◌∷◌, [], true, false, None, length, slice_get, Some, IfSome, OnOk};
 ghost use Rattle.std.specs.List.{AllByRecursion};
-ghost use Rattle.dr_agg.specs.Combination.{combine_columns, FitsColumns};
-ghost use Rattle.dr_rollup.specs.Unrolled.{contributions};
+ghost use Rattle.dr_agg.specs.Combination.{FitsColumns};
 ghost use Rattle.dr_rollup.specs.Coding.{Entry, entries_of, is_combined, same_coded, HasRoom, Combines};
 
 use crate::coded::Coded;

@@ -8,11 +8,11 @@ ghost use Rattle.dr_rollup.specs.Coding.{entries_of, AreNumbers, row_of};
 use crate::coded::Coded;
 use crate::coding::texts_of;
 use crate::entries::Entries;
+use dr_agg::sort_rows;
 use dr_base::{Key, Numbers, Row};
 use dr_dict::GrowingDict;
 use indexmap::IndexMap;
 use std::alloc::{AllocError, Global};
-use std::cmp::Ordering;
 
 // The rows of entries, in the order of their keys; rows of one key stay in the order in which they came.
 pub fn sorted_rows(
@@ -28,20 +28,8 @@ pub fn sorted_rows(
         Entries::Combined(all) => combined_rows(alloc, dicts, all)?,
         Entries::Apart(all) => apart_rows(alloc, dicts, all)?,
     };
-    sort(&mut rows)?;
+    sort_rows(&mut rows)?;
     Ok(rows)
-}
-
-fn sort(rows: &mut Vec<Row>) -> Result<(), AllocError>
-    ensures sorted { OnOk result (IsSortedBy (λ a b. is_lt (key_cmp a.key b.key)) rows.new.items) }
-    ensures stable { OnOk result (IsStableBy (λ a b. is_lt (key_cmp a.key b.key)) rows.old.items rows.new.items) }
-{
-    rows.sort_by(
-        |a: &Row, b: &Row| -> Ordering
-            ensures { result ≡ key_cmp a.now.key b.now.key }
-        { a.key.order(&b.key) },
-    )?;
-    Ok(())
 }
 
 fn combined_rows(

@@ -5,12 +5,13 @@ use Rattle.serde_json.specs.Data.{Data}
 use Rattle.serde_json.specs.declared.value.Value.{Value}
 use Rattle.serde_json.specs.View.{view, items_view}
 use Rattle.dr_spec.specs.declared.spec_error.SpecError.{SpecError}
-use Rattle.dr_spec.specs.Refusal.{Fails}
+use Rattle.dr_base.specs.Reading.{FailsUnless}
+use Rattle.dr_spec.specs.Refusal.{is_memory}
 use Rattle.dr_spec.specs.Each.{each_from}
 
 -- a refusal on the way is that of the whole
-pub Fails-at : {Y Z : Type 0} (e : SpecError) (r : Result Y SpecError) (s : Result Z SpecError) → ((f : SpecError) → r ≡ Err f → s ≡ Err f) → Fails e r → Fails e s
-Fails-at e r s h x = λ m. h e (x m)
+fails-at : {Y Z : Type 0} (e : SpecError) (r : Result Y SpecError) (s : Result Z SpecError) → ((f : SpecError) → r ≡ Err f → s ≡ Err f) → FailsUnless is_memory e r → FailsUnless is_memory e s
+fails-at e r s h x = λ m. h e (x m)
 
 -- one more item is read
 pub each_from-goes_on : {A : Type 0} (reading : Data → Result A SpecError) (xs : List A) (vs : List Value) (i : ℕ) (v : Value) (x : A) (whole : Result (List A) SpecError) → i < length vs → v ≡ get_or vs i v → reading (view v) ≡ Ok x
@@ -22,9 +23,9 @@ each_from-goes_on reading xs vs i v x whole lt is h so_far =
 
 -- an item is refused
 pub each_from-stops : {A : Type 0} (reading : Data → Result A SpecError) (xs : List A) (vs : List Value) (i : ℕ) (v : Value) (e : SpecError) (whole : Result (List A) SpecError) → i < length vs → v ≡ get_or vs i v
-    → each_from reading xs (items_view (drop i vs)) ≡ whole → Fails e (reading (view v)) → Fails e whole
+    → each_from reading xs (items_view (drop i vs)) ≡ whole → FailsUnless is_memory e (reading (view v)) → FailsUnless is_memory e whole
 unfolding each_from
-each_from-stops reading xs vs i v e whole lt is so_far h = Fails-at e (reading (view v)) whole (λ f r.
+each_from-stops reading xs vs i v e whole lt is so_far h = fails-at e (reading (view v)) whole (λ f r.
     let one : each_from reading xs (items_view (drop i vs)) ≡ Err f = rw (drop_more vs i v lt, ← is, r) refl in
     sym so_far ∙ one) h
 

@@ -12,6 +12,7 @@ use Rattle.dr_spec.specs.Sections.{items_of_field, not_empty}
 use Rattle.dr_spec.specs.Leniency.{only_listed}
 use Rattle.dr_spec.specs.Each.{each}
 
+-- how the columns of a type are combined
 unfoldable pub kind_of : List ℕ → Result Kind SpecError
 kind_of type =
     if bytes_eq type (codes "count") then Ok Count else (if bytes_eq type (codes "longSum") then Ok LongSum else (if bytes_eq type (codes "longMin") then Ok LongMin else (if bytes_eq type (codes "longMax") then Ok LongMax else Err (UnsupportedMetric type))))
@@ -31,6 +32,7 @@ input_of LongMax d = some_text (passed Base (text_field (codes "fieldName") d))
 abbrev pub metric_keys : List (List ℕ)
 metric_keys = codes "type" ∷ codes "name" ∷ codes "fieldName" ∷ []
 
+-- a metric column, whose keys are judged last
 unfoldable pub metric_of : Data → Result Metric SpecError
 metric_of d = do
   members ← passed Base (as_object (codes "metricsSpec") d)
@@ -42,6 +44,7 @@ metric_of d = do
   listed ← only_listed metric_keys d
   Ok (record { name = name; kind = kind; field = input })
 
+-- the metric columns, none where the list is absent
 unfoldable pub metrics_of : Data → Result (List Metric) SpecError
 metrics_of d = do
   ds ← passed Base (items_of_field (codes "metricsSpec") d)

@@ -2,7 +2,7 @@
 use Rattle.std.specs.Prelude.{ℕ, List, Bool, false, Option, Some, None, Result, codes}
 use Rattle.dr_base.specs.Refusal as base
 use Rattle.dr_gran.specs.Refusal as gran
-use Rattle.dr_base.specs.Reading.{FailsUnless, GivesUnless}
+use Rattle.dr_base.specs.Reading.{GivesUnless}
 use Rattle.dr_base.specs.declared.fault.Arg.{Arg}
 use Rattle.dr_base.specs.declared.fault.Arg.TheVariants.{Name}
 use Rattle.dr_spec.specs.declared.spec_error.SpecError.{SpecError}
@@ -53,10 +53,6 @@ is_memory (DuplicateName name) = false
 is_memory NoDimensions = false
 is_memory (Unsupported name) = false
 is_memory TooManyColumns = false
-
--- the refusal is that of the reading, unless it says that memory ran out
-abbrev pub Fails : {Y : Type 0} → SpecError → Result Y SpecError → Type 0
-Fails e reading = FailsUnless is_memory e reading
 
 -- what a function returned, seen by view, is what the reading gives, unless memory ran out
 abbrev pub Gives : {X Y : Type 0} → (X → Y) → Result X SpecError → Result Y SpecError → Type 0

@@ -40,6 +40,7 @@ source_of d = do
   name ← passed Base (text_field (codes "dataSource") d)
   passed Base (not_empty (codes "dataSource") name)
 
+-- an object without members
 abbrev pub is_empty : Data → Bool
 is_empty null = false
 is_empty (boolean b) = false

@@ -25,6 +25,7 @@ is_count LongMax = false
 abbrev pub HasItsField : Metric → Type 0
 HasItsField m = is_none m.field ≡ is_count m.kind
 
+-- each limit lies in its range
 pub record AreInRange (l : Limits) : Type 0 where
   pub some_rows : 1 ≤ l.max_rows_in_memory
   pub few_rows : l.max_rows_in_memory ≤ 1048576
@@ -35,6 +36,8 @@ pub record AreInRange (l : Limits) : Type 0 where
   pub some_bytes : 1 ≤ l.max_image_bytes
   pub few_bytes : l.max_image_bytes ≤ 1073741824
 
+-- the columns are distinct and not too many, each metric but a count reads a field, times are truncated within their chunk,
+-- and the limits are in their ranges
 pub record IsWellFormed (s : Schema) : Type 0 where
   pub distinct : AreDistinct (column_names s.dimensions s.metrics)
   pub some_dimension : 1 ≤ length s.dimensions

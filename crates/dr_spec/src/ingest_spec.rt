@@ -39,7 +39,8 @@ impl IngestSpec {
     ghost use Rattle.dr_spec.specs.WellFormed.{IsWellFormed};
 
     /// The spec that the bytes spell, as JSON in UTF-8. Where the text has an object `spec`, that is taken in its place. A
-    /// field that is null counts as absent, and a key that is not listed is taken only with null, false, `[]` or `{}`.
+    /// field that is null counts as absent. In `dataSchema`, in its sections and in a metric a key that is not listed is
+    /// taken only with null, false, `[]` or `{}`; beside `dataSchema`, in `tuningConfig` and in a dimension it is ignored.
     ///
     /// Refusals, the first that is met in the order of `dataSource`, `timestampSpec`, `dimensionsSpec`, `metricsSpec`,
     /// `granularitySpec`, nesting, `transformSpec`, the names of the columns, their number, unlisted keys and `tuningConfig`:

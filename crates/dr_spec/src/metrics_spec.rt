@@ -1,4 +1,3 @@
-ghost use Rattle.std.specs.Prelude.{map};
 ghost use Rattle.serde_json.specs.View.{view, items_view};
 ghost use Rattle.dr_spec.specs.Refusal.{Gives};
 ghost use Rattle.dr_spec.specs.Each.{each};

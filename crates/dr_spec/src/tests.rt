@@ -2,6 +2,7 @@ use super::*;
 use dr_agg::Kind;
 use dr_base::{Text, fault_line};
 use std::alloc::Global;
+use std::process::Abort;
 use std::test::Fail;
 
 const SCHEMAS: &str =
@@ -135,6 +136,30 @@ fn outcome_with(alloc: Global, sections: &str) -> Result<String, Fail> {
     outcome(alloc, text.as_bytes())
 }
 
+fn expect_outcome(
+    rt: &(impl Abort + AllocGlobal),
+    sections: &str,
+    wanted: &str,
+) -> Result<(), Fail> {
+    assert_eq!(rt;
+        outcome_with(rt.alloc(), sections)?.as_str(),
+        wanted,
+        "{sections}"
+    );
+    Ok(())
+}
+
+/// Each line is the sections of a spec, and behind ` => ` its outcome.
+fn expect_outcomes(rt: &(impl Abort + AllocGlobal), lines: &str) -> Result<(), Fail> {
+    for line in lines.lines() {
+        let Some((sections, wanted)) = line.split_once(" => ") else {
+            panic!(rt; "{line}");
+        };
+        expect_outcome(rt, sections, wanted)?;
+    }
+    Ok(())
+}
+
 /// A list of as many texts as told, each its place.
 fn texts(alloc: Global, count: u32) -> Result<String, Fail> {
     let mut list = String::new(alloc);
@@ -173,18 +198,7 @@ fn reads_schemas(rt: HostRuntime) -> Result<(), Fail> {
 
 #[test]
 fn reads_formats_and_granularities(rt: HostRuntime) -> Result<(), Fail> {
-    let alloc = rt.alloc();
-    for line in TIMES.lines() {
-        let Some((sections, wanted)) = line.split_once(" => ") else {
-            panic!(rt; "{line}");
-        };
-        assert_eq!(rt;
-            outcome_with(alloc, sections)?.as_str(),
-            wanted,
-            "{sections}"
-        );
-    }
-    Ok(())
+    expect_outcomes(&rt, TIMES)
 }
 
 #[test]
@@ -210,11 +224,7 @@ fn takes_each_chunk_length(rt: HostRuntime) -> Result<(), Fail> {
             let sections = format!(in alloc;
                 r#""granularitySpec":{{"segmentGranularity":"{name}","queryGranularity":"{query}"}}"#
             )?;
-            assert_eq!(rt;
-                outcome_with(alloc, sections.as_str())?.as_str(),
-                "spec ok",
-                "{sections}"
-            );
+            expect_outcome(&rt, sections.as_str(), "spec ok")?;
         }
     }
     Ok(())
@@ -232,7 +242,7 @@ fn nests_127_deep(rt: HostRuntime) -> Result<(), Fail> {
             }
         }
         sections.push_str(r#","tuningConfig":{"#)?;
-        assert_eq!(rt; outcome_with(alloc, sections.as_str())?.as_str(), wanted);
+        expect_outcome(&rt, sections.as_str(), wanted)?;
     }
     Ok(())
 }
@@ -259,11 +269,7 @@ fn takes_limits_in_their_ranges(rt: HostRuntime) -> Result<(), Fail> {
             } else {
                 refused.as_str()
             };
-            assert_eq!(rt;
-                outcome_with(alloc, sections.as_str())?.as_str(),
-                wanted,
-                "{sections}"
-            );
+            expect_outcome(&rt, sections.as_str(), wanted)?;
         }
     }
     Ok(())
@@ -289,11 +295,7 @@ fn bounds_the_columns(rt: HostRuntime) -> Result<(), Fail> {
                 r#""dimensionsSpec":{{"dimensions":[{names}]}},"metricsSpec":[{columns}],"other":{other}"#
             )?
         };
-        assert_eq!(rt;
-            outcome_with(alloc, sections.as_str())?.as_str(),
-            wanted,
-            "{dimensions} {metrics} {other}"
-        );
+        expect_outcome(&rt, sections.as_str(), wanted)?;
     }
     Ok(())
 }
@@ -308,34 +310,13 @@ fn refuses_each_fault_at_its_step(rt: HostRuntime) -> Result<(), Fail> {
         assert_eq!(rt; outcome(alloc, text.as_bytes())?.as_str(), wanted, "{text}");
     }
     assert_eq!(rt; outcome(alloc, b"\"\xff\"")?.as_str(), "refused 1 NotJson");
-    for line in FAULTS.lines() {
-        let Some((sections, wanted)) = line.split_once(" => ") else {
-            panic!(rt; "{line}");
-        };
-        assert_eq!(rt;
-            outcome_with(alloc, sections)?.as_str(),
-            wanted,
-            "{sections}"
-        );
-    }
-    Ok(())
+    expect_outcomes(&rt, FAULTS)
 }
 
 #[test]
 fn refuses_the_first_of_two_faults(rt: HostRuntime) -> Result<(), Fail> {
-    let alloc = rt.alloc();
     // Each fault is followed by the one that the next line begins with.
-    for line in TWO_FAULTS.lines() {
-        let Some((sections, wanted)) = line.split_once(" => ") else {
-            panic!(rt; "{line}");
-        };
-        assert_eq!(rt;
-            outcome_with(alloc, sections)?.as_str(),
-            wanted,
-            "{sections}"
-        );
-    }
-    Ok(())
+    expect_outcomes(&rt, TWO_FAULTS)
 }
 
 #[test]

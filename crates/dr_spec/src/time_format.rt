@@ -7,6 +7,7 @@ pub enum TimeFormat {
     Millis,
     /// Seconds since the epoch.
     Posix,
-    /// Milliseconds where it is a whole number, in digits or as a number, and a text of ISO 8601 otherwise.
+    /// Milliseconds, where it is a whole number or a text of an optional `-` and 1 to 19 digits; any other text is one of
+    /// ISO 8601.
     Auto,
 }

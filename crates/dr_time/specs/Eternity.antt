@@ -2,7 +2,7 @@
 use Rattle.std.specs.Prelude.{ℕ, List, codes, ℤ, pos, neg_ℤ}
 use Rattle.dr_time.specs.declared.interval.Interval.{Interval}
 
--- half of the least number of 64 bits, and half of the greatest
+-- half of the least number of 64 bits with a sign, and half of the greatest, rounded down
 abbrev pub eternity_start : ℤ
 eternity_start = neg_ℤ (pos 4_611_686_018_427_387_904)
 

@@ -1,4 +1,5 @@
--- The union of intervals, as the list of them. A time counts once, however many of the intervals hold it.
+-- The union of intervals, as the list of them (Apache Druid documentation, native queries, intervals). A time counts once,
+-- however many of the intervals hold it.
 use Rattle.std.specs.Prelude.{Bool, List, map, ℤ, Option, Some, None}
 use Rattle.std.specs.Int.{int_min}
 use Rattle.std.specs.List.{list_any, fold}

@@ -1,5 +1,4 @@
 ghost use Rattle.std.specs.Prelude.{◌≡◌, ◌<◌, ◌≤◌, ◌≤ℤ◌, pos, neg_ℤ, IfOk};
-ghost use Rattle.dr_time.specs.Digits.{after as after_of};
 ghost use Rattle.dr_time.specs.Instant.{Reads, part_behind as part_behind_of, date_of, instant_of, in_range as in_range_of, instant_at as instant_at_of};
 ghost use Rattle.jiff_core.specs.Calendar.{IsEpochDay};
 

@@ -8,12 +8,12 @@ use Rattle.std.proofs.lemmas.Bool.Decides.{nat_tests}
 use Rattle.std.proofs.lemmas.List.{drop_all, length-take, length-drop, take-append-drop, drop-drop}
 use Rattle.dr_base.specs.declared.event.Event.{Event}
 use Rattle.dr_spec.specs.declared.schema.Schema.{Schema}
-use Rattle.dr_timeline.specs.declared.job.Job.{Job}
+use Rattle.dr_merge.specs.declared.job.Job.{Job}
 use Rattle.dr_timeline.specs.Chunks.{chunk, chunk_list, chunks, with_value}
 use Rattle.dr_timeline.specs.AtKey.{item_at}
 use Rattle.dr_timeline.specs.State.{State, Range, Cut, Tile, IsTiled, AreCuts, open_from, open_events, sealed_in}
 use Rattle.dr_timeline.specs.Steps.{at_chunk, open_cut, with_seal, replaced, open_in, fragment_of, StandsAt, joined_range}
-use Rattle.dr_timeline.specs.Joined.{first_from, last_to}
+use Rattle.dr_merge.specs.Joined.{first_from, last_to}
 use Rattle.dr_timeline.proofs.Parts.{has, part-none, values_onto-push, rising-values, Covers-values_onto, int_eq-itself}
 use Rattle.dr_timeline.proofs.Tiles.{end_from, tile-end, tile-more, tile-append, tile-right, tile-left, tile-some}
 use Rattle.dr_timeline.proofs.Holding.{own-list, other-list}

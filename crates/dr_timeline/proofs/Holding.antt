@@ -14,13 +14,13 @@ use Rattle.dr_spec.specs.declared.schema.Schema.{Schema}
 use Rattle.dr_rollup.specs.OpenRows.{OpenRows, rows_with, with_rows}
 use Rattle.dr_rollup.proofs.Contributing.{length-contributions}
 use Rattle.dr_timeline.specs.declared.chunk.Chunk.{Chunk}
-use Rattle.dr_timeline.specs.declared.fragment.Fragment.{Fragment}
+use Rattle.dr_merge.specs.declared.fragment.Fragment.{Fragment}
 use Rattle.dr_timeline.specs.declared.sealed_range.SealedRange.{SealedRange}
 use Rattle.dr_rollup.specs.Unrolled.{unrolled, rolled_up}
 use Rattle.dr_timeline.specs.Chunks.{chunk, chunk_list}
 use Rattle.dr_timeline.specs.State.{Range, Tile, open_from, open_events, events_of}
 use Rattle.dr_timeline.specs.Steps.{fragment_of}
-use Rattle.dr_timeline.specs.Joined.{joined}
+use Rattle.dr_merge.specs.Joined.{joined}
 use Rattle.dr_timeline.specs.Held.{range_of, ranges_of, index_of, Holds, with_one, with_open_sealed, open_fragment}
 use Rattle.dr_timeline.proofs.Each.{All-push, All-left, All-right, All-append}
 use Rattle.dr_timeline.proofs.Tiles.{end_from, tile-end, tile-start, tile-more, tile-append, tile-right, tile-left, tile-some, end_from-append, joined-events, drop-push, events_of-push}
@@ -63,7 +63,7 @@ holds-other schema es e c h held =
       events = held.events ∙ ap (λ (l : List Event). length l) same;
       tiled = held.tiled;
       sealed = subst (λ (l : List Event). AllByRecursion (λ s. s.fragment ≡ record { chunk = c.start; from = (range_of s).from; to = (range_of s).to; rows = rolled_up schema (events_of l (range_of s)) }) c.sealed) same held.sealed;
-      index = held.index ∙ ap (λ (l : List Event). index_of schema (rolled_up schema (open_events l (ranges_of c)))) same;
+      open_range = held.open_range ∙ ap (λ (l : List Event). index_of schema (rolled_up schema (open_events l (ranges_of c)))) same;
     }
 
 -- sealed ranges stay as they are
@@ -93,7 +93,7 @@ holds-own schema es e c h held =
       tiled = tile-more 0 c.events (c.events + 1) (ranges_of c) (omega arith) held.tiled;
       sealed = subst (λ (m : List Event). AllByRecursion (λ s. s.fragment ≡ record { chunk = c.start; from = (range_of s).from; to = (range_of s).to; rows = rolled_up schema (events_of m (range_of s)) }) c.sealed) (sym same)
           (sealed-push schema c.start l e 0 c.sealed tiled held.sealed);
-      index = ap (λ (x : OpenRows). with_rows x (rows_with x e)) held.index
+      open_range = ap (λ (x : OpenRows). with_rows x (rows_with x e)) held.open_range
           ∙ ap (index_of schema) (sym (rolled_up-push schema (open_events l (ranges_of c)) e)
           ∙ ap (rolled_up schema) (sym (drop-push l e (open_from (ranges_of c)) open_at) ∙ ap (λ (m : List Event). open_events m (ranges_of c)) (sym same)));
     }
@@ -117,8 +117,8 @@ holds-sealed schema es serial c some held =
       events = held.events;
       tiled = subst (λ (rs : List Range). Tile 0 c.events rs) (sym ranges) (tile-append 0 c.events (ranges_of c) (range_of new ∷ []) held.tiled (refl, some, le_itself c.events));
       sealed = All-push (λ s. s.fragment ≡ fragment_of schema es c.start (range_of s)) c.sealed new held.sealed
-          (ap (λ (rs : List Row). record { chunk = c.start; from = from; to = c.events; rows = rs }) (ap (λ (x : OpenRows). x.rows) held.index ∙ ap (rolled_up schema) (sym all)));
-      index = ap (λ (x : OpenRows). with_rows x []) held.index ∙ ap (λ (m : List Event). index_of schema (rolled_up schema m)) (sym (ap (λ (n : ℕ). drop n l) last ∙ none));
+          (ap (λ (rs : List Row). record { chunk = c.start; from = from; to = c.events; rows = rs }) (ap (λ (x : OpenRows). x.rows) held.open_range ∙ ap (rolled_up schema) (sym all)));
+      open_range = ap (λ (x : OpenRows). with_rows x []) held.open_range ∙ ap (λ (m : List Event). index_of schema (rolled_up schema m)) (sym (ap (λ (n : ℕ). drop n l) last ∙ none));
     }
   where
     drop-length : {A : Type 0} (xs : List A) → drop (length xs) xs ≡ []
@@ -209,7 +209,7 @@ holds-replaced schema es c before s ss after new parts held is =
             (tile-append 0 c.events (map range_of before) (range_of new ∷ map range_of after) tiled_before
             (new_from, new_some, subst (λ (n : ℕ). Tile n c.events (map range_of after)) (sym new_to) tiled_after));
         sealed = All-append (HasRollup schema c.start l) before (new ∷ after) (All-left (HasRollup schema c.start l) before (inner ++ after) held_parts) (new_fragment, All-right (HasRollup schema c.start l) inner after held_rest);
-        index = held.index ∙ ap (λ (n : ℕ). index_of schema (rolled_up schema (drop n l))) (sym end);
+        open_range = held.open_range ∙ ap (λ (n : ℕ). index_of schema (rolled_up schema (drop n l))) (sym end);
       },
       end,
     )

@@ -34,7 +34,7 @@ holds-no_chunk schema es k none = record {
   events = ap (λ (l : List Event). length l) (sym none);
   tiled = zero_itself;
   sealed = tt;
-  index = ap (λ (l : List Event). index_of schema (rolled_up schema (drop 0 l))) (sym none);
+  open_range = ap (λ (l : List Event). index_of schema (rolled_up schema (drop 0 l))) (sym none);
 }
   where
     zero_itself : 0 ≤ 0
@@ -152,7 +152,7 @@ grown-holds schema es e serial b c held at =
 
 grown-few : (schema : Schema) (es : List Event) (serial : ℕ) (c : Chunk) → IsWellFormed schema → Holds schema es c → HasFewRows schema (sealed_if_full serial c)
 grown-few schema es serial c formed held =
-    let limit : c.index.limit ≡ schema.limits.max_rows_in_memory = ap (λ (x : OpenRows). x.limit) held.index in
+    let limit : c.open_range.limit ≡ schema.limits.max_rows_in_memory = ap (λ (x : OpenRows). x.limit) held.open_range in
     elim (is_full c) as (λ b. is_full c ≡ b → HasFewRows schema (cond b (with_open_sealed serial c) c)) [
       | true ↦ λ h. formed.limits.some_rows
       | false ↦ λ h. grind (arith, nat_tests)
@@ -234,8 +234,8 @@ state-grown schema es cs seals commits lost thrown e kept =
     let own : int_eq (chunk schema e) c.start ≡ true = ap (int_eq (chunk schema e)) held.1 ∙ int_eq-itself (chunk schema e) in
     let holds : Holds schema new row = holds-own schema es e c own held.0 in
     let sealed : sealed_in k (at_chunk k (λ c. c) (map cut_of cs)) ≡ ranges_of row = sealed_in-opened k (map cut_of cs) ∙ sealed_in-cuts schema cs k in
-    let rows : index_of schema (rolled_up schema (open_in opened k)) ≡ row.index =
-    (λ i. index_of schema (rolled_up schema (open_events (chunk_list schema new ((sym held.1) i)) (sealed i)))) ∙ sym holds.index in
+    let rows : index_of schema (rolled_up schema (open_in opened k)) ≡ row.open_range =
+    (λ i. index_of schema (rolled_up schema (open_events (chunk_list schema new ((sym held.1) i)) (sealed i)))) ∙ sym holds.open_range in
     let full : nat_le schema.limits.max_rows_in_memory (length (rolled_up schema (open_in opened k))) ≡ full_after schema e cs = ap (λ (x : OpenRows). nat_le x.limit (length x.rows)) rows in
     let count : row.events ≡ n = holds.events ∙ ap (λ j. length (chunk_list schema new j)) held.1 in
     let by_case : (b : Bool) → full_after schema e cs ≡ b
@@ -272,8 +272,8 @@ length-filter p (x ∷ xs) =
     let less = length-filter p xs in
     elim (p x) as (λ b. length (cond b (x ∷ filter p xs) (filter p xs)) ≤ suc (length xs)) [ true ↦ omega arith | false ↦ omega arith ]
 
-pub chunks-fit : (schema : Schema) (es : List Event) (cs : List Chunk) → length es < 18446744073709551615 → AllByRecursion (Holds schema es) cs → AllByRecursion (λ c. (c.index.schema ≡ schema) × (c.events < 18446744073709551615)) cs
+pub chunks-fit : (schema : Schema) (es : List Event) (cs : List Chunk) → length es < 18446744073709551615 → AllByRecursion (Holds schema es) cs → AllByRecursion (λ c. (c.open_range.schema ≡ schema) × (c.events < 18446744073709551615)) cs
 chunks-fit schema es cs few each = All-same (Holds schema es) _ (λ c h.
     let less = length-filter (λ e. int_eq (chunk schema e) c.start) es in
     let count = h.events in
-    (ap (λ (x : OpenRows). x.schema) h.index, omega arith)) cs each
+    (ap (λ (x : OpenRows). x.schema) h.open_range, omega arith)) cs each

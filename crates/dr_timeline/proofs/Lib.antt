@@ -5,12 +5,9 @@ pub mod Totals
 pub mod Parts
 pub mod Tiles
 pub mod Lengths
-pub mod Joins
 pub mod Blocks
 pub mod Holding
 pub mod Changes
-pub mod Grouping
-pub mod Printing
 pub mod Matching
 pub mod Pinning
 pub mod Keeping

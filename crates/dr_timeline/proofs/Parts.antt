@@ -1,5 +1,5 @@
 -- The values of a function over a list, and the parts of the list that they make.
-use Rattle.std.proofs.Common.{◌≡◌, ◌∙◌, sym, refl, ap, subst, ℤ, Bool, true, false, List, [], ◌∷◌, ◌++◌, filter, cond, ◌||◌}
+use Rattle.std.proofs.Common.{◌≡◌, ◌∙◌, sym, refl, ap, subst, ℤ, Bool, true, false, List, [], ◌∷◌, ◌++◌, filter, map, cond, ◌||◌}
 use Rattle.std.specs.List.{list_any, AllByRecursion}
 use Rattle.std.specs.List.Sorted.{IsStrictlySortedBy}
 use Rattle.std.specs.declared.cmp.Ordering.{Ordering}
@@ -102,6 +102,49 @@ rising-onto f ks (x ∷ xs) h = rising-onto f (with_value (f x) ks) xs (rising-w
 pub rising-values : {A : Type 0} (f : A → ℤ) (xs : List A) → IsStrictlySortedBy int_cmp (values_onto f [] xs)
 unfolding IsStrictlySortedBy
 rising-values f xs = rising-onto f [] xs tt
+
+-- ---- a value is among those of some items exactly where it is that of one of them
+
+or-false : (a : Bool) → a ≡ (a || false)
+or-false true = refl
+or-false false = refl
+
+or-twice : (a b : Bool) → (a || b) ≡ (a || (a || b))
+or-twice true b = refl
+or-twice false b = refl
+
+or-swap : (a b c : Bool) → (a || (b || c)) ≡ (b || (a || c))
+or-swap true true c = refl
+or-swap true false c = refl
+or-swap false b c = refl
+
+or-moved : (a b c : Bool) → ((a || b) || c) ≡ (b || (a || c))
+or-moved true true c = refl
+or-moved true false c = refl
+or-moved false b c = refl
+
+any-with_value : (p : ℤ → Bool) (k : ℤ) (ks : List ℤ) → list_any p (with_value k ks) ≡ (p k || list_any p ks)
+unfolding with_value
+any-with_value p k [] = refl
+any-with_value p k (j ∷ js) =
+    elim (int_cmp k j) as (λ o. int_cmp k j ≡ o → list_any p (match_ordering o (k ∷ j ∷ js) (j ∷ js) (j ∷ with_value k js)) ≡ (p k || (p j || list_any p js))) [
+      | Less ↦ λ h. refl
+      | Equal ↦ λ h.
+          let same : k ≡ j = int_cmp-IsAntisymmetric k j h in
+          or-twice (p j) (list_any p js) ∙ ap (λ x. p x || (p j || list_any p js)) (sym same)
+      | Greater ↦ λ h. ap (λ b. p j || b) (any-with_value p k js) ∙ or-swap (p j) (p k) (list_any p js)
+    ] refl
+
+any-values_onto : {A : Type 0} (p : ℤ → Bool) (f : A → ℤ) (ks : List ℤ) (xs : List A) → list_any p (values_onto f ks xs) ≡ (list_any p ks || list_any p (map f xs))
+unfolding values_onto
+any-values_onto p f ks [] = or-false (list_any p ks)
+any-values_onto p f ks (x ∷ xs) =
+    any-values_onto p f (with_value (f x) ks) xs
+    ∙ ap (λ b. b || list_any p (map f xs)) (any-with_value p (f x) ks)
+    ∙ or-moved (p (f x)) (list_any p ks) (list_any p (map f xs))
+
+pub any-values : {A : Type 0} (p : ℤ → Bool) (f : A → ℤ) (xs : List A) → list_any p (values_onto f [] xs) ≡ list_any p (map f xs)
+any-values p f xs = any-values_onto p f [] xs
 
 -- the values with one more item
 pub values_onto-push : {A : Type 0} (f : A → ℤ) (ks : List ℤ) (xs : List A) (x : A) → values_onto f ks (xs ++ x ∷ []) ≡ with_value (f x) (values_onto f ks xs)

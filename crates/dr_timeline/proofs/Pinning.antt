@@ -8,7 +8,7 @@ use Rattle.dr_agg.specs.Rollup.{all_rows}
 use Rattle.dr_spec.specs.declared.schema.Schema.{Schema}
 use Rattle.dr_rollup.specs.OpenRows.{OpenRows}
 use Rattle.dr_timeline.specs.declared.chunk.Chunk.{Chunk}
-use Rattle.dr_timeline.specs.declared.fragment.Fragment.{Fragment}
+use Rattle.dr_merge.specs.declared.fragment.Fragment.{Fragment}
 use Rattle.dr_timeline.specs.declared.range_info.RangeInfo.{RangeInfo}
 use Rattle.dr_timeline.specs.declared.sealed_range.SealedRange.{SealedRange}
 use Rattle.dr_rollup.specs.Unrolled.{rolled_up}
@@ -17,7 +17,8 @@ use Rattle.dr_timeline.specs.State.{Tile, AreCuts, IsTiled, open_from}
 use Rattle.dr_timeline.specs.Steps.{fragment_of}
 use Rattle.dr_timeline.specs.Segments.{sealed_info, open_info, infos_of_cut, infos, events_in, rows_over}
 use Rattle.dr_timeline.specs.Held.{range_of, ranges_of, cut_of, info_of, has_open, open_fragment, infos_of_chunk, fragments_of_chunk, Holds}
-use Rattle.dr_timeline.specs.Pieces.{rows_held, rows_in}
+use Rattle.dr_timeline.specs.Pieces.{rows_held}
+use Rattle.dr_answer.specs.Pieces.{rows_in}
 
 -- the rows of a range
 abbrev pub rows_of_range : Schema → List Event → RangeInfo → List Row
@@ -38,14 +39,14 @@ pub infos-chunk : (schema : Schema) (es : List Event) (c : Chunk) → Holds sche
 infos-chunk schema es c held =
     let from : ℕ = open_from (ranges_of c) in
     λ i. infos-sealed schema es c.start c.sealed held.sealed i
-    ++ cond (nat_lt from (held.events i)) (record { chunk = c.start; from = from; to = held.events i; version = 0; rows = length (held.index i).rows; sealed = false } ∷ []) []
+    ++ cond (nat_lt from (held.events i)) (record { chunk = c.start; from = from; to = held.events i; version = 0; rows = length (held.open_range i).rows; sealed = false } ∷ []) []
 
-open-rows : (schema : Schema) (es : List Event) (c : Chunk) → Holds schema es c → c.index.rows ≡ rows_of_range schema es (open_info schema es c.start (open_from (ranges_of c)))
+open-rows : (schema : Schema) (es : List Event) (c : Chunk) → Holds schema es c → c.open_range.rows ≡ rows_of_range schema es (open_info schema es c.start (open_from (ranges_of c)))
 open-rows schema es c held =
     let from : ℕ = open_from (ranges_of c) in
     let l : List Event = chunk_list schema es c.start in
     let long : length (drop from l) ≡ length l - from = length-drop from l in
-    ap (λ (x : OpenRows). x.rows) held.index ∙ ap (rolled_up schema) (sym (take_all (length l - from) (drop from l) (omega arith)))
+    ap (λ (x : OpenRows). x.rows) held.open_range ∙ ap (rolled_up schema) (sym (take_all (length l - from) (drop from l) (omega arith)))
 
 pub rows-chunk : (schema : Schema) (es : List Event) (c : Chunk) → Holds schema es c → map (λ f. f.rows) (fragments_of_chunk c) ≡ map (rows_of_range schema es) (infos_of_cut schema es (cut_of c))
 rows-chunk schema es c held =

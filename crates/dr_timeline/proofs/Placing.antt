@@ -1,5 +1,5 @@
 -- The place at which the ranges of a job stand, and what a commit is there.
-use Rattle.std.proofs.Common.{◌≡◌, ◌∙◌, sym, refl, ap, ℤ, ℕ, zero, suc, ◌+◌, ◌<◌, ◌≤◌, Bool, true, false, ◌&&◌, List, [], ◌∷◌, length, map, Some, None, Ok, Err, arith, rules, tests}
+use Rattle.std.proofs.Common.{◌≡◌, ◌∙◌, sym, refl, ap, ℤ, ℕ, zero, suc, ◌+◌, ◌<◌, ◌≤◌, Bool, true, false, cond, ◌&&◌, List, [], ◌∷◌, length, map, Some, None, Ok, Err, arith, rules, tests}
 use Rattle.std.specs.Prelude.{nat_eq, nat_lt, nat_le}
 use Rattle.std.specs.Bool.{Decides}
 use Rattle.std.specs.Ordering.{int_eq}
@@ -9,9 +9,9 @@ use Rattle.std.proofs.lemmas.Bool.Decides.{Decides-int_eq, Decides-ltb}
 use Rattle.std.proofs.lemmas.Slice.Eq.{slice_eq-Decides}
 use Rattle.dr_base.proofs.Equality.{both, rows_decide}
 use Rattle.dr_base.specs.declared.event.Event.{Event}
-use Rattle.dr_timeline.specs.declared.fragment.Fragment.{Fragment}
-use Rattle.dr_timeline.specs.declared.job.Job.{Job}
-use Rattle.dr_timeline.specs.declared.purpose.Purpose.{Purpose}
+use Rattle.dr_merge.specs.declared.fragment.Fragment.{Fragment}
+use Rattle.dr_merge.specs.declared.job.Job.{Job}
+use Rattle.dr_merge.specs.declared.purpose.Purpose.{Purpose}
 use Rattle.dr_timeline.specs.declared.timeline_error.TimelineError.TheVariants.{NothingToSeal, NoSuchRange, Stale, CommitsFull}
 use Rattle.dr_timeline.specs.State.{State, sealed_in}
 use Rattle.dr_timeline.specs.Steps.{accepted, sealed_at, open_in, fragment_of, ranges_at, job_of, StandsAt, Commits}
@@ -68,6 +68,14 @@ found_none : (test : ℕ → Bool) (place count : ℕ) → ((e : ℕ) → test e
 found_none test place zero each = refl
 found_none test place (suc count) each = rw (each place) (found_none test (place + 1) count each)
 
+found_passes : (test : ℕ → Bool) (place count p : ℕ) → first_place test place count ≡ Some p → test p ≡ true
+found_passes test place zero p is = cc
+found_passes test place (suc count) p is =
+    elim (test place) as (λ b. test place ≡ b → cond b (Some place) (first_place test (place + 1) count) ≡ Some p → test p ≡ true) [
+      | true ↦ λ passes here. let same : place ≡ p = cc in ap test (sym same) ∙ passes
+      | false ↦ λ passes later. found_passes test (place + 1) count p later
+    ] refl is
+
 -- ---- a commit
 
 place-first : (s : State) (job : Job) (place : ℕ) → StandsAt s job place → ((e : ℕ) → e < place → StandsAt s job e → ⊥) → place_of s job ≡ Some place
@@ -78,6 +86,9 @@ place-first s job place stands first =
     found_at (stands_at s job) 0 place (length (sealed_in job.chunk s.cuts)) (omega arith) (ap (stands_at s job) (from_zero place) ∙ (stands_decide s job place).1 stands)
     (λ e below. ap (stands_at s job) (from_zero e) ∙ refuted (stands_at s job e) (stands_decide s job e) (first e below))
     ∙ ap Some (from_zero place)
+
+pub place_of-stands : (s : State) (job : Job) (place : ℕ) → place_of s job ≡ Some place → StandsAt s job place
+place_of-stands s job place is = (stands_decide s job place).0 (found_passes (stands_at s job) 0 (length (sealed_in job.chunk s.cuts)) place is)
 
 pub commit-stale : (s : State) (job : Job) → ((place : ℕ) → StandsAt s job place → ⊥) → commit s job ≡ Err Stale
 commit-stale s job none =

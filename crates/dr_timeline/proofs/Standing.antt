@@ -9,11 +9,11 @@ use Rattle.dr_agg.specs.Rollup.{AllFit}
 use Rattle.dr_spec.specs.Columns.{kinds_of}
 use Rattle.dr_spec.specs.declared.schema.Schema.{Schema}
 use Rattle.dr_timeline.specs.declared.chunk.Chunk.{Chunk}
-use Rattle.dr_timeline.specs.declared.job.Job.{Job}
+use Rattle.dr_merge.specs.declared.job.Job.{Job}
 use Rattle.dr_timeline.specs.declared.sealed_range.SealedRange.{SealedRange}
 use Rattle.dr_timeline.specs.Chunks.{chunks}
 use Rattle.dr_timeline.specs.State.{State, Range, sealed_in, open_from}
-use Rattle.dr_timeline.specs.Joined.{joined, joined_fragment}
+use Rattle.dr_merge.specs.Joined.{joined, joined_fragment}
 use Rattle.dr_timeline.specs.Steps.{fragment_of, ranges_at, StandsAt, joined_range, replaced, committed}
 use Rattle.dr_timeline.specs.Held.{range_of, ranges_of, cut_of, Holds, HasFewRows, Keeps, StandsIn, with_range, at_start, chunk_at, open_count, IsFirst}
 use Rattle.dr_timeline.proofs.Each.{All-left, All-right}

@@ -9,10 +9,10 @@ use Rattle.dr_events.specs.Fits.{FitsSchema}
 use Rattle.dr_spec.specs.WellFormed.{IsWellFormed}
 use Rattle.dr_spec.specs.declared.schema.Schema.{Schema}
 use Rattle.dr_timeline.specs.declared.chunk.Chunk.{Chunk}
-use Rattle.dr_timeline.specs.declared.job.Job.{Job}
+use Rattle.dr_merge.specs.declared.job.Job.{Job}
 use Rattle.dr_timeline.specs.declared.place.Place.{Place}
 use Rattle.dr_timeline.specs.declared.place.Place.TheVariants.{At, Before}
-use Rattle.dr_timeline.specs.declared.fragment.Fragment.{Fragment}
+use Rattle.dr_merge.specs.declared.fragment.Fragment.{Fragment}
 use Rattle.dr_timeline.specs.declared.range_info.RangeInfo.{RangeInfo}
 use Rattle.dr_timeline.specs.declared.sealed_range.SealedRange.{SealedRange}
 use Rattle.dr_rollup.specs.Unrolled.{rolled_up}
@@ -41,11 +41,11 @@ pub record Holds (schema : Schema) (es : List Event) (c : Chunk) : Type 0 where
   pub events : c.events ≡ length (chunk_list schema es c.start)
   pub tiled : Tile 0 c.events (ranges_of c)
   pub sealed : AllByRecursion (λ s. s.fragment ≡ fragment_of schema es c.start (range_of s)) c.sealed
-  pub index : c.index ≡ index_of schema (rolled_up schema (open_events (chunk_list schema es c.start) (ranges_of c)))
+  pub open_range : c.open_range ≡ index_of schema (rolled_up schema (open_events (chunk_list schema es c.start) (ranges_of c)))
 
 -- its open range has fewer rows than are held in memory
 abbrev pub HasFewRows : Schema → Chunk → Type 0
-HasFewRows schema c = length c.index.rows < schema.limits.max_rows_in_memory
+HasFewRows schema c = length c.open_range.rows < schema.limits.max_rows_in_memory
 
 -- how many events of a chunk are in its open range
 abbrev pub open_count : Chunk → ℕ
@@ -68,15 +68,15 @@ pub record Keeps (schema : Schema) (es : List Event) (cs : List Chunk) (seal_cou
 
 -- a chunk without events
 abbrev pub no_chunk : Schema → ℤ → Chunk
-no_chunk schema k = record { start = k; events = 0; sealed = []; publications = 0; index = index_of schema [] }
+no_chunk schema k = record { start = k; events = 0; sealed = []; publications = 0; open_range = index_of schema [] }
 
 -- a chunk with one more event in its open range
 abbrev pub with_one : Event → Chunk → Chunk
-with_one e c = record c { events = c.events + 1; index = with_rows c.index (rows_with c.index e) }
+with_one e c = record c { events = c.events + 1; open_range = with_rows c.open_range (rows_with c.open_range e) }
 
 -- the open range of a chunk with its rows
 abbrev pub open_fragment : Chunk → Fragment
-open_fragment c = record { chunk = c.start; from = open_from (ranges_of c); to = c.events; rows = c.index.rows }
+open_fragment c = record { chunk = c.start; from = open_from (ranges_of c); to = c.events; rows = c.open_range.rows }
 
 -- a sealed range as a snapshot shows it
 abbrev pub info_of : SealedRange → RangeInfo
@@ -88,7 +88,7 @@ has_open c = nat_lt (open_from (ranges_of c)) c.events
 
 -- the open range as a snapshot shows it
 abbrev pub open_info_of : Chunk → RangeInfo
-open_info_of c = record { chunk = c.start; from = open_from (ranges_of c); to = c.events; version = 0; rows = length c.index.rows; sealed = false }
+open_info_of c = record { chunk = c.start; from = open_from (ranges_of c); to = c.events; version = 0; rows = length c.open_range.rows; sealed = false }
 
 -- the ranges of a chunk as a snapshot shows them, and with their rows
 abbrev pub infos_of_chunk : Chunk → List RangeInfo
@@ -104,15 +104,15 @@ with_sealed_rows serial events rows c = record {
   events = events;
   sealed = c.sealed ++ record { serial = serial; version = 0; fragment = record { chunk = c.start; from = open_from (ranges_of c); to = events; rows = rows } } ∷ [];
   publications = c.publications;
-  index = with_rows c.index [];
+  open_range = with_rows c.open_range [];
 }
 
 abbrev pub with_open_sealed : ℕ → Chunk → Chunk
-with_open_sealed serial c = with_sealed_rows serial c.events c.index.rows c
+with_open_sealed serial c = with_sealed_rows serial c.events c.open_range.rows c
 
 -- the open range holds as many rows as it may
 abbrev pub is_full : Chunk → Bool
-is_full c = nat_le c.index.limit (length c.index.rows)
+is_full c = nat_le c.open_range.limit (length c.open_range.rows)
 
 -- so many ranges are sealed
 abbrev pub seals_of : Bool → ℕ

@@ -2,7 +2,6 @@ pub mod Refusal
 pub mod Chunks
 pub mod AtKey
 pub mod State
-pub mod Joined
 pub mod Steps
 pub mod Standing
 pub mod Stepping
@@ -16,4 +15,3 @@ pub mod Blocks
 pub mod Held
 pub mod Pieces
 pub mod Shown
-pub mod Groups

@@ -2,8 +2,8 @@
 -- refusal, which changes nothing.
 use Rattle.std.specs.Prelude.{ℕ, ℤ, nat_eq, nat_lt, nat_le, ◌&&◌, Option, Some, None, Result, Ok, Err, length, if◌then◌else◌}
 use Rattle.dr_base.specs.declared.event.Event.{Event}
-use Rattle.dr_timeline.specs.declared.job.Job.{Job}
-use Rattle.dr_timeline.specs.declared.purpose.Purpose.{Purpose}
+use Rattle.dr_merge.specs.declared.job.Job.{Job}
+use Rattle.dr_merge.specs.declared.purpose.Purpose.{Purpose}
 use Rattle.dr_timeline.specs.declared.timeline_error.TimelineError.{TimelineError}
 use Rattle.dr_timeline.specs.declared.timeline_error.TimelineError.TheVariants.{StreamFull, NothingToSeal, NoSuchRange, Stale, CommitsFull}
 use Rattle.dr_timeline.specs.State.{State, sealed_in}

@@ -3,14 +3,14 @@
 use Rattle.std.specs.Prelude.{◌≡◌, ℕ, ℤ, ◌+◌, ◌-◌, ◌<◌, ◌≤◌, min, nat_le, List, [], ◌∷◌, ◌++◌, length, map, take, drop, fold, if◌then◌else◌}
 use Rattle.dr_base.specs.declared.event.Event.{Event}
 use Rattle.dr_spec.specs.declared.schema.Schema.{Schema}
-use Rattle.dr_timeline.specs.declared.fragment.Fragment.{Fragment}
-use Rattle.dr_timeline.specs.declared.job.Job.{Job}
-use Rattle.dr_timeline.specs.declared.purpose.Purpose.{Purpose}
+use Rattle.dr_merge.specs.declared.fragment.Fragment.{Fragment}
+use Rattle.dr_merge.specs.declared.job.Job.{Job}
+use Rattle.dr_merge.specs.declared.purpose.Purpose.{Purpose}
 use Rattle.dr_rollup.specs.Unrolled.{rolled_up}
 use Rattle.dr_timeline.specs.Chunks.{chunk, chunk_list}
 use Rattle.dr_timeline.specs.AtKey.{at_key}
 use Rattle.dr_timeline.specs.State.{Range, Cut, State, open_from, open_events, events_of, sealed_in}
-use Rattle.dr_timeline.specs.Joined.{joined_fragment}
+use Rattle.dr_merge.specs.Joined.{joined_fragment}
 
 -- a chunk of which nothing is sealed
 abbrev pub open_cut : ℤ → Cut

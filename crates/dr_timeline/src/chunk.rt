@@ -1,36 +1,32 @@
-ghost use Rattle.std.specs.Prelude.{◌≡◌, ◌<◌, ◌≤◌, false, nat_lt, length, IfOk, OnOk, OnErr};
+ghost use Rattle.std.specs.Prelude.{◌≡◌, ◌<◌, ◌≤◌, ◌++◌, IfOk, OnOk, OnErr};
 ghost use Rattle.dr_events.specs.Fits.{FitsSchema};
-ghost use Rattle.dr_gran.specs.Step.{is_all};
-ghost use Rattle.dr_rollup.specs.OpenRows.{rows_with, with_rows};
-ghost use Rattle.dr_timeline.specs.Held.{no_chunk, with_one, grown, is_full, seals_of, with_open_sealed, with_sealed_rows, has_open, open_info_of, open_fragment};
+ghost use Rattle.dr_timeline.specs.State.{open_from};
+ghost use Rattle.dr_timeline.specs.Held.{no_chunk, with_one, grown, is_full, seals_of, with_open_sealed, with_sealed_rows, has_open, open_info_of, open_fragment, ranges_of, infos_of_chunk, fragments_of_chunk};
 
-use crate::fragment::Fragment;
+use crate::open_range::OpenRange;
 use crate::range_info::RangeInfo;
-use crate::rows::Rows;
 use crate::sealed_range::SealedRange;
 use crate::sealed_ranges::SealedRanges;
-use crate::shared_fragment::SharedFragment;
 use dr_base::Event;
-use dr_rollup::{OpenIndex, RollupError};
+use dr_merge::{Fragment, Fragments, SharedFragment};
 use dr_spec::Schema;
 use std::alloc::{AllocError, Global};
 
 /// A chunk of events: the start of its bucket of the segment granularity, in milliseconds since the epoch, how many
-/// events it has, its sealed ranges in order, how many publications there were, and the index of its open range.
+/// events it has, its sealed ranges in order, how many publications there were, and its open range.
 #[derive(Drop)]
 pub struct Chunk {
     pub start: i64,
     pub events: usize,
     pub sealed: SealedRanges,
     pub publications: u64,
-    pub index: OpenIndex,
+    pub open_range: OpenRange,
 }
 
 impl Chunk {
     /// A chunk without events. The only error is that memory ran out.
     pub fn new(alloc: Global, schema: &Schema, start: i64) -> Result<Chunk, AllocError>
-        requires kind { is_all schema.now.query_granularity ≡ false }
-        requires limit { schema.now.limits.max_rows_in_memory ≤ 1048576 }
+        requires { schema.now.limits.max_rows_in_memory ≤ 1048576 }
         ensures { IfOk result (λ chunk. chunk ≡ no_chunk schema.now start) }
     {
         Ok(Chunk {
@@ -38,7 +34,7 @@ impl Chunk {
             events: 0,
             sealed: SealedRanges::new(alloc),
             publications: 0,
-            index: OpenIndex::new(alloc, schema, schema.limits.max_rows_in_memory)?,
+            open_range: OpenRange::new(alloc, schema)?,
         })
     }
 
@@ -58,39 +54,64 @@ impl Chunk {
             from: self.sealed.end(),
             to: self.events,
             version: 0,
-            rows: self.index.len(),
+            rows: self.open_range.len(),
             sealed: false,
         }
     }
 
-    /// The open range with a copy of its rows. The only error is that memory ran out.
-    pub fn open_fragment(&self) -> Result<Fragment, AllocError>
-        ensures { IfOk result (λ fragment. fragment ≡ open_fragment self.now) }
+    /// The open range with its rows. The only error is that memory ran out.
+    pub fn open_fragment(&mut self, alloc: Global) -> Result<SharedFragment, AllocError>
+        ensures fragment { IfOk result (λ fragment. fragment ≡ open_fragment self.old) }
+        ensures same { self.new ≡ self.old }
     {
-        Ok(Fragment {
-            chunk: self.start,
-            from: self.sealed.end(),
-            to: self.events,
-            rows: Rows::from_vec(self.index.rows()?),
-        })
+        self.open_range
+            .fragment(alloc, self.start, self.sealed.end(), self.events)
+    }
+
+    /// Puts the ranges behind these, as a snapshot shows them and with their rows. The only error is that memory ran out.
+    pub fn pin(
+        &mut self,
+        alloc: Global,
+        fragments: &mut Fragments,
+        ranges: &mut Vec<RangeInfo>,
+    ) -> Result<(), AllocError>
+        ensures fragments { OnOk result (fragments.new ≡ fragments.old ++ fragments_of_chunk self.old) }
+        ensures ranges { OnOk result (ranges.new.items ≡ ranges.old.items ++ infos_of_chunk self.old) }
+        ensures same { self.new ≡ self.old }
+    {
+        self.sealed.pin(fragments, ranges)?;
+        if self.has_open() {
+            ranges.push(self.open_info())?;
+            fragments.push(self.open_fragment(alloc)?)?;
+        }
+        Ok(())
     }
 
     /// Adds an event to the open range, and seals it with this serial where it has as many rows as it may then. Answers
     /// how many ranges were sealed by it, 0 or 1. An error leaves the chunk as it was.
     pub fn grow(&mut self, alloc: Global, serial: u64, event: &Event) -> Result<u64, AllocError>
-        requires event { FitsSchema self.old.index.schema event.now }
+        requires event { FitsSchema self.old.open_range.schema event.now }
         requires room { self.old.events < 18446744073709551615 }
         ensures ok { OnOk result (self.new ≡ grown serial event.now self.old) }
         ensures seals { IfOk result (λ seals. seals ≡ seals_of (is_full (with_one event.now self.old))) }
         ensures err { OnErr result (self.new ≡ self.old) }
     {
-        if stays_open(&mut self.index, event) {
-            add(&mut self.index, event)?;
+        if self.open_range.stays_open(event) {
+            self.open_range.add(event)?;
             self.events += 1;
             return Ok(0);
         }
-        let rows = Rows::from_vec(self.index.rows_with(event)?);
-        self.seal_rows(alloc, serial, self.events + 1, rows)?;
+        let fragment = Fragment {
+            chunk: self.start,
+            from: self.sealed.end(),
+            to: self.events + 1,
+            rows: self.open_range.rows_with(event)?,
+        };
+        self.seal_as(
+            serial,
+            self.events + 1,
+            SharedFragment::new(alloc, fragment)?,
+        )?;
         Ok(1)
     }
 
@@ -99,62 +120,29 @@ impl Chunk {
         ensures ok { OnOk result (self.new ≡ with_open_sealed serial self.old) }
         ensures err { OnErr result (self.new ≡ self.old) }
     {
-        let rows = Rows::from_vec(self.index.rows()?);
-        self.seal_rows(alloc, serial, self.events, rows)
+        let fragment = self.open_fragment(alloc)?;
+        self.seal_as(serial, self.events, fragment)
     }
 
-    fn seal_rows(
+    // Its open range, up to the end of so many events, becomes that sealed one.
+    fn seal_as(
         &mut self,
-        alloc: Global,
         serial: u64,
         events: usize,
-        rows: Rows,
+        fragment: SharedFragment,
     ) -> Result<(), AllocError>
-        ensures ok { OnOk result (self.new ≡ with_sealed_rows serial events rows self.old) }
+        requires { fragment ≡ record { chunk = self.old.start; from = open_from (ranges_of self.old); to = events; rows = fragment.rows } }
+        ensures ok { OnOk result (self.new ≡ with_sealed_rows serial events fragment.rows self.old) }
         ensures err { OnErr result (self.new ≡ self.old) }
     {
-        let fragment = Fragment {
-            chunk: self.start,
-            from: self.sealed.end(),
-            to: events,
-            rows,
-        };
-        let fresh = self.index.fresh()?;
-        let fragment = SharedFragment::new(alloc, fragment)?;
+        let fresh = self.open_range.fresh()?;
         self.sealed.push(SealedRange {
             serial,
             version: 0,
             fragment,
         })?;
         self.events = events;
-        self.index = fresh;
+        self.open_range = fresh;
         Ok(())
-    }
-}
-
-// Whether an index has fewer rows than it may with one more event.
-fn stays_open(index: &mut OpenIndex, event: &Event) -> bool
-    requires { FitsSchema index.old.schema event.now }
-    ensures open { result ≡ nat_lt (length (rows_with index.old event.now)) index.old.limit }
-    ensures same { index.new ≡ index.old }
-{
-    let limit = index.limit();
-    if index.len() + 1 < limit {
-        return true;
-    }
-    index.len_with(event) < limit
-}
-
-// Adds an event to an index that may have the rows with it.
-fn add(index: &mut OpenIndex, event: &Event) -> Result<(), AllocError>
-    requires event { FitsSchema index.old.schema event.now }
-    requires room { length (rows_with index.old event.now) ≤ index.old.limit }
-    ensures ok { OnOk result (index.new ≡ with_rows index.old (rows_with index.old event.now)) }
-    ensures err { OnErr result (index.new ≡ index.old) }
-{
-    match index.add(event) {
-        Ok(()) => Ok(()),
-        Err(RollupError::NoMemory) => Err(AllocError),
-        Err(RollupError::IndexFull) => unreachable!(),
     }
 }

@@ -1,16 +1,18 @@
-ghost use Rattle.std.specs.Prelude.{◌≡◌, ◌+◌, ◌<◌, ◌≤◌, [], IfOk, OnOk, OnErr, length, get_or, map};
-ghost use Rattle.std.specs.List.{AllByRecursion};
+ghost use Rattle.std.specs.Prelude.{◌≡◌, ◌+◌, ◌<◌, ◌≤◌, ◌++◌, [], IfOk, OnOk, OnErr, length, get_or, map};
+ghost use Rattle.std.specs.List.{AllByRecursion, flat_map};
 ghost use Rattle.std.specs.List.Sorted.{IsStrictlySortedBy};
 ghost use Rattle.std.specs.Ordering.{int_cmp};
 ghost use Rattle.dr_events.specs.Fits.{FitsSchema};
 ghost use Rattle.dr_spec.specs.WellFormed.{IsWellFormed};
 ghost use Rattle.dr_timeline.specs.declared.chunk.Chunk.{Chunk};
-ghost use Rattle.dr_timeline.specs.Held.{grown, is_full, seals_of, at_start, chunk_at, changed_at, with_open_sealed, with_range, with_one, IsPlace};
+ghost use Rattle.dr_timeline.specs.Held.{grown, is_full, seals_of, at_start, chunk_at, changed_at, with_open_sealed, with_range, with_one, IsPlace, infos_of_chunk, fragments_of_chunk};
 
 use crate::chunk::Chunk;
 use crate::place::Place;
+use crate::range_info::RangeInfo;
 use crate::sealed_range::SealedRange;
 use dr_base::Event;
+use dr_merge::Fragments;
 use dr_spec::Schema;
 use std::alloc::{AllocError, Global};
 use std::marker::Model;
@@ -66,7 +68,7 @@ impl Chunks {
     ) -> Result<u64, AllocError>
         requires formed { IsWellFormed schema.now }
         requires rising { IsStrictlySortedBy int_cmp (map (λ c. c.start) self.old) }
-        requires chunks { AllByRecursion (λ c. (c.index.schema ≡ schema.now) × (c.events < 18446744073709551615)) self.old }
+        requires chunks { AllByRecursion (λ c. (c.open_range.schema ≡ schema.now) × (c.events < 18446744073709551615)) self.old }
         requires event { FitsSchema schema.now event.now }
         ensures ok { OnOk result (self.new ≡ at_start schema.now (grown serial event.now) start self.old) }
         ensures seals { IfOk result (λ seals. seals ≡ seals_of (is_full (with_one event.now (chunk_at schema.now start self.old)))) }
@@ -106,4 +108,35 @@ impl Chunks {
         let chunk = &mut self.0[chunk];
         chunk.sealed.replace(place, count, range);
     }
+
+    /// Puts the ranges of each chunk behind these, as a snapshot shows them and with their rows. The only error is that memory
+    /// ran out.
+    pub fn pin(
+        &mut self,
+        alloc: Global,
+        fragments: &mut Fragments,
+        ranges: &mut Vec<RangeInfo>,
+    ) -> Result<(), AllocError>
+        ensures fragments { OnOk result (fragments.new ≡ fragments.old ++ flat_map fragments_of_chunk self.old) }
+        ensures ranges { OnOk result (ranges.new.items ≡ ranges.old.items ++ flat_map infos_of_chunk self.old) }
+        ensures same { self.new ≡ self.old }
+    {
+        pin_each(alloc, &mut self.0, fragments, ranges)
+    }
+}
+
+fn pin_each(
+    alloc: Global,
+    chunks: &mut [Chunk],
+    fragments: &mut Fragments,
+    ranges: &mut Vec<RangeInfo>,
+) -> Result<(), AllocError>
+    ensures fragments { OnOk result (fragments.new ≡ fragments.old ++ flat_map fragments_of_chunk chunks.old) }
+    ensures ranges { OnOk result (ranges.new.items ≡ ranges.old.items ++ flat_map infos_of_chunk chunks.old) }
+    ensures same { chunks.new ≡ chunks.old }
+{
+    for chunk in chunks.iter_mut() {
+        chunk.pin(alloc, fragments, ranges)?;
+    }
+    Ok(())
 }

@@ -12,15 +12,13 @@ ghost use Rattle.dr_timeline.specs.Refusal.{number_of};
 ghost use Rattle.dr_timeline.specs.Headline.{AnswersAreRaw};
 
 use crate::bytes::Bytes;
-use crate::job::Job;
-use crate::joining::work;
-use crate::purpose::Purpose;
 use crate::reply::Reply;
 use crate::snapshot::Snapshot;
 use crate::step::Step;
 use crate::timeline::Timeline;
 use crate::timeline_error::TimelineError;
 use dr_base::Event;
+use dr_merge::{Job, Purpose, work};
 use dr_query::{AnswerError, Query};
 use dr_spec::IngestSpec;
 use std::alloc::{AllocError, Global};

@@ -1,6 +1,11 @@
-//! The law that makes answers independent of cuts. The function does nothing: its contract is the law.
+//! The laws over the definitions alone. The functions do nothing: their contracts are the laws.
 
-ghost use Rattle.dr_timeline.specs.Laws.{AnswersOverCuts};
+ghost use Rattle.dr_timeline.specs.Laws.{AnswersOverCuts, ChunksOfEvents};
+
+/// The chunks of events rise, and are exactly the chunks that one of the events lies in; so there is one such list.
+pub fn chunks_of_events()
+    ensures { ChunksOfEvents }
+{}
 
 /// The answer to a matching query over the rows of any cuts is the answer over the raw events.
 pub fn answers_over_cuts()

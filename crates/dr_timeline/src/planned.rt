@@ -1,14 +1,10 @@
 ghost use Rattle.std.specs.Prelude.{◌≡◌, ◌<◌, ◌↔◌, ℕ, IfOk, IfSome, IsTrue, IsNone, map};
-ghost use Rattle.dr_timeline.specs.declared.job.Job.{Job};
+ghost use Rattle.dr_merge.specs.declared.job.Job.{Job};
 ghost use Rattle.dr_timeline.specs.Held.{range_of, StandsIn};
 ghost use Rattle.dr_timeline.specs.Steps.{least_version as least_of};
 
-use crate::fragments::Fragments;
-use crate::job::Job;
-use crate::purpose::Purpose;
 use crate::sealed_range::SealedRange;
-use crate::serials::Serials;
-use crate::shared_fragment::SharedFragment;
+use dr_merge::{Fragments, Job, Purpose, Serials, SharedFragment};
 use std::alloc::{AllocError, Global};
 
 /// A job over adjacent sealed ranges of a chunk.

@@ -2,6 +2,7 @@ ghost use Rattle.dr_timeline.specs.Run.{FitsStep};
 
 use super::*;
 use dr_events::read_event;
+use dr_merge::Purpose;
 use dr_query::Query;
 use dr_spec::IngestSpec;
 use std::alloc::{AllocError, Global};

@@ -2,7 +2,7 @@ ghost use Rattle.std.specs.Prelude.{◌≡◌};
 ghost use Rattle.dr_timeline.specs.Held.{info_of};
 
 use crate::range_info::RangeInfo;
-use crate::shared_fragment::SharedFragment;
+use dr_merge::SharedFragment;
 
 /// A sealed range of a chunk: the number of seals and commits before it, its version, and its rows.
 #[derive(Drop)]

@@ -1,8 +1,10 @@
 ghost use Rattle.std.specs.Prelude.{◌≡◌, ◌+◌, ◌≤◌, ◌<◌, ◌++◌, ◌∷◌, [], OnOk, OnErr, length, map, take, drop, slice_get};
-ghost use Rattle.dr_timeline.specs.Held.{range_of};
+ghost use Rattle.dr_timeline.specs.Held.{range_of, info_of};
 ghost use Rattle.dr_timeline.specs.State.{open_from};
 
+use crate::range_info::RangeInfo;
 use crate::sealed_range::SealedRange;
+use dr_merge::Fragments;
 use std::alloc::{AllocError, Global};
 use std::marker::Model;
 
@@ -68,5 +70,21 @@ impl SealedRanges {
     {
         self.0[place] = range;
         drop(self.0.drain(place + 1..place + count));
+    }
+
+    /// Puts the ranges behind these, as a snapshot shows them and with their rows. The only error is that memory ran out.
+    pub fn pin(
+        &self,
+        fragments: &mut Fragments,
+        ranges: &mut Vec<RangeInfo>,
+    ) -> Result<(), AllocError>
+        ensures fragments { OnOk result (fragments.new ≡ fragments.old ++ map (λ s. s.fragment) self.now) }
+        ensures ranges { OnOk result (ranges.new.items ≡ ranges.old.items ++ map info_of self.now) }
+    {
+        for range in self.as_slice() {
+            ranges.push(range.info())?;
+            fragments.push(range.fragment.share()?)?;
+        }
+        Ok(())
     }
 }

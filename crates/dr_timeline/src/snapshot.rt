@@ -2,29 +2,24 @@ ghost use Rattle.std.specs.Prelude.{◌≡◌, ◌↔◌, ◌++◌, IsTrue, List
 ghost use Rattle.dr_base.specs.declared.event.Event.{Event};
 ghost use Rattle.dr_query.specs.AnswerRefusal.{Answers};
 ghost use Rattle.dr_query.specs.Answer.{answer};
-ghost use Rattle.dr_query.specs.Groups.{span, span as span_of_rows};
+ghost use Rattle.dr_query.specs.Groups.{span};
 ghost use Rattle.dr_query.specs.Matching.{is_matching};
 ghost use Rattle.dr_query.specs.MadeFor.{MadeFor};
 ghost use Rattle.dr_rollup.specs.Unrolled.{unrolled};
 ghost use Rattle.dr_timeline.specs.Segments.{rows_of};
-ghost use Rattle.dr_timeline.specs.Pieces.{rows_in};
 ghost use Rattle.dr_timeline.specs.RawAnswer.{raw_answer};
 
-use crate::answer_text::text_of_groups;
-use crate::fragments::Fragments;
-use crate::groups::groups_of;
 use crate::range_info::RangeInfo;
 use crate::span::span_of;
 use crate::stream::Stream;
 use crate::unrolled::unrolled_rows;
-use dr_base::{Event, Row};
+use dr_answer::answer;
+use dr_base::Event;
+use dr_merge::Fragments;
 use dr_query::{AnswerError, Query};
 use dr_spec::Schema;
 use std::alloc::Global;
 use std::marker::Model;
-
-/// How many groups an answer may have, before any limit.
-pub const MAX_GROUPS: usize = 100_000;
 
 /// The events that were accepted before a pin, in order, and the ranges that their chunks were cut into. No later step
 /// changes it. A contract sees its schema, the list of its events, and the ranges.
@@ -102,7 +97,7 @@ impl Snapshot {
     {
         let alloc = self.stream.allocator();
         let pieces = self.fragments.pieces(alloc)?;
-        answer_pieces(alloc, query, self.span(), &pieces)
+        answer(alloc, query, &pieces)
     }
 
     /// The answer to a query that was made for the schema over the raw events, each as a row of its own: truncated,
@@ -113,7 +108,7 @@ impl Snapshot {
     {
         let alloc = self.stream.allocator();
         let rows = unrolled_rows(alloc, &self.schema, &self.stream)?;
-        answer_pieces(alloc, query, self.span(), &[rows.as_slice()])
+        answer(alloc, query, &[rows.as_slice()])
     }
 }
 
@@ -129,20 +124,4 @@ fn begins_with(events: &Stream, first: &Stream) -> bool
         }
     }
     true
-}
-
-fn answer_pieces(
-    alloc: Global,
-    query: &Query,
-    span: Option<(i64, i64)>,
-    pieces: &[&[Row]],
-) -> Result<Vec<u8>, AnswerError>
-    requires { span ≡ span_of_rows (rows_in pieces.now) }
-    ensures { Answers (λ text. text.items) result (answer query.now (rows_in pieces.now)) }
-{
-    let groups = groups_of(alloc, query, span, pieces)?;
-    if groups.len() > MAX_GROUPS {
-        return Err(AnswerError::ResultTooLarge);
-    }
-    Ok(text_of_groups(alloc, query, &groups)?)
 }

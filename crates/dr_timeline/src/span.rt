@@ -1,9 +1,9 @@
-ghost use Rattle.std.specs.Prelude.{◌≡◌, map, fold, Some};
-ghost use Rattle.dr_query.specs.Groups.{span, wider as wider_of, span_of_row};
+ghost use Rattle.std.specs.Prelude.{◌≡◌};
+ghost use Rattle.dr_query.specs.Groups.{span};
 ghost use Rattle.dr_timeline.specs.Pieces.{rows_held};
 
-use crate::shared_fragment::SharedFragment;
-use dr_base::Row;
+use dr_answer::span_onto;
+use dr_merge::SharedFragment;
 
 /// From the least to the greatest time of the rows of fragments, both included, in milliseconds since the epoch.
 pub fn span_of(fragments: &[SharedFragment]) -> Option<(i64, i64)>
@@ -14,23 +14,4 @@ pub fn span_of(fragments: &[SharedFragment]) -> Option<(i64, i64)>
         span = span_onto(span, shared.fragment().rows.as_slice());
     }
     span
-}
-
-fn span_onto(from: Option<(i64, i64)>, rows: &[Row]) -> Option<(i64, i64)>
-    ensures { result ≡ fold wider_of from (map span_of_row rows.now) }
-{
-    let mut span = from;
-    for row in rows {
-        span = wider(span, row.key.time);
-    }
-    span
-}
-
-fn wider(span: Option<(i64, i64)>, time: i64) -> Option<(i64, i64)>
-    ensures { result ≡ wider_of span (Some (time, time)) }
-{
-    match span {
-        None => Some((time, time)),
-        Some((least, greatest)) => Some((least.min(time), greatest.max(time))),
-    }
 }

@@ -1,5 +1,5 @@
-use crate::purpose::Purpose;
 use dr_base::Event;
+use dr_merge::Purpose;
 use dr_query::Query;
 
 /// A step of a run of the core. Jobs and pins are named by their numbers, from 0, in the order in which they were given.

@@ -3,6 +3,7 @@ ghost use Rattle.dr_query.specs.MadeFor.{MadeFor};
 
 use super::*;
 use dr_events::read_event;
+use dr_merge::{Purpose, work};
 use dr_query::{AnswerError, Query};
 use dr_spec::IngestSpec;
 use std::alloc::Global;
@@ -100,7 +101,7 @@ fn answer_over(alloc: Global, snapshot: &Snapshot, query: &str) -> Result<String
     text_of(snapshot.answer_one(&query))
 }
 
-fn answer(alloc: Global, timeline: &Timeline, query: &str) -> Result<String, Fail> {
+fn answer(alloc: Global, timeline: &mut Timeline, query: &str) -> Result<String, Fail> {
     answer_over(alloc, &timeline.pin()?, query)
 }
 
@@ -109,7 +110,7 @@ fn audit_over(alloc: Global, snapshot: &Snapshot, query: &str) -> Result<String,
     text_of(snapshot.audit(&query))
 }
 
-fn audit(alloc: Global, timeline: &Timeline, query: &str) -> Result<String, Fail> {
+fn audit(alloc: Global, timeline: &mut Timeline, query: &str) -> Result<String, Fail> {
     audit_over(alloc, &timeline.pin()?, query)
 }
 
@@ -138,13 +139,13 @@ fn open(from: usize, to: usize, rows: usize) -> RangeInfo {
 #[test]
 fn answers_the_first_query(rt: HostRuntime) -> Result<(), Fail> {
     let alloc = rt.alloc();
-    let timeline = timeline_of(alloc, NO_LIMIT, &[FIRST, SECOND, THIRD])?;
-    let text = answer(alloc, &timeline, ADDED_AND_ROWS)?;
+    let mut timeline = timeline_of(alloc, NO_LIMIT, &[FIRST, SECOND, THIRD])?;
+    let text = answer(alloc, &mut timeline, ADDED_AND_ROWS)?;
     assert_eq!(rt;
         text.as_str(),
         r#"[{"result":{"added":10,"cnt":3},"timestamp":"2024-01-01T00:00:00.000Z"}]"#
     );
-    let text = audit(alloc, &timeline, ADDED_AND_ROWS)?;
+    let text = audit(alloc, &mut timeline, ADDED_AND_ROWS)?;
     assert_eq!(rt;
         text.as_str(),
         r#"[{"result":{"added":10,"cnt":3},"timestamp":"2024-01-01T00:00:00.000Z"}]"#
@@ -167,7 +168,7 @@ fn numbers_the_events(rt: HostRuntime) -> Result<(), Fail> {
 #[test]
 fn shows_the_events(rt: HostRuntime) -> Result<(), Fail> {
     let alloc = rt.alloc();
-    let timeline = timeline_of(alloc, NO_LIMIT, &[FIRST, SECOND, THIRD])?;
+    let mut timeline = timeline_of(alloc, NO_LIMIT, &[FIRST, SECOND, THIRD])?;
     let snapshot = timeline.pin()?;
     assert_eq!(rt; snapshot.event_count(), 3);
     assert_eq!(rt;
@@ -186,10 +187,10 @@ fn shows_the_events(rt: HostRuntime) -> Result<(), Fail> {
 #[test]
 fn answers_without_events(rt: HostRuntime) -> Result<(), Fail> {
     let alloc = rt.alloc();
-    let timeline = timeline_with(alloc, NO_LIMIT)?;
-    let text = answer(alloc, &timeline, ADDED_AND_ROWS)?;
+    let mut timeline = timeline_with(alloc, NO_LIMIT)?;
+    let text = answer(alloc, &mut timeline, ADDED_AND_ROWS)?;
     assert_eq!(rt; text.as_str(), "[]");
-    let text = audit(alloc, &timeline, ADDED_AND_ROWS)?;
+    let text = audit(alloc, &mut timeline, ADDED_AND_ROWS)?;
     assert_eq!(rt; text.as_str(), "[]");
     let snapshot = timeline.pin()?;
     assert_eq!(rt; snapshot.event_count(), 0);
@@ -241,7 +242,7 @@ fn timeline_of_blocks(alloc: Global) -> Result<Timeline, Fail> {
 #[test]
 fn shows_events_across_blocks(rt: HostRuntime) -> Result<(), Fail> {
     let alloc = rt.alloc();
-    let timeline = timeline_of_blocks(alloc)?;
+    let mut timeline = timeline_of_blocks(alloc)?;
     let snapshot = timeline.pin()?;
     assert_eq!(rt; snapshot.event_count(), 1026);
     assert!(rt; snapshot.extends(&timeline.pin()?));
@@ -255,11 +256,11 @@ fn shows_events_across_blocks(rt: HostRuntime) -> Result<(), Fail> {
 #[test]
 fn answers_across_blocks(rt: HostRuntime) -> Result<(), Fail> {
     let alloc = rt.alloc();
-    let timeline = timeline_of_blocks(alloc)?;
+    let mut timeline = timeline_of_blocks(alloc)?;
     let wanted = r#"[{"result":{"added":5132,"n":1026},"timestamp":"2024-01-01T00:00:00.000Z"}]"#;
-    let text = answer(alloc, &timeline, SUMS_OVER_OVERLAPPING)?;
+    let text = answer(alloc, &mut timeline, SUMS_OVER_OVERLAPPING)?;
     assert_eq!(rt; text.as_str(), wanted);
-    let text = audit(alloc, &timeline, SUMS_OVER_OVERLAPPING)?;
+    let text = audit(alloc, &mut timeline, SUMS_OVER_OVERLAPPING)?;
     assert_eq!(rt; text.as_str(), wanted);
     Ok(())
 }
@@ -291,13 +292,13 @@ fn counts_an_event_of_two_intervals_once(rt: HostRuntime) -> Result<(), Fail> {
     let alloc = rt.alloc();
     let wanted = r#"[{"result":{"added":10,"n":3},"timestamp":"2024-01-01T00:00:00.000Z"}]"#;
     let events = [FIRST, SECOND, THIRD];
-    let timeline = timeline_of(alloc, NO_LIMIT, &events)?;
-    let text = answer(alloc, &timeline, SUMS_OVER_OVERLAPPING)?;
+    let mut timeline = timeline_of(alloc, NO_LIMIT, &events)?;
+    let text = answer(alloc, &mut timeline, SUMS_OVER_OVERLAPPING)?;
     assert_eq!(rt; text.as_str(), wanted);
-    let timeline = timeline_sealed_after_each(alloc, NO_LIMIT, &events)?;
-    let text = answer(alloc, &timeline, SUMS_OVER_OVERLAPPING)?;
+    let mut timeline = timeline_sealed_after_each(alloc, NO_LIMIT, &events)?;
+    let text = answer(alloc, &mut timeline, SUMS_OVER_OVERLAPPING)?;
     assert_eq!(rt; text.as_str(), wanted);
-    let text = audit(alloc, &timeline, SUMS_OVER_OVERLAPPING)?;
+    let text = audit(alloc, &mut timeline, SUMS_OVER_OVERLAPPING)?;
     assert_eq!(rt; text.as_str(), wanted);
     Ok(())
 }
@@ -310,13 +311,13 @@ const ONE: &str = r#"{"t":"2024-01-01T00:00:00Z","page":"A","lang":"en","a":1}"#
 #[test]
 fn wraps_a_sum(rt: HostRuntime) -> Result<(), Fail> {
     let alloc = rt.alloc();
-    let timeline = timeline_of(alloc, NO_LIMIT, &[GREATEST, ONE])?;
-    let text = answer(alloc, &timeline, ADDED_AND_ROWS)?;
+    let mut timeline = timeline_of(alloc, NO_LIMIT, &[GREATEST, ONE])?;
+    let text = answer(alloc, &mut timeline, ADDED_AND_ROWS)?;
     assert_eq!(rt;
         text.as_str(),
         r#"[{"result":{"added":-9223372036854775808,"cnt":1},"timestamp":"2024-01-01T00:00:00.000Z"}]"#
     );
-    let text = audit(alloc, &timeline, ADDED_AND_ROWS)?;
+    let text = audit(alloc, &mut timeline, ADDED_AND_ROWS)?;
     assert_eq!(rt;
         text.as_str(),
         r#"[{"result":{"added":-9223372036854775808,"cnt":2},"timestamp":"2024-01-01T00:00:00.000Z"}]"#
@@ -330,14 +331,14 @@ fn wraps_a_sum_over_two_ranges(rt: HostRuntime) -> Result<(), Fail> {
     let mut timeline = timeline_of(alloc, NO_LIMIT, &[GREATEST])?;
     seal(&mut timeline)?;
     accept(alloc, &mut timeline, ONE)?;
-    let text = answer(alloc, &timeline, ADDED_AND_ROWS)?;
+    let text = answer(alloc, &mut timeline, ADDED_AND_ROWS)?;
     assert_eq!(rt;
         text.as_str(),
         r#"[{"result":{"added":-9223372036854775808,"cnt":2},"timestamp":"2024-01-01T00:00:00.000Z"}]"#
     );
     seal(&mut timeline)?;
     assert_eq!(rt; merge(alloc, &mut timeline, 0, 2), Ok(0));
-    let text = answer(alloc, &timeline, ADDED_AND_ROWS)?;
+    let text = answer(alloc, &mut timeline, ADDED_AND_ROWS)?;
     assert_eq!(rt;
         text.as_str(),
         r#"[{"result":{"added":-9223372036854775808,"cnt":1},"timestamp":"2024-01-01T00:00:00.000Z"}]"#
@@ -349,12 +350,12 @@ fn wraps_a_sum_over_two_ranges(rt: HostRuntime) -> Result<(), Fail> {
 fn seals_a_range_with_as_many_rows_as_are_held(rt: HostRuntime) -> Result<(), Fail> {
     let alloc = rt.alloc();
     let tuning = r#"{"maxRowsInMemory":2}"#;
-    let timeline = timeline_of(alloc, tuning, &[FIRST, SECOND])?;
+    let mut timeline = timeline_of(alloc, tuning, &[FIRST, SECOND])?;
     assert_eq!(rt; timeline.pin()?.ranges(), [sealed(0, 2, 2)].as_slice());
-    let timeline = timeline_of(alloc, tuning, &[FIRST, SECOND, THIRD])?;
+    let mut timeline = timeline_of(alloc, tuning, &[FIRST, SECOND, THIRD])?;
     let ranges = [sealed(0, 2, 2), open(2, 3, 1)];
     assert_eq!(rt; timeline.pin()?.ranges(), ranges.as_slice());
-    let text = answer(alloc, &timeline, ADDED_AND_ROWS)?;
+    let text = answer(alloc, &mut timeline, ADDED_AND_ROWS)?;
     assert_eq!(rt;
         text.as_str(),
         r#"[{"result":{"added":10,"cnt":3},"timestamp":"2024-01-01T00:00:00.000Z"}]"#
@@ -366,7 +367,7 @@ fn seals_a_range_with_as_many_rows_as_are_held(rt: HostRuntime) -> Result<(), Fa
 fn holds_rows_that_combine_in_one_range(rt: HostRuntime) -> Result<(), Fail> {
     let alloc = rt.alloc();
     let tuning = r#"{"maxRowsInMemory":2}"#;
-    let timeline = timeline_of(alloc, tuning, &[FIRST, FIRST, FIRST])?;
+    let mut timeline = timeline_of(alloc, tuning, &[FIRST, FIRST, FIRST])?;
     assert_eq!(rt; timeline.pin()?.ranges(), [open(0, 3, 1)].as_slice());
     Ok(())
 }
@@ -399,8 +400,8 @@ fn merges_two_ranges(rt: HostRuntime) -> Result<(), Fail> {
 #[test]
 fn answers_over_two_ranges(rt: HostRuntime) -> Result<(), Fail> {
     let alloc = rt.alloc();
-    let timeline = timeline_sealed_after_each(alloc, NO_LIMIT, &[FIRST, FIRST])?;
-    let text = answer(alloc, &timeline, ADDED_AND_ROWS)?;
+    let mut timeline = timeline_sealed_after_each(alloc, NO_LIMIT, &[FIRST, FIRST])?;
+    let text = answer(alloc, &mut timeline, ADDED_AND_ROWS)?;
     assert_eq!(rt;
         text.as_str(),
         r#"[{"result":{"added":10,"cnt":2},"timestamp":"2024-01-01T00:00:00.000Z"}]"#
@@ -413,12 +414,12 @@ fn answers_over_a_merged_range(rt: HostRuntime) -> Result<(), Fail> {
     let alloc = rt.alloc();
     let mut timeline = timeline_sealed_after_each(alloc, NO_LIMIT, &[FIRST, FIRST])?;
     merge_two(alloc, &mut timeline)?;
-    let text = answer(alloc, &timeline, ADDED_AND_ROWS)?;
+    let text = answer(alloc, &mut timeline, ADDED_AND_ROWS)?;
     assert_eq!(rt;
         text.as_str(),
         r#"[{"result":{"added":10,"cnt":1},"timestamp":"2024-01-01T00:00:00.000Z"}]"#
     );
-    let text = audit(alloc, &timeline, ADDED_AND_ROWS)?;
+    let text = audit(alloc, &mut timeline, ADDED_AND_ROWS)?;
     assert_eq!(rt;
         text.as_str(),
         r#"[{"result":{"added":10,"cnt":2},"timestamp":"2024-01-01T00:00:00.000Z"}]"#

@@ -6,30 +6,23 @@ ghost use Rattle.dr_timeline.specs.Stepping.{accept, seal, plan, commit};
 ghost use Rattle.dr_timeline.specs.Refusal.{is_memory};
 ghost use Rattle.dr_base.specs.Reading.{GivesUnless};
 ghost use Rattle.dr_timeline.specs.Noted.{noted, stats};
-ghost use Rattle.dr_timeline.specs.Held.{info_of, infos_of_chunk, fragments_of_chunk};
-ghost use Rattle.dr_timeline.specs.Joined.{joined_fragment, FitsJob};
+ghost use Rattle.dr_merge.specs.Joined.{joined_fragment, FitsJob};
 ghost use Rattle.dr_timeline.specs.Segments.{pinned};
 ghost use Rattle.dr_events.specs.Fits.{FitsSchema};
 ghost use Rattle.dr_spec.specs.WellFormed.{IsWellFormed};
 
-use crate::chunk::Chunk;
 use crate::chunks::Chunks;
-use crate::fragment::Fragment;
-use crate::fragments::Fragments;
-use crate::job::Job;
 use crate::outcome::Outcome;
 use crate::place::Place;
 use crate::planned::{job_over, least_version, place_of_job};
-use crate::purpose::Purpose;
-use crate::range_info::RangeInfo;
 use crate::sealed_range::SealedRange;
-use crate::shared_fragment::SharedFragment;
 use crate::snapshot::Snapshot;
 use crate::stats::Stats;
 use crate::stream::Stream;
 use crate::timeline_error::TimelineError;
 use crate::unrolled::chunk_start;
 use dr_base::Event;
+use dr_merge::{Fragment, Fragments, Job, Purpose, SharedFragment};
 use dr_spec::IngestSpec;
 use std::alloc::{AllocError, Global};
 use std::marker::Model;
@@ -227,17 +220,16 @@ impl Timeline {
         Ok(version)
     }
 
-    /// A snapshot of what was accepted so far, and of the ranges as they are now, which no later step changes. The only
-    /// error is that memory ran out.
-    pub fn pin(&self) -> Result<Snapshot, AllocError>
-        ensures { IfOk result (λ snapshot. snapshot ≡ pinned self.now) }
+    /// A snapshot of what was accepted so far, and of the ranges as they are now, which no later step changes. The timeline
+    /// stays as it was, but for rows that it keeps decoded for the next snapshot. The only error is that memory ran out.
+    pub fn pin(&mut self) -> Result<Snapshot, AllocError>
+        ensures pinned { IfOk result (λ snapshot. snapshot ≡ pinned self.old) }
+        ensures same { self.new ≡ self.old }
     {
         let alloc = self.stream.allocator();
         let mut fragments = Fragments::new(alloc);
         let mut ranges = Vec::new(alloc);
-        for chunk in self.chunks.as_slice() {
-            pin_chunk(alloc, chunk, &mut fragments, &mut ranges)?;
-        }
+        self.chunks.pin(alloc, &mut fragments, &mut ranges)?;
         Ok(Snapshot {
             schema: self.spec.schema().copy()?,
             stream: self.stream.share()?,
@@ -245,37 +237,4 @@ impl Timeline {
             ranges,
         })
     }
-}
-
-fn pin_chunk(
-    alloc: Global,
-    chunk: &Chunk,
-    fragments: &mut Fragments,
-    ranges: &mut Vec<RangeInfo>,
-) -> Result<(), AllocError>
-    ensures fragments { OnOk result (fragments.new ≡ fragments.old ++ fragments_of_chunk chunk.now) }
-    ensures ranges { OnOk result (ranges.new.items ≡ ranges.old.items ++ infos_of_chunk chunk.now) }
-{
-    pin_sealed(chunk.sealed.as_slice(), fragments, ranges)?;
-    if chunk.has_open() {
-        ranges.push(chunk.open_info())?;
-        let fragment = chunk.open_fragment()?;
-        fragments.push(SharedFragment::new(alloc, fragment)?)?;
-    }
-    Ok(())
-}
-
-fn pin_sealed(
-    sealed: &[SealedRange],
-    fragments: &mut Fragments,
-    ranges: &mut Vec<RangeInfo>,
-) -> Result<(), AllocError>
-    ensures fragments { OnOk result (fragments.new ≡ fragments.old ++ map (λ s. s.fragment) sealed.now) }
-    ensures ranges { OnOk result (ranges.new.items ≡ ranges.old.items ++ map info_of sealed.now) }
-{
-    for range in sealed {
-        ranges.push(range.info())?;
-        fragments.push(range.fragment.share()?)?;
-    }
-    Ok(())
 }

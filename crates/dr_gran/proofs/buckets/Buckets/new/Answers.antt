@@ -1,4 +1,4 @@
-use Rattle.std.proofs.Common.{refl, FitsSigned, w64, rules}
+use Rattle.std.proofs.Common.{FitsSigned, w64, rules}
 use Rattle.std.proofs.lemmas.Int.{to_z-of_z}
 use Rattle.dr_gran.specs.Buckets.{buckets_of}
 use Rattle.dr_gran.proofs.buckets.Buckets.new.Goals as goal

@@ -1,7 +1,7 @@
 use Rattle.std.proofs.Common.{◌≡◌, ◌∙◌, sym, ap, subst, Some, List}
 use Rattle.std.specs.List.{slice_get}
 use Rattle.std.proofs.lemmas.Option.{slice_get-get_or}
-use Rattle.dr_timeline.specs.declared.job.Job.{Job}
+use Rattle.dr_merge.specs.declared.job.Job.{Job}
 use Rattle.dr_timeline.specs.declared.step.Step.TheVariants.{Commit}
 use Rattle.dr_timeline.specs.Run.{CoreState, Moves, with_timeline}
 use Rattle.dr_timeline.proofs.Running.{commit-moves}
@@ -15,5 +15,5 @@ returns c =
     ap (λ (js : List Job). slice_get js c.args.number) (sym c.deref.ensures.value) ∙ slice_get-get_or jobs c.args.number c.in-Some.job.now g.3.0 ∙ ap Some (sym g.1) in
     let old : CoreState = record { timeline = c.self.inside.timeline; jobs = c.self.inside.jobs.items; pins = c.self.inside.pins.items } in
     let moves : Moves old (Commit c.args.number) c.committed.result (with_timeline c.commit.new.self old) =
-    commit-moves old c.commit.new.self c.args.number c.in-Some.job.now c.commit.result c.committed.result given c.commit.ensures.ok c.commit.ensures.err c.commit.ensures.stale c.commit.ensures.full c.commit.ensures.refusals c.committed.ensures in
+    commit-moves old c.commit.new.self c.args.number c.in-Some.job.now c.commit.result c.committed.result given c.commit.ensures.step c.commit.ensures.err c.committed.ensures in
     subst (λ (s : CoreState). Moves s (Commit c.args.number) c.committed.result (with_timeline c.commit.new.self old)) c.self.view_is moves

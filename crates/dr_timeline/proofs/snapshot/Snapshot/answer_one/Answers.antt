@@ -1,22 +1,12 @@
-use Rattle.std.proofs.Common.{◌≡◌, ◌∙◌, sym, ap, map}
+use Rattle.std.proofs.Common.{◌≡◌, ◌∙◌, ap}
 use Rattle.dr_query.specs.Answer.{answer}
-use Rattle.dr_query.specs.Groups.{span}
 use Rattle.dr_timeline.specs.Segments.{Pinned, rows_over, rows_of}
-use Rattle.dr_timeline.specs.Pieces.{rows_held, rows_in}
-use Rattle.dr_rollup.specs.Unrolled.{unrolled}
+use Rattle.dr_timeline.specs.Pieces.{rows_held}
+use Rattle.dr_answer.specs.Pieces.{rows_in}
 use Rattle.dr_timeline.specs.RawAnswer.{raw_answer}
-use Rattle.dr_timeline.proofs.Matching.{span-cut_rows, answer-cut_rows}
+use Rattle.dr_timeline.proofs.Matching.{answer-cut_rows}
 use Rattle.dr_timeline.proofs.Pinning.{held-rows, lent-rows}
 use Rattle.dr_timeline.proofs.snapshot.Snapshot.answer_one.Goals as goal
-
-pub answer_pieces-requires : goal.answer_pieces-requires
-answer_pieces-requires c =
-    let i = c.self.invariant in
-    let s = c.self.inside in
-    let lent : rows_in c.deref.result.now ≡ rows_held s.fragments = ap rows_in c.deref.ensures.value ∙ lent-rows c.in_ok-pieces.pieces.items s.fragments c.in_ok-pieces.ensures in
-    let held : rows_held s.fragments ≡ rows_over s.schema s.stream.items _ = held-rows s.schema s.stream.items s.fragments s.ranges.items i.rows ∙ ap (rows_over s.schema s.stream.items) i.ranges_are in
-    c.span.ensures ∙ ap (λ (p : Pinned). span (map (unrolled p.schema) p.stream)) (sym c.self.view_is)
-    ∙ sym (span-cut_rows s.schema s.stream.items i.cuts i.are_cuts) ∙ ap span (sym (lent ∙ held))
 
 pub returns-clause-own_rows : goal.returns-clause-own_rows
 returns-clause-own_rows c =
@@ -24,7 +14,7 @@ returns-clause-own_rows c =
     let s = c.self.inside in
     let lent : rows_in c.deref.result.now ≡ rows_held s.fragments = ap rows_in c.deref.ensures.value ∙ lent-rows c.in_ok-pieces.pieces.items s.fragments c.in_ok-pieces.ensures in
     let own : rows_in c.deref.result.now ≡ rows_of c.args.self.now = lent ∙ held-rows s.schema s.stream.items s.fragments s.ranges.items i.rows ∙ ap rows_of c.self.view_is in
-    rw (← own) c.answer_pieces.ensures
+    rw (← own) c.answer.ensures
 
 pub returns-clause-raw_where_matching : goal.returns-clause-raw_where_matching
 returns-clause-raw_where_matching c = λ matches.
@@ -36,4 +26,4 @@ returns-clause-raw_where_matching c = λ matches.
     let raw : answer c.args.query.now (rows_in c.deref.result.now) ≡ raw_answer c.args.self.now.schema c.args.query.now c.args.self.now.stream =
     ap (answer c.args.query.now) (lent ∙ held) ∙ answer-cut_rows s.schema c.args.query.now s.stream.items i.cuts i.are_cuts made matches
     ∙ ap (λ (p : Pinned). raw_answer p.schema c.args.query.now p.stream) c.self.view_is in
-    rw (← raw) c.answer_pieces.ensures
+    rw (← raw) c.answer.ensures

@@ -5,7 +5,7 @@ use Rattle.dr_timeline.specs.declared.chunk.Chunk.{Chunk}
 use Rattle.dr_timeline.specs.declared.sealed_range.SealedRange.{SealedRange}
 use Rattle.dr_timeline.specs.State.{State, sealed_in}
 use Rattle.dr_timeline.specs.Steps.{job_of, ranges_at}
-use Rattle.dr_timeline.specs.Joined.{FitsJob}
+use Rattle.dr_merge.specs.Joined.{FitsJob}
 use Rattle.dr_timeline.specs.Held.{chunk_at, ranges_of}
 use Rattle.dr_timeline.proofs.Places.{chunk_at-here, chunk_at-new}
 use Rattle.dr_timeline.proofs.Changes.{sealed_in-cuts}
@@ -13,7 +13,7 @@ use Rattle.dr_timeline.proofs.Standing.{seen, shown-length, shown-serials, shown
 use Rattle.dr_timeline.proofs.Placing.{plan-ok, plan-none}
 use Rattle.dr_timeline.proofs.Keeping.{rising-starts}
 use Rattle.dr_timeline.proofs.timeline.Timeline.plan.Goals as goal
-use Rattle.dr_timeline.proofs.timeline.Timeline.plan.Goals.{then-lo-hi-via-then-lo-hi, then-lo-hi-via-else-lo-hi+then-hi-sealed}
+use Rattle.dr_timeline.proofs.timeline.Timeline.plan.Goals.{then-lo-hi-via-then-lo-hi, then-lo-hi-via-else-lo-hi+then-hi-sealed, After-as_slice-sealed, In_ok-job_over}
 
 pub place_of-requires : goal.place_of-requires
 place_of-requires c = rising-starts c.self.inside.spec c.self.inside.stream.items c.self.inside.chunks c.self.invariant.starts
@@ -27,17 +27,29 @@ returns-in_default-clause-no_range c =
     ∙ ap (λ rs. length rs) (sealed_in-cuts t.spec t.chunks c.args.chunk ∙ ap ranges_of (chunk_at-new t.spec t.chunks c.args.chunk c.in_default.field-0 place.1 place.2)) in
     (λ h p. let lt = p.0 in let le = p.1 in absurd (omega arith), λ h. refl)
 
+-- ---- the chunk
+
+here : (c : After-as_slice-sealed) → chunk_at c.self.inside.spec c.args.chunk c.self.inside.chunks ≡ c.index-as_slice-i.result
+here c =
+    let t = c.self.inside in
+    let place = rw (to_z-of_z w64 c.args.chunk c.ranges.chunk) at c.in-At.ensures in
+    chunk_at-here t.spec t.chunks c.args.chunk c.in-At.i c.index-as_slice-i.result place.0 place.1 place.2 ∙ ap (λ (cs : List Chunk). get_or cs c.in-At.i c.index-as_slice-i.result) (sym c.as_slice.ensures) ∙ sym c.index-as_slice-i.is
+
+ranges : (c : After-as_slice-sealed) → c.as_slice-sealed.result.now ≡ c.index-as_slice-i.result.sealed
+ranges c = c.as_slice-sealed.ensures ∙ ap (λ (d : Chunk). d.sealed) (sym c.index-as_slice-i.is)
+
+count : (c : After-as_slice-sealed) → length (sealed_in c.args.chunk c.args.self.now.cuts) ≡ length c.as_slice-sealed.result.now
+count c =
+    let t = c.self.inside in
+    ap (λ (s : State). length (sealed_in c.args.chunk s.cuts)) (sym c.self.view_is)
+    ∙ shown-length t.spec t.stream.items t.chunks (t.seals + t.commits) t.commits t.unparseable t.thrown_away c.args.chunk c.index-as_slice-i.result (here c)
+    ∙ ap (λ (ss : List SealedRange). length ss) (sym (ranges c))
+
+-- ---- it has no such ranges
+
 pub returns-then-lo-hi-clause-no_range : goal.returns-then-lo-hi-clause-no_range
 returns-then-lo-hi-clause-no_range c =
-    let t = c.self.inside in
-    let k = c.self.invariant in
-    let place = rw (to_z-of_z w64 c.args.chunk c.ranges.chunk) at c.in-At.ensures in
-    let x : Chunk = c.index-as_slice-i.result in
-    let here : chunk_at t.spec c.args.chunk t.chunks ≡ x =
-    chunk_at-here t.spec t.chunks c.args.chunk c.in-At.i x place.0 place.1 place.2 ∙ ap (λ (cs : List Chunk). get_or cs c.in-At.i x) (sym c.as_slice.ensures) ∙ sym c.index-as_slice-i.is in
-    let ranges : c.as_slice-sealed.result.now ≡ x.sealed = c.as_slice-sealed.ensures ∙ ap (λ (d : Chunk). d.sealed) (sym c.index-as_slice-i.is) in
-    let count : length (sealed_in c.args.chunk c.args.self.now.cuts) ≡ length c.as_slice-sealed.result.now =
-    ap (λ (s : State). length (sealed_in c.args.chunk s.cuts)) (sym c.self.view_is) ∙ shown-length t.spec t.stream.items t.chunks (t.seals + t.commits) t.commits t.unparseable t.thrown_away c.args.chunk x here ∙ ap (λ (ss : List SealedRange). length ss) (sym ranges) in (
+    let many = count (goal.at.returns-then-lo-hi-clause-no_range c).After-as_slice-sealed in (
       λ h p. let lt = p.0 in let le = p.1 in elim c.then-lo-hi.branch [
         | then-lo-hi-via-then-lo-hi w ↦ let test = w.if-lo-hi.true in absurd (omega arith)
         | then-lo-hi-via-else-lo-hi+then-hi-sealed w ↦ let test = w.if-hi-sealed.true in absurd (omega arith)
@@ -45,17 +57,11 @@ returns-then-lo-hi-clause-no_range c =
       λ h. refl,
     )
 
+-- ---- it has them
+
 pub returns-in_err-job_over-clause-no_range : goal.returns-in_err-job_over-clause-no_range
 returns-in_err-job_over-clause-no_range c =
-    let t = c.self.inside in
-    let k = c.self.invariant in
-    let place = rw (to_z-of_z w64 c.args.chunk c.ranges.chunk) at c.in-At.ensures in
-    let x : Chunk = c.index-as_slice-i.result in
-    let here : chunk_at t.spec c.args.chunk t.chunks ≡ x =
-    chunk_at-here t.spec t.chunks c.args.chunk c.in-At.i x place.0 place.1 place.2 ∙ ap (λ (cs : List Chunk). get_or cs c.in-At.i x) (sym c.as_slice.ensures) ∙ sym c.index-as_slice-i.is in
-    let ranges : c.as_slice-sealed.result.now ≡ x.sealed = c.as_slice-sealed.ensures ∙ ap (λ (d : Chunk). d.sealed) (sym c.index-as_slice-i.is) in
-    let count : length (sealed_in c.args.chunk c.args.self.now.cuts) ≡ length c.as_slice-sealed.result.now =
-    ap (λ (s : State). length (sealed_in c.args.chunk s.cuts)) (sym c.self.view_is) ∙ shown-length t.spec t.stream.items t.chunks (t.seals + t.commits) t.commits t.unparseable t.thrown_away c.args.chunk x here ∙ ap (λ (ss : List SealedRange). length ss) (sym ranges) in
+    let many = count (goal.at.returns-in_err-job_over-clause-no_range c).After-as_slice-sealed in
     let lt = c.if-lo-hi.false in
     let le = c.if-hi-sealed.false in
     let p = err_from_is_err_and c.from_residual.result c.from_residual.ensures.1 in
@@ -63,54 +69,42 @@ returns-in_err-job_over-clause-no_range c =
 
 pub returns-clause-no_range : goal.returns-clause-no_range
 returns-clause-no_range c =
-    let t = c.self.inside in
-    let k = c.self.invariant in
-    let place = rw (to_z-of_z w64 c.args.chunk c.ranges.chunk) at c.in-At.ensures in
-    let x : Chunk = c.index-as_slice-i.result in
-    let here : chunk_at t.spec c.args.chunk t.chunks ≡ x =
-    chunk_at-here t.spec t.chunks c.args.chunk c.in-At.i x place.0 place.1 place.2 ∙ ap (λ (cs : List Chunk). get_or cs c.in-At.i x) (sym c.as_slice.ensures) ∙ sym c.index-as_slice-i.is in
-    let ranges : c.as_slice-sealed.result.now ≡ x.sealed = c.as_slice-sealed.ensures ∙ ap (λ (d : Chunk). d.sealed) (sym c.index-as_slice-i.is) in
-    let count : length (sealed_in c.args.chunk c.args.self.now.cuts) ≡ length c.as_slice-sealed.result.now =
-    ap (λ (s : State). length (sealed_in c.args.chunk s.cuts)) (sym c.self.view_is) ∙ shown-length t.spec t.stream.items t.chunks (t.seals + t.commits) t.commits t.unparseable t.thrown_away c.args.chunk x here ∙ ap (λ (ss : List SealedRange). length ss) (sym ranges) in
+    let many = count (goal.at.returns-clause-no_range c).After-as_slice-sealed in
     let lt = c.if-lo-hi.false in
     let le = c.if-hi-sealed.false in
     (λ h. cc, λ h. absurd (h (omega arith, omega arith)))
 
-pub returns-clause-job : goal.returns-clause-job
-returns-clause-job c =
+-- what a contract sees of the timeline
+abbrev shown : In_ok-job_over → State
+shown c =
+    let t = c.self.inside in
+    seen t.spec t.stream.items t.chunks (t.seals + t.commits) t.commits t.unparseable t.thrown_away
+
+planned : (c : In_ok-job_over) → chunk_at c.self.inside.spec c.args.chunk c.self.inside.chunks ≡ c.index-as_slice-i.result → c.as_slice-sealed.result.now ≡ c.index-as_slice-i.result.sealed
+    → c.in_ok-job_over.field-0 ≡ job_of (shown c) c.args.chunk c.args.lo c.args.hi c.args.purpose
+planned c there same =
     let t = c.self.inside in
     let k = c.self.invariant in
-    let place = rw (to_z-of_z w64 c.args.chunk c.ranges.chunk) at c.in-At.ensures in
     let x : Chunk = c.index-as_slice-i.result in
-    let here : chunk_at t.spec c.args.chunk t.chunks ≡ x =
-    chunk_at-here t.spec t.chunks c.args.chunk c.in-At.i x place.0 place.1 place.2 ∙ ap (λ (cs : List Chunk). get_or cs c.in-At.i x) (sym c.as_slice.ensures) ∙ sym c.index-as_slice-i.is in
-    let ranges : c.as_slice-sealed.result.now ≡ x.sealed = c.as_slice-sealed.ensures ∙ ap (λ (d : Chunk). d.sealed) (sym c.index-as_slice-i.is) in
-    let count : length (sealed_in c.args.chunk c.args.self.now.cuts) ≡ length c.as_slice-sealed.result.now =
-    ap (λ (s : State). length (sealed_in c.args.chunk s.cuts)) (sym c.self.view_is) ∙ shown-length t.spec t.stream.items t.chunks (t.seals + t.commits) t.commits t.unparseable t.thrown_away c.args.chunk x here ∙ ap (λ (ss : List SealedRange). length ss) (sym ranges) in
-    let slice : take (c.args.hi - c.args.lo) (drop c.args.lo c.as_slice-sealed.result.now) ≡ take (c.args.hi - c.args.lo) (drop c.args.lo x.sealed) = ap (λ (ss : List SealedRange). take (c.args.hi - c.args.lo) (drop c.args.lo ss)) ranges in
-    let serials = ap (map (λ (s : SealedRange). s.serial)) slice ∙ sym (shown-serials t.spec t.stream.items t.chunks (t.seals + t.commits) t.commits t.unparseable t.thrown_away c.args.chunk x c.args.lo (c.args.hi - c.args.lo) here) in
-    let inputs = ap (map (λ (s : SealedRange). s.fragment)) slice ∙ sym (shown-inputs t.spec t.stream.items t.chunks (t.seals + t.commits) t.commits t.unparseable t.thrown_away c.args.chunk x c.args.lo (c.args.hi - c.args.lo) here k.starts k.each) in
-    let job : c.in_ok-job_over.field-0 ≡ job_of (seen t.spec t.stream.items t.chunks (t.seals + t.commits) t.commits t.unparseable t.thrown_away) c.args.chunk c.args.lo c.args.hi c.args.purpose =
-    rw (to_z-of_z w64 c.args.chunk c.ranges.chunk) at c.in_ok-job_over.ensures ∙ (λ i. record { chunk = c.args.chunk; serials = serials i; inputs = inputs i; purpose = c.args.purpose }) in
-    job ∙ ap (λ (s : State). job_of s c.args.chunk c.args.lo c.args.hi c.args.purpose) c.self.view_is
+    let lo = c.args.lo in
+    let many = c.args.hi - c.args.lo in
+    let slice : take many (drop lo c.as_slice-sealed.result.now) ≡ take many (drop lo x.sealed) = ap (λ (ss : List SealedRange). take many (drop lo ss)) same in
+    let serials = ap (map (λ (s : SealedRange). s.serial)) slice ∙ sym (shown-serials t.spec t.stream.items t.chunks (t.seals + t.commits) t.commits t.unparseable t.thrown_away c.args.chunk x lo many there) in
+    let inputs = ap (map (λ (s : SealedRange). s.fragment)) slice ∙ sym (shown-inputs t.spec t.stream.items t.chunks (t.seals + t.commits) t.commits t.unparseable t.thrown_away c.args.chunk x lo many there k.starts k.each) in
+    rw (to_z-of_z w64 c.args.chunk c.ranges.chunk) at c.in_ok-job_over.ensures ∙ (λ i. record { chunk = c.args.chunk; serials = serials i; inputs = inputs i; purpose = c.args.purpose })
+
+pub returns-clause-job : goal.returns-clause-job
+returns-clause-job c =
+    let sealed = (goal.at.returns-clause-job c).After-as_slice-sealed in
+    planned (goal.at.returns-clause-job c).In_ok-job_over (here sealed) (ranges sealed) ∙ ap (λ (s : State). job_of s c.args.chunk c.args.lo c.args.hi c.args.purpose) c.self.view_is
 
 pub returns-clause-fits : goal.returns-clause-fits
 returns-clause-fits c =
     let t = c.self.inside in
-    let k = c.self.invariant in
-    let place = rw (to_z-of_z w64 c.args.chunk c.ranges.chunk) at c.in-At.ensures in
-    let x : Chunk = c.index-as_slice-i.result in
-    let here : chunk_at t.spec c.args.chunk t.chunks ≡ x =
-    chunk_at-here t.spec t.chunks c.args.chunk c.in-At.i x place.0 place.1 place.2 ∙ ap (λ (cs : List Chunk). get_or cs c.in-At.i x) (sym c.as_slice.ensures) ∙ sym c.index-as_slice-i.is in
-    let ranges : c.as_slice-sealed.result.now ≡ x.sealed = c.as_slice-sealed.ensures ∙ ap (λ (d : Chunk). d.sealed) (sym c.index-as_slice-i.is) in
-    let count : length (sealed_in c.args.chunk c.args.self.now.cuts) ≡ length c.as_slice-sealed.result.now =
-    ap (λ (s : State). length (sealed_in c.args.chunk s.cuts)) (sym c.self.view_is) ∙ shown-length t.spec t.stream.items t.chunks (t.seals + t.commits) t.commits t.unparseable t.thrown_away c.args.chunk x here ∙ ap (λ (ss : List SealedRange). length ss) (sym ranges) in
-    let slice : take (c.args.hi - c.args.lo) (drop c.args.lo c.as_slice-sealed.result.now) ≡ take (c.args.hi - c.args.lo) (drop c.args.lo x.sealed) = ap (λ (ss : List SealedRange). take (c.args.hi - c.args.lo) (drop c.args.lo ss)) ranges in
-    let serials = ap (map (λ (s : SealedRange). s.serial)) slice ∙ sym (shown-serials t.spec t.stream.items t.chunks (t.seals + t.commits) t.commits t.unparseable t.thrown_away c.args.chunk x c.args.lo (c.args.hi - c.args.lo) here) in
-    let inputs = ap (map (λ (s : SealedRange). s.fragment)) slice ∙ sym (shown-inputs t.spec t.stream.items t.chunks (t.seals + t.commits) t.commits t.unparseable t.thrown_away c.args.chunk x c.args.lo (c.args.hi - c.args.lo) here k.starts k.each) in
-    let job : c.in_ok-job_over.field-0 ≡ job_of (seen t.spec t.stream.items t.chunks (t.seals + t.commits) t.commits t.unparseable t.thrown_away) c.args.chunk c.args.lo c.args.hi c.args.purpose =
-    rw (to_z-of_z w64 c.args.chunk c.ranges.chunk) at c.in_ok-job_over.ensures ∙ (λ i. record { chunk = c.args.chunk; serials = serials i; inputs = inputs i; purpose = c.args.purpose }) in
-    let fits : FitsJob t.spec c.in_ok-job_over.field-0 = subst (FitsJob t.spec) (sym job) (fits-fragments t.spec t.stream.items c.args.chunk (ranges_at (seen t.spec t.stream.items t.chunks (t.seals + t.commits) t.commits t.unparseable t.thrown_away) c.args.chunk c.args.lo (c.args.hi - c.args.lo))) in
+    let sealed = (goal.at.returns-clause-fits c).After-as_slice-sealed in
+    let made = (goal.at.returns-clause-fits c).In_ok-job_over in
+    let fits : FitsJob t.spec c.in_ok-job_over.field-0 =
+    subst (FitsJob t.spec) (sym (planned made (here sealed) (ranges sealed))) (fits-fragments t.spec t.stream.items c.args.chunk (ranges_at (shown made) c.args.chunk c.args.lo (c.args.hi - c.args.lo))) in
     subst (λ (s : State). FitsJob s.schema c.in_ok-job_over.field-0) c.self.view_is fits
 
 pub returns-in_default-clause-step : goal.returns-in_default-clause-step
@@ -121,15 +115,7 @@ returns-then-lo-hi-clause-step c = λ _. plan-none c.args.self.now c.args.chunk 
 
 pub returns-clause-step : goal.returns-clause-step
 returns-clause-step c =
-    let t = c.self.inside in
-    let k = c.self.invariant in
-    let place = rw (to_z-of_z w64 c.args.chunk c.ranges.chunk) at c.in-At.ensures in
-    let x : Chunk = c.index-as_slice-i.result in
-    let here : chunk_at t.spec c.args.chunk t.chunks ≡ x =
-    chunk_at-here t.spec t.chunks c.args.chunk c.in-At.i x place.0 place.1 place.2 ∙ ap (λ (cs : List Chunk). get_or cs c.in-At.i x) (sym c.as_slice.ensures) ∙ sym c.index-as_slice-i.is in
-    let ranges : c.as_slice-sealed.result.now ≡ x.sealed = c.as_slice-sealed.ensures ∙ ap (λ (d : Chunk). d.sealed) (sym c.index-as_slice-i.is) in
-    let count : length (sealed_in c.args.chunk c.args.self.now.cuts) ≡ length c.as_slice-sealed.result.now =
-    ap (λ (s : State). length (sealed_in c.args.chunk s.cuts)) (sym c.self.view_is) ∙ shown-length t.spec t.stream.items t.chunks (t.seals + t.commits) t.commits t.unparseable t.thrown_away c.args.chunk x here ∙ ap (λ (ss : List SealedRange). length ss) (sym ranges) in
+    let many = count (goal.at.returns-clause-step c).After-as_slice-sealed in
     let lt = c.if-lo-hi.false in
     let le = c.if-hi-sealed.false in
     plan-ok c.args.self.now c.args.chunk c.args.lo c.args.hi c.args.purpose (omega arith) (omega arith) ∙ ap Ok (sym (returns-clause-job c))

@@ -1,0 +1,4 @@
+pub mod Ranges
+pub mod LineLemmas
+pub mod LineSteps
+pub mod WrittenLemmas

@@ -1,0 +1,5 @@
+pub mod Refusal
+pub mod Failures
+pub mod Lines
+pub mod Parts
+pub mod Written

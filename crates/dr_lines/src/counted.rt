@@ -1,0 +1,121 @@
+ghost use Rattle.std.specs.Prelude.{◌≡◌, ◌+◌, ◌-◌, ◌^◌, ◌<◌, min, length, IfOk};
+ghost use Rattle.std.specs.Io.{ReadsAtMost, WritesAtMost};
+ghost use Rattle.std.specs.Io.KnownBytes.{ReadConsumes, WriteAppends, Keeps};
+ghost use Rattle.dr_lines.specs.Failures.{failures_of, reads_of, inner_of, failures_after};
+
+use std::io;
+use std::io::{ErrorKind, Read, Write};
+
+/// A reader or a writer whose failed calls are counted, and its reads. A write that takes none of the bytes that it is given
+/// counts as failed, and is an error. A count stays at 2^64-1 once it is there.
+#[derive(Debug, Drop)]
+pub struct Counted<T> {
+    inner: T,
+    failures: u64,
+    reads: u64,
+}
+
+impl<T> Counted<T> {
+    /// The stream, none of whose calls has failed, and which was not read.
+    pub fn new(inner: T) -> Counted<T>
+        ensures inner { inner_of result ≡ inner }
+        ensures failures { failures_of result ≡ 0 }
+        ensures reads { reads_of result ≡ 0 }
+    {
+        Counted {
+            inner,
+            failures: 0,
+            reads: 0,
+        }
+    }
+
+    /// How many calls have failed: `read` of a reader, `write` and `flush` of a writer.
+    pub fn failures(&self) -> u64
+        ensures { result ≡ failures_of self.now }
+    {
+        self.failures
+    }
+
+    /// How many reads there were, failed ones among them.
+    pub fn reads(&self) -> u64
+        ensures { result ≡ reads_of self.now }
+    {
+        self.reads
+    }
+
+    /// The stream whose calls are counted.
+    pub fn get_ref(&self) -> &T
+        ensures { result.now ≡ inner_of self.now }
+    {
+        &self.inner
+    }
+
+    /// The stream, no longer counted.
+    pub fn into_inner(self) -> T
+        ensures { result ≡ inner_of self }
+    {
+        self.inner
+    }
+
+    fn count_failure(&mut self)
+        ensures inner { inner_of self.new ≡ inner_of self.old }
+        ensures failures { failures_of self.new ≡ min (failures_of self.old + 1) (2 ^ 64 - 1) }
+        ensures reads { reads_of self.new ≡ reads_of self.old }
+    {
+        self.failures = self.failures.saturating_add(1);
+    }
+}
+
+impl<R: Read> Read for Counted<R> {
+    ghost remaining = { λ r. R.remaining (inner_of r) };
+
+    fn read(&mut self, buf: &mut [u8]) -> io::Result<usize>
+        ensures bound { ReadsAtMost result buf.new }
+        ensures bytes { ReadConsumes (R.remaining (inner_of self.old)) (R.remaining (inner_of self.new)) result buf.new }
+        ensures failures { failures_of self.new ≡ failures_after (failures_of self.old) result }
+        ensures reads { reads_of self.new ≡ min (reads_of self.old + 1) (2 ^ 64 - 1) }
+    {
+        self.reads = self.reads.saturating_add(1);
+        let result = self.inner.read(buf);
+        if result.is_err() {
+            self.count_failure();
+        }
+        result
+    }
+}
+
+impl<W: Write> Write for Counted<W> {
+    ghost contents = { λ w. W.contents (inner_of w) };
+
+    fn write(&mut self, buf: &[u8]) -> io::Result<usize>
+        ensures bound { WritesAtMost result buf.now }
+        ensures bytes { WriteAppends (W.contents (inner_of self.old)) (W.contents (inner_of self.new)) result buf.now }
+        ensures progress { 0 < length buf.now → IfOk result (λ taken. 0 < taken) }
+        ensures failures { failures_of self.new ≡ failures_after (failures_of self.old) result }
+        ensures reads { reads_of self.new ≡ reads_of self.old }
+    {
+        match self.inner.write(buf) {
+            Ok(0) if !buf.is_empty() => {
+                self.count_failure();
+                Err(io::Error::from(ErrorKind::WriteZero))
+            }
+            Ok(taken) => Ok(taken),
+            Err(error) => {
+                self.count_failure();
+                Err(error)
+            }
+        }
+    }
+
+    fn flush(&mut self) -> io::Result<()>
+        ensures bytes { Keeps (W.contents (inner_of self.old)) (W.contents (inner_of self.new)) }
+        ensures failures { failures_of self.new ≡ failures_after (failures_of self.old) result }
+        ensures reads { reads_of self.new ≡ reads_of self.old }
+    {
+        let result = self.inner.flush();
+        if result.is_err() {
+            self.count_failure();
+        }
+        result
+    }
+}

@@ -1,0 +1,27 @@
+-- What the inputs of a job are joined to (Apache Druid documentation, ingestion: merging of persisted segments).
+use Rattle.std.specs.Prelude.{ℕ, ℤ, List, [], ◌∷◌, map, fold}
+use Rattle.std.specs.List.{AllByRecursion}
+use Rattle.dr_agg.specs.Rollup.{join, AllFit}
+use Rattle.dr_spec.specs.Columns.{kinds_of}
+use Rattle.dr_spec.specs.declared.schema.Schema.{Schema}
+use Rattle.dr_merge.specs.declared.fragment.Fragment.{Fragment}
+use Rattle.dr_merge.specs.declared.job.Job.{Job}
+
+-- where adjacent fragments begin and end
+abbrev pub first_from : List Fragment → ℕ
+first_from [] = 0
+first_from (f ∷ fs) = f.from
+
+abbrev pub last_to : List Fragment → ℕ
+last_to fs = fold (λ to f. f.to) 0 fs
+
+-- adjacent fragments of a chunk as one: the range from the first to the last, and the join of their rows
+abbrev pub joined : Schema → ℤ → List Fragment → Fragment
+joined schema k fs = record { chunk = k; from = first_from fs; to = last_to fs; rows = join schema.rollup (kinds_of schema) (map (λ f. f.rows) fs) }
+
+abbrev pub joined_fragment : Schema → Job → Fragment
+joined_fragment schema job = joined schema job.chunk job.inputs
+
+-- the rows of each input have a value for each column of the schema
+abbrev pub FitsJob : Schema → Job → Type 0
+FitsJob schema job = AllByRecursion (λ f. AllFit (kinds_of schema) f.rows) job.inputs

@@ -1,0 +1,3 @@
+pub mod ScriptSteps
+pub mod WordLemmas
+pub mod SessionLemmas

@@ -1,0 +1,179 @@
+-- What each command of a script does: what is written for it, and the state after it, or its refusal, which changes nothing.
+use Rattle.std.specs.Prelude.{ℕ, ℤ, Bool, true, false, List, ◌++◌, length, Option, None, Result, Ok, Err, codes, decimal, slice_get, if◌then◌else◌}
+use Rattle.std.specs.Str.{is_utf8}
+use Rattle.dr_base.specs.FaultLine.{fault_line, arg_part}
+use Rattle.dr_base.specs.Reading.{◌>>=◌, passed}
+use Rattle.dr_base.specs.declared.fault.Arg.{Arg}
+use Rattle.dr_time.specs.declared.time_error.TimeError.{TimeError}
+use Rattle.dr_time.specs.declared.time_error.TimeError.TheVariants.{BadInstant}
+use Rattle.dr_time.specs.Instant.{instant_of}
+use Rattle.dr_time.specs.Refusal as time
+use Rattle.dr_gran.specs.Truncation.{truncation}
+use Rattle.dr_base.specs.declared.event.Event.{Event}
+use Rattle.dr_events.specs.declared.unparseable.Unparseable.{Unparseable}
+use Rattle.dr_events.specs.Refusal as event
+use Rattle.dr_events.specs.EventOf.{event_of}
+use Rattle.dr_query.specs.Answer.{answer}
+use Rattle.dr_query.specs.AnswerRefusal as no_answer
+use Rattle.dr_query.specs.QueryOf.{query_of}
+use Rattle.dr_query.specs.Refusal as query
+use Rattle.dr_timeline.specs.declared.outcome.Outcome.TheVariants.{Unparseable as NotParsed}
+use Rattle.dr_timeline.specs.declared.stats.Stats.{Stats}
+use Rattle.dr_timeline.specs.Noted.{noted, stats}
+use Rattle.dr_merge.specs.declared.purpose.Purpose.TheVariants.{Merge as MergePurpose}
+use Rattle.dr_timeline.specs.Refusal as timeline
+use Rattle.dr_timeline.specs.RawAnswer.{raw_answer}
+use Rattle.dr_timeline.specs.Run.{CoreState, with_timeline, with_job, with_pin}
+use Rattle.dr_timeline.specs.Segments.{pinned, rows_of}
+use Rattle.dr_timeline.specs.Stepping.{accept, seal, plan, commit}
+use Rattle.dr_script.specs.declared.command_error.CommandError.{CommandError}
+use Rattle.dr_script.specs.declared.request.Request.{Request}
+use Rattle.dr_script.specs.declared.request.Request.TheVariants as line
+use Rattle.dr_script.specs.declared.script_error.ScriptError.{ScriptError}
+use Rattle.dr_script.specs.declared.script_error.ScriptError.TheVariants.{Command, Time, Timeline, Query as BadQuery, Answer}
+use Rattle.dr_script.specs.Refusal.{number_of, name_of}
+use Rattle.dr_script.specs.Refusal as command
+use Rattle.dr_script.specs.Request.{or_bad_command}
+
+-- what is written for a line, and whether it refuses the line
+pub record Answered : Type 0 where
+  pub line : List ℕ
+  pub is_refused : Bool
+
+abbrev pub answered : List ℕ → Answered
+answered line = record { line = line; is_refused = false }
+
+-- ---- refusals
+
+abbrev pub refused : ℕ → List ℕ → Option Arg → Answered
+refused number name arg = record { line = fault_line number name arg; is_refused = true }
+
+-- a refusal of this crate
+abbrev pub refused_by : CommandError → Answered
+refused_by e = refused (number_of e) (name_of e) None
+
+-- `unparseable NUMBER NAME`, and the column's place where there is one
+abbrev pub unparseable_line : ℕ → List ℕ → Option Arg → List ℕ
+unparseable_line number name arg = codes "unparseable " ++ decimal number ++ codes " " ++ name ++ arg_part arg
+
+-- a line that is no event is not refused
+abbrev pub unparseable : Unparseable → Answered
+unparseable e = answered (unparseable_line (event.number_of e) (event.name_of e) (event.arg_of e))
+
+-- what is written where a command changes nothing
+abbrev pub told : ScriptError → Answered
+told (Command e) = refused_by e
+told (Time e) = refused (time.number_of e) (time.name_of e) None
+told (Timeline e) = refused (timeline.number_of e) (timeline.name_of e) None
+told (BadQuery e) = refused (query.number_of e) (query.name_of e) (query.arg_of e)
+told (Answer e) = refused (no_answer.number_of e) (no_answer.name_of e) None
+
+-- memory ran out
+abbrev pub is_memory : ScriptError → Bool
+is_memory (Command e) = command.is_memory e
+is_memory (Time e) = false
+is_memory (Timeline e) = timeline.is_memory e
+is_memory (BadQuery e) = query.is_memory e
+is_memory (Answer e) = no_answer.is_memory e
+
+-- ---- commands
+
+-- an event is accepted; a text that is none is counted
+abbrev pub add_read : Result Event Unparseable → CoreState → Result (Answered × CoreState) ScriptError
+add_read (Ok e) c = do
+  n ← passed Timeline (accept c.timeline e)
+  Ok (answered (codes "accepted " ++ decimal n.0), with_timeline n.1 c)
+add_read (Err e) c = Ok (unparseable e, with_timeline (noted NotParsed c.timeline) c)
+
+-- `+ EVENT`
+abbrev pub add_event : List ℕ → CoreState → Result (Answered × CoreState) ScriptError
+add_event text c = add_read (event_of c.timeline.schema 0 text) c
+
+-- an instant, as ISO 8601 spells it; bytes that aren't UTF-8 spell none
+abbrev pub instant_in : List ℕ → Result ℤ TimeError
+instant_in word = if is_utf8 word then instant_of word else Err BadInstant
+
+-- the chunk in which an instant lies
+abbrev pub chunk_named : CoreState → List ℕ → Result ℤ ScriptError
+chunk_named c instant = do
+  t ← passed Time (instant_in instant)
+  Ok (truncation c.timeline.schema.segment_granularity t)
+
+-- `seal INSTANT`: the open range of a chunk is sealed
+abbrev pub seal_chunk : List ℕ → CoreState → Result (Answered × CoreState) ScriptError
+seal_chunk instant c = do
+  k ← chunk_named c instant
+  s ← passed Timeline (seal c.timeline k)
+  Ok (answered (codes "sealed"), with_timeline s c)
+
+-- `merge INSTANT LO HI`: a job that is planned and committed at once
+abbrev pub merge_ranges : List ℕ → ℕ → ℕ → CoreState → Result (Answered × CoreState) ScriptError
+merge_ranges instant lo hi c = do
+  k ← chunk_named c instant
+  job ← passed Timeline (plan c.timeline k lo hi MergePurpose)
+  n ← passed Timeline (commit c.timeline job)
+  Ok (answered (codes "merged"), with_timeline n.1 c)
+
+-- `plan merge INSTANT LO HI`: a job that is kept, numbered from 0
+abbrev pub plan_merge : List ℕ → ℕ → ℕ → CoreState → Result (Answered × CoreState) ScriptError
+plan_merge instant lo hi c = do
+  k ← chunk_named c instant
+  job ← passed Timeline (plan c.timeline k lo hi MergePurpose)
+  Ok (answered (codes "job " ++ decimal (length c.jobs)), with_job job c)
+
+-- `commit N`: the job of that number is committed
+abbrev pub commit_job : ℕ → CoreState → Result (Answered × CoreState) ScriptError
+commit_job number c = do
+  job ← passed Command (or_bad_command (slice_get c.jobs number))
+  n ← passed Timeline (commit c.timeline job)
+  Ok (answered (codes "committed"), with_timeline n.1 c)
+
+-- `pin`: a snapshot that is kept, numbered from 0
+abbrev pub pin_snapshot : CoreState → Result (Answered × CoreState) ScriptError
+pin_snapshot c = Ok (answered (codes "pin " ++ decimal (length c.pins)), with_pin (pinned c.timeline) c)
+
+-- `query JSON`: a query is answered over the rows as they are
+abbrev pub ask_now : List ℕ → CoreState → Result (Answered × CoreState) ScriptError
+ask_now text c = do
+  q ← passed BadQuery (query_of c.timeline.schema text)
+  a ← passed Answer (answer q (rows_of (pinned c.timeline)))
+  Ok (answered a, c)
+
+-- `at N JSON`: it is answered over the rows of the snapshot of that number
+abbrev pub ask_at : ℕ → List ℕ → CoreState → Result (Answered × CoreState) ScriptError
+ask_at number text c = do
+  p ← passed Command (or_bad_command (slice_get c.pins number))
+  q ← passed BadQuery (query_of c.timeline.schema text)
+  a ← passed Answer (answer q (rows_of p))
+  Ok (answered a, c)
+
+-- `audit JSON`: it is answered over the accepted events, one by one
+abbrev pub audit_now : List ℕ → CoreState → Result (Answered × CoreState) ScriptError
+audit_now text c = do
+  q ← passed BadQuery (query_of c.timeline.schema text)
+  a ← passed Answer (raw_answer c.timeline.schema q c.timeline.stream)
+  Ok (answered a, c)
+
+-- `stats`: what became of the events
+abbrev pub counts_line : ℕ → ℕ → ℕ → List ℕ
+counts_line processed unparseable thrown_away =
+    ((codes "processed " ++ decimal processed) ++ (codes " unparseable " ++ decimal unparseable)) ++ (codes " thrownAway " ++ decimal thrown_away)
+
+abbrev pub stats_line : Stats → List ℕ
+stats_line n = counts_line n.processed n.unparseable n.thrown_away
+
+abbrev pub tell_stats : CoreState → Result (Answered × CoreState) ScriptError
+tell_stats c = Ok (answered (stats_line (stats c.timeline)), c)
+
+-- what a line asks for is done
+abbrev pub carried_out : CoreState → Request (List ℕ) → Result (Answered × CoreState) ScriptError
+carried_out c (line.Add text) = add_event text c
+carried_out c (line.Seal instant) = seal_chunk instant c
+carried_out c (line.Merge instant lo hi) = merge_ranges instant lo hi c
+carried_out c (line.PlanMerge instant lo hi) = plan_merge instant lo hi c
+carried_out c (line.Commit number) = commit_job number c
+carried_out c line.Pin = pin_snapshot c
+carried_out c (line.Query text) = ask_now text c
+carried_out c (line.At number text) = ask_at number text c
+carried_out c (line.Audit text) = audit_now text c
+carried_out c line.Stats = tell_stats c

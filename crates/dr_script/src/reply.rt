@@ -1,0 +1,87 @@
+ghost use Rattle.std.specs.Prelude.{◌≡◌, ◌++◌, ◌∷◌, [], IsOkUnless, decimal};
+ghost use Rattle.dr_lines.specs.Failures.{failures_of, inner_of, failures_after};
+ghost use Rattle.dr_lines.specs.Written.{Puts};
+ghost use Rattle.dr_script.specs.Replies.{seen};
+
+use crate::command_error::CommandError;
+use dr_lines::{Counted, LineError, LineWriter};
+use itoa::Buffer;
+use std::io::Write;
+
+/// What a line of a script is answered with.
+#[derive(Debug, Drop)]
+pub enum Reply {
+    /// `spec ok`: the first line is a spec.
+    SpecOk,
+    /// `accepted N`: the line is an event, which got that number, from 0.
+    Accepted(u64),
+    /// `sealed`: the open range of a chunk was sealed.
+    Sealed,
+    /// `merged`: sealed ranges became one.
+    Merged,
+    /// `job N`: a job was planned, which got that number, from 0.
+    Job(usize),
+    /// `committed`: a job was committed.
+    Committed,
+    /// `pin N`: a snapshot was kept, which got that number, from 0.
+    Pinned(usize),
+    /// That line, which refuses nothing.
+    Said(Vec<u8>),
+    /// The line of a refusal.
+    Refused(Vec<u8>),
+    /// A refusal of this crate.
+    Fault(CommandError),
+}
+
+impl Reply {
+    /// Whether the line is refused.
+    pub fn is_refused(&self) -> bool
+        ensures { result ≡ (seen self.now).is_refused }
+    {
+        match self {
+            Reply::Refused(_) | Reply::Fault(_) => true,
+            _ => false,
+        }
+    }
+
+    /// Writes the reply as a line.
+    /// Refusals: 100 `WriteFault` where a write fails.
+    pub fn put<W: Write>(
+        self,
+        lines: &mut LineWriter,
+        writer: &mut Counted<W>,
+    ) -> Result<(), LineError>
+        ensures bytes { Puts (W.contents (inner_of writer.old)) (W.contents (inner_of writer.new))
+            (lines.old ++ (seen self).line ++ 10 ∷ []) lines.new result }
+        ensures fault { IsOkUnless result LineError.WriteFault }
+        ensures failures { failures_of writer.new ≡ failures_after (failures_of writer.old) result }
+    {
+        match self {
+            Reply::SpecOk => lines.put_line(writer, b"spec ok"),
+            Reply::Accepted(number) => put_number(lines, writer, b"accepted ", number),
+            Reply::Sealed => lines.put_line(writer, b"sealed"),
+            Reply::Merged => lines.put_line(writer, b"merged"),
+            Reply::Job(number) => put_number(lines, writer, b"job ", number as u64),
+            Reply::Committed => lines.put_line(writer, b"committed"),
+            Reply::Pinned(number) => put_number(lines, writer, b"pin ", number as u64),
+            Reply::Said(line) | Reply::Refused(line) => lines.put_line(writer, line.as_slice()),
+            Reply::Fault(error) => lines.put_line(writer, error.line().as_bytes()),
+        }
+    }
+}
+
+// Writes a line of a word and a number in decimal.
+fn put_number<W: Write>(
+    lines: &mut LineWriter,
+    writer: &mut Counted<W>,
+    word: &[u8],
+    number: u64,
+) -> Result<(), LineError>
+    ensures bytes { Puts (W.contents (inner_of writer.old)) (W.contents (inner_of writer.new))
+        (lines.old ++ (word.now ++ decimal number) ++ 10 ∷ []) lines.new result }
+    ensures fault { IsOkUnless result LineError.WriteFault }
+    ensures failures { failures_of writer.new ≡ failures_after (failures_of writer.old) result }
+{
+    lines.put(writer, word)?;
+    lines.put_line(writer, Buffer::new().format(number).as_bytes())
+}

@@ -1,0 +1,219 @@
+ghost use Rattle.std.specs.Prelude.{◌≡◌, ◌⊎◌, true, ℕ, ◌-◌, ◌^◌, ◌<◌, List, [], Option, OnOk, IfOk, IfSome};
+ghost use Rattle.dr_lines.specs.Failures.{failures_of, reads_of, inner_of, failures_after};
+ghost use Rattle.dr_lines.specs.Lines.{left_to_read, steps_left, CountsFailure, CountsReads};
+ghost use Rattle.dr_lines.specs.declared.next_line.NextLine.TheVariants.{Failed};
+ghost use Rattle.dr_lines.specs.Written.{Puts};
+ghost use Rattle.dr_script.specs.Script.{answers, script};
+ghost use Rattle.dr_script.specs.Replies.{AnsweredAll, OpensScript, ReadingFails, RunsScript, Turns};
+
+use crate::answering::{answer_line, open_session};
+use crate::command_error::CommandError;
+use crate::reply::Reply;
+use crate::session::Session;
+use dr_lines::{Counted, LineError, LineReader, LineWriter, NextLine, write_out};
+use std::alloc::{AllocError, Global};
+use std::io::{Read, Write};
+
+/// Runs a script: reads lines, and writes one line for each, which is flushed where no whole line waits to be read.
+/// The answer is the status: 0 where no line was refused, else 1.
+///
+/// The first line is the ingestion spec, answered by `spec ok`; where it is refused, the run ends. Each later line is a
+/// command, words with one space between them:
+///
+/// | Command | Answer |
+/// |---|---|
+/// | `+ EVENT` | `accepted N`, the event's number from 0, or `unparseable NUMBER NAME [i]` |
+/// | `seal INSTANT` | `sealed` |
+/// | `merge INSTANT LO HI` | `merged` |
+/// | `plan merge INSTANT LO HI` | `job N`, from 0 |
+/// | `commit N` | `committed` |
+/// | `pin` | `pin N`, from 0 |
+/// | `query JSON`, `at N JSON` | the text of the answer |
+/// | `audit JSON` | the text of the plain fold over the events |
+/// | `stats` | `processed P unparseable U thrownAway T` |
+///
+/// INSTANT names the chunk in which it lies. Queries are answered on one thread whatever the number of workers (1 to 16)
+/// is. A line that is refused is answered by `refused NUMBER NAME [argument]` and changes nothing: 98 `LineTooLong` for a
+/// line over 1048576 bytes, which is skipped, 101 `BadCommand` for a line that fits no command, or names no job or
+/// snapshot, 0 `NoMemory` where memory ran out, and the refusals of the command. A failed read, or 2^32 reads, is 99
+/// `ReadFault` and ends the run with status 1, and so does a failed write (100), after which nothing more is written.
+///
+/// Where no write failed, what is written is the script's text, and the answer is its status, unless a written line tells
+/// 0 `NoMemory` or 99 `ReadFault`; and 99 is told only where a read failed or 2^32 reads were made, as long as neither count
+/// of the reader has come to 2^64-1, where it stands still.
+pub fn run_script<R: Read, W: Write>(
+    rt: &impl AllocGlobal,
+    reader: &mut Counted<R>,
+    writer: &mut Counted<W>,
+    _workers: u8,
+) -> u8
+    requires { failures_of writer.old < 2 ^ 64 - 1 }
+    ensures script { failures_of writer.new ≡ failures_of writer.old
+        → RunsScript (ReadingFails (failures_of reader.old) (failures_of reader.new) (reads_of reader.old) (reads_of reader.new))
+        (R.remaining (inner_of reader.old))
+        (W.contents (inner_of writer.old)) (W.contents (inner_of writer.new)) result }
+    ensures failed_read { (failures_of reader.new ≡ failures_of reader.old) ⊎ (result ≡ 1) }
+    ensures failed_write { (failures_of writer.new ≡ failures_of writer.old) ⊎ (result ≡ 1) }
+{
+    match run_all(rt.alloc(), reader, writer) {
+        Ok(is_refused) => u8::from(is_refused),
+        Err(_) => 1,
+    }
+}
+
+// Answers all lines. The answer is whether one was refused.
+fn run_all<R: Read, W: Write>(
+    alloc: Global,
+    reader: &mut Counted<R>,
+    writer: &mut Counted<W>,
+) -> Result<bool, LineError>
+    ensures answers { IfOk result (AnsweredAll (ReadingFails (failures_of reader.old) (failures_of reader.new) (reads_of reader.old) (reads_of reader.new))
+        (R.remaining (inner_of reader.old)) script
+        (W.contents (inner_of writer.old)) (W.contents (inner_of writer.new)) []) }
+    ensures failed_read { IfOk result (λ refuses. (failures_of reader.new ≡ failures_of reader.old) ⊎ (refuses ≡ true)) }
+    ensures failures { failures_of writer.new ≡ failures_after (failures_of writer.old) result }
+{
+    match buffers(alloc) {
+        Ok((mut lines, mut output)) => run(alloc, &mut lines, &mut output, reader, writer),
+        Err(_) => refuse_all(writer),
+    }
+}
+
+fn buffers(alloc: Global) -> Result<(LineReader, LineWriter), AllocError>
+    ensures { IfOk result (λ buffers. (buffers.0.ahead ≡ []) × (buffers.0.reads ≡ 0) × (buffers.1 ≡ [])) }
+{
+    Ok((LineReader::new(alloc)?, LineWriter::new(alloc)?))
+}
+
+// Refuses the script where there is no memory for the buffers.
+fn refuse_all<W: Write>(writer: &mut Counted<W>) -> Result<bool, LineError>
+    ensures answers { (left : Option (List ℕ)) → IfOk result (AnsweredAll ⊥ left script (W.contents (inner_of writer.old)) (W.contents (inner_of writer.new)) []) }
+    ensures failures { failures_of writer.new ≡ failures_after (failures_of writer.old) result }
+{
+    write_out(writer, b"refused 0 NoMemory\n")?;
+    Ok(true)
+}
+
+// Answers the first line, which is the spec, and then the others. The answer is whether a line was refused.
+fn run<R: Read, W: Write>(
+    alloc: Global,
+    lines: &mut LineReader,
+    output: &mut LineWriter,
+    reader: &mut Counted<R>,
+    writer: &mut Counted<W>,
+) -> Result<bool, LineError>
+    ensures answers { IfOk result (AnsweredAll (CountsFailure Failed (failures_of reader.old) (failures_of reader.new) lines.new.reads)
+        (left_to_read lines.old (R.remaining (inner_of reader.old))) script
+        (W.contents (inner_of writer.old)) (W.contents (inner_of writer.new)) output.old) }
+    ensures failed_read { IfOk result (λ refuses. (failures_of reader.new ≡ failures_of reader.old) ⊎ (refuses ≡ true)) }
+    ensures reads { IfOk result (λ refuses. CountsReads lines.old.reads lines.new.reads (reads_of reader.old) (reads_of reader.new)) }
+    ensures failures { failures_of writer.new ≡ failures_after (failures_of writer.old) result }
+{
+    match opened(alloc, lines, reader) {
+        None => {
+            output.flush(writer)?;
+            Ok(false)
+        }
+        Some(Err(refusal)) => {
+            let refuses = refusal.is_refused();
+            refusal.put(output, writer)?;
+            output.flush(writer)?;
+            Ok(refuses)
+        }
+        Some(Ok(mut session)) => {
+            Reply::SpecOk.put(output, writer)?;
+            answer_lines(alloc, &mut session, lines, output, reader, writer)
+        }
+    }
+}
+
+// Reads the first line, which is the spec.
+fn opened<R: Read>(
+    alloc: Global,
+    lines: &mut LineReader,
+    reader: &mut Counted<R>,
+) -> Option<Result<Session, Reply>>
+    ensures opening { OpensScript (CountsFailure Failed (failures_of reader.old) (failures_of reader.new) lines.new.reads) (left_to_read lines.old (R.remaining (inner_of reader.old)))
+        (left_to_read lines.new (R.remaining (inner_of reader.new))) result }
+    ensures failed_read { (failures_of reader.new ≡ failures_of reader.old) ⊎ (result ≡ Some (Err (Reply.Fault (CommandError.Line LineError.ReadFault)))) }
+    ensures reads { CountsReads lines.old.reads lines.new.reads (reads_of reader.old) (reads_of reader.new) }
+{
+    match lines.next_line(reader) {
+        NextLine::Line => Some(open_session(alloc, lines.line())),
+        NextLine::TooLong => Some(Err(Reply::Fault(CommandError::Line(LineError::LineTooLong)))),
+        NextLine::End => None,
+        NextLine::Failed => Some(Err(Reply::Fault(CommandError::Line(LineError::ReadFault)))),
+    }
+}
+
+// Answers the lines that are left.
+fn answer_lines<R: Read, W: Write>(
+    alloc: Global,
+    session: &mut Session,
+    lines: &mut LineReader,
+    output: &mut LineWriter,
+    reader: &mut Counted<R>,
+    writer: &mut Counted<W>,
+) -> Result<bool, LineError>
+    ensures answers { IfOk result (AnsweredAll (CountsFailure Failed (failures_of reader.old) (failures_of reader.new) lines.new.reads)
+        (left_to_read lines.old (R.remaining (inner_of reader.old))) (answers session.old)
+        (W.contents (inner_of writer.old)) (W.contents (inner_of writer.new)) output.old) }
+    ensures failed_read { IfOk result (λ refuses. (failures_of reader.new ≡ failures_of reader.old) ⊎ (refuses ≡ true)) }
+    ensures reads { IfOk result (λ refuses. CountsReads lines.old.reads lines.new.reads (reads_of reader.old) (reads_of reader.new)) }
+    ensures failures { failures_of writer.new ≡ failures_after (failures_of writer.old) result }
+{
+    let mut is_refused = false;
+    'lines: loop {
+        flush_unless_line(lines, output, writer)?;
+        let reply = match next_reply(alloc, session, lines, reader) {
+            Some(Ok(reply)) => reply,
+            Some(Err(fault)) => {
+                Reply::Fault(CommandError::Line(fault)).put(output, writer)?;
+                output.flush(writer)?;
+                return Ok(true);
+            }
+            None => {
+                output.flush(writer)?;
+                return Ok(is_refused);
+            }
+        };
+        is_refused |= reply.is_refused();
+        reply.put(output, writer)?;
+    }
+}
+
+// Writes what is kept, so that who waits for a reply sees it, unless the next line is there already.
+fn flush_unless_line<W: Write>(
+    lines: &LineReader,
+    output: &mut LineWriter,
+    writer: &mut Counted<W>,
+) -> Result<(), LineError>
+    ensures bytes { Puts (W.contents (inner_of writer.old)) (W.contents (inner_of writer.new)) output.old output.new result }
+    ensures failures { failures_of writer.new ≡ failures_after (failures_of writer.old) result }
+{
+    if lines.has_line() {
+        return Ok(());
+    }
+    output.flush(writer)
+}
+
+// The reply to the next line, or none at the end of the input.
+fn next_reply<R: Read>(
+    alloc: Global,
+    session: &mut Session,
+    lines: &mut LineReader,
+    reader: &mut Counted<R>,
+) -> Option<Result<Reply, LineError>>
+    ensures turn { Turns (CountsFailure Failed (failures_of reader.old) (failures_of reader.new) lines.new.reads) (left_to_read lines.old (R.remaining (inner_of reader.old)))
+        (left_to_read lines.new (R.remaining (inner_of reader.new))) session.old session.new result }
+    ensures nearer { IfSome result (λ reply. OnOk reply (steps_left lines.new < steps_left lines.old)) }
+    ensures failed_read { (failures_of reader.new ≡ failures_of reader.old) ⊎ (result ≡ Some (Err LineError.ReadFault)) }
+    ensures reads { CountsReads lines.old.reads lines.new.reads (reads_of reader.old) (reads_of reader.new) }
+{
+    match lines.next_line(reader) {
+        NextLine::Line => Some(Ok(answer_line(alloc, session, lines.line()))),
+        NextLine::TooLong => Some(Ok(Reply::Fault(CommandError::Line(LineError::LineTooLong)))),
+        NextLine::End => None,
+        NextLine::Failed => Some(Err(LineError::ReadFault)),
+    }
+}

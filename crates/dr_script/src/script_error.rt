@@ -1,0 +1,80 @@
+ghost use Rattle.std.specs.Prelude.{◌≡◌};
+ghost use Rattle.dr_script.specs.declared.command_error.CommandError.TheVariants.{NoMemory};
+ghost use Rattle.dr_script.specs.declared.script_error.ScriptError.TheVariants as error;
+
+use crate::command_error::CommandError;
+use dr_query::{AnswerError, QueryError};
+use dr_time::TimeError;
+use dr_timeline::TimelineError;
+use std::alloc::{AllocError, AllocFailed};
+
+/// Why a command of a script changed nothing: the refusal of the layer that refused it.
+#[derive(Debug, Drop)]
+pub enum ScriptError {
+    /// A refusal of this crate: 0 `NoMemory`, or 101 `BadCommand`.
+    Command(CommandError),
+    /// Why a word is no instant: 10 or 11.
+    Time(TimeError),
+    /// A refusal of the timeline: 0, 90 to 93, or 95.
+    Timeline(TimelineError),
+    /// Why a text is no query: 0 to 3, 10 to 13, or 70 to 76.
+    Query(QueryError),
+    /// Why a query has no answer: 0, or 81.
+    Answer(AnswerError),
+}
+
+impl From<CommandError> for ScriptError {
+    ghost from_gives = { λ e result. result ≡ error.Command e };
+
+    fn from(error: CommandError) -> ScriptError {
+        ScriptError::Command(error)
+    }
+}
+
+impl From<TimeError> for ScriptError {
+    ghost from_gives = { λ e result. result ≡ error.Time e };
+
+    fn from(error: TimeError) -> ScriptError {
+        ScriptError::Time(error)
+    }
+}
+
+impl From<TimelineError> for ScriptError {
+    ghost from_gives = { λ e result. result ≡ error.Timeline e };
+
+    fn from(error: TimelineError) -> ScriptError {
+        ScriptError::Timeline(error)
+    }
+}
+
+impl From<QueryError> for ScriptError {
+    ghost from_gives = { λ e result. result ≡ error.Query e };
+
+    fn from(error: QueryError) -> ScriptError {
+        ScriptError::Query(error)
+    }
+}
+
+impl From<AnswerError> for ScriptError {
+    ghost from_gives = { λ e result. result ≡ error.Answer e };
+
+    fn from(error: AnswerError) -> ScriptError {
+        ScriptError::Answer(error)
+    }
+}
+
+impl From<AllocError> for ScriptError {
+    ghost from_gives = { λ _ e. e ≡ error.Command NoMemory };
+
+    fn from(_error: AllocError) -> ScriptError {
+        ScriptError::Command(CommandError::NoMemory)
+    }
+}
+
+impl<T: Drop> From<AllocFailed<T>> for ScriptError {
+    ghost from_gives = { λ _ e. e ≡ error.Command NoMemory };
+
+    fn from(_error: AllocFailed<T>) -> ScriptError {
+        ScriptError::Command(CommandError::NoMemory)
+    }
+}

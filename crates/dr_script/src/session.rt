@@ -1,0 +1,216 @@
+ghost use Rattle.std.specs.Prelude.{◌≡◌, IfOk, OnErr};
+ghost use Rattle.dr_base.specs.Reading.{GivesUnless};
+ghost use Rattle.dr_merge.specs.Joined.{FitsJob};
+ghost use Rattle.dr_timeline.specs.Refusal as timeline_refusal;
+ghost use Rattle.dr_timeline.specs.Run.{empty_core};
+ghost use Rattle.dr_timeline.specs.Stepping.{commit};
+ghost use Rattle.dr_script.specs.Commands.{add_event, ask_at, ask_now, audit_now, carried_out, chunk_named, commit_job, is_memory, merge_ranges, pin_snapshot, plan_merge, seal_chunk, tell_stats};
+ghost use Rattle.dr_script.specs.Replies.{seen};
+ghost use Rattle.dr_script.specs.Seen.{seen_request};
+
+use crate::command_error::CommandError;
+use crate::reply::Reply;
+use crate::request::Request;
+use crate::script_error::ScriptError;
+use crate::wording::{stats_line, unparseable_line};
+use crate::words::instant_in;
+use dr_events::{EventReader, Unparseable};
+use dr_merge::{Job, Purpose, work};
+use dr_query::Query;
+use dr_spec::IngestSpec;
+use dr_timeline::{Outcome, Snapshot, Timeline, TimelineError};
+use std::alloc::{AllocError, Global};
+use std::marker::Model;
+
+/// The seat whose mark the events of a script have.
+const SEAT: u8 = 0;
+
+/// A script that runs: its timeline, and the jobs and the snapshots that it keeps, each named by its number from 0. A
+/// contract sees these.
+#[derive(Drop)]
+pub struct Session {
+    timeline: Timeline,
+    jobs: Vec<Job>,
+    pins: Vec<Snapshot>,
+    events: EventReader,
+}
+
+impl Model for Session {
+    ghost use Rattle.dr_timeline.specs.Run.{CoreState, IsCore};
+
+    ghost Value = { CoreState };
+
+    ghost view = { λ s. record { timeline = s.timeline; jobs = s.jobs.items; pins = s.pins.items } };
+
+    ghost invariant = { λ s. IsCore s.timeline s.jobs.items s.pins.items };
+}
+
+impl Session {
+    /// A session without events. The only error is that memory ran out.
+    pub fn new(alloc: Global, spec: IngestSpec) -> Result<Session, AllocError>
+        ensures { IfOk result (λ session. session ≡ empty_core spec) }
+    {
+        Ok(Session {
+            timeline: Timeline::new(alloc, spec)?,
+            jobs: Vec::new(alloc),
+            pins: Vec::new(alloc),
+            events: EventReader::new(alloc),
+        })
+    }
+
+    /// Does what a line asks for. An error leaves the session as it was. Refusals: those of the command's layer, and 101
+    /// `BadCommand` where a job or a snapshot is named that there isn't.
+    pub fn carry_out(
+        &mut self,
+        alloc: Global,
+        request: Request<&[u8]>,
+    ) -> Result<Reply, ScriptError>
+        ensures step { GivesUnless is_memory (λ reply. (seen reply, self.new)) result (carried_out self.old (seen_request request.entry)) }
+        ensures err { OnErr result (self.new ≡ self.old) }
+    {
+        match request {
+            Request::Add(text) => self.add(alloc, text),
+            Request::Seal(instant) => self.seal(instant),
+            Request::Merge(instant, lo, hi) => self.merge(alloc, instant, lo, hi),
+            Request::PlanMerge(instant, lo, hi) => self.plan_merge(instant, lo, hi),
+            Request::Commit(number) => self.commit(alloc, number),
+            Request::Pin => self.pin(),
+            Request::Query(text) => self.query(alloc, text),
+            Request::At(number, text) => self.at(alloc, number, text),
+            Request::Audit(text) => self.audit(alloc, text),
+            Request::Stats => self.stats(alloc),
+        }
+    }
+
+    fn add(&mut self, alloc: Global, text: &[u8]) -> Result<Reply, ScriptError>
+        ensures step { GivesUnless is_memory (λ reply. (seen reply, self.new)) result (add_event text.now self.old) }
+        ensures err { OnErr result (self.new ≡ self.old) }
+    {
+        match self.events.read(alloc, self.timeline.spec(), SEAT, text) {
+            Ok(event) => {
+                let number = self.timeline.accept(event)?;
+                Ok(Reply::Accepted(number))
+            }
+            Err(Unparseable::NoMemory) => Err(ScriptError::Command(CommandError::NoMemory)),
+            Err(error) => {
+                let line = unparseable_line(alloc, &error)?;
+                self.timeline.note(Outcome::Unparseable);
+                Ok(Reply::Said(line))
+            }
+        }
+    }
+
+    fn seal(&mut self, instant: &[u8]) -> Result<Reply, ScriptError>
+        ensures step { GivesUnless is_memory (λ reply. (seen reply, self.new)) result (seal_chunk instant.now self.old) }
+        ensures err { OnErr result (self.new ≡ self.old) }
+    {
+        let chunk = self.chunk_named(instant)?;
+        self.timeline.seal(chunk)?;
+        Ok(Reply::Sealed)
+    }
+
+    fn merge(
+        &mut self,
+        alloc: Global,
+        instant: &[u8],
+        lo: u64,
+        hi: u64,
+    ) -> Result<Reply, ScriptError>
+        ensures step { GivesUnless is_memory (λ reply. (seen reply, self.new)) result (merge_ranges instant.now lo hi self.old) }
+        ensures err { OnErr result (self.new ≡ self.old) }
+    {
+        let chunk = self.chunk_named(instant)?;
+        let job = self
+            .timeline
+            .plan(chunk, lo as usize, hi as usize, Purpose::Merge)?;
+        commit(alloc, &mut self.timeline, &job)?;
+        Ok(Reply::Merged)
+    }
+
+    fn plan_merge(&mut self, instant: &[u8], lo: u64, hi: u64) -> Result<Reply, ScriptError>
+        ensures step { GivesUnless is_memory (λ reply. (seen reply, self.new)) result (plan_merge instant.now lo hi self.old) }
+        ensures err { OnErr result (self.new ≡ self.old) }
+    {
+        let chunk = self.chunk_named(instant)?;
+        let job = self
+            .timeline
+            .plan(chunk, lo as usize, hi as usize, Purpose::Merge)?;
+        let number = self.jobs.len();
+        self.jobs.push(job)?;
+        Ok(Reply::Job(number))
+    }
+
+    fn commit(&mut self, alloc: Global, number: u64) -> Result<Reply, ScriptError>
+        ensures step { GivesUnless is_memory (λ reply. (seen reply, self.new)) result (commit_job number self.old) }
+        ensures err { OnErr result (self.new ≡ self.old) }
+    {
+        let Some(job) = self.jobs.get(number as usize) else {
+            return Err(ScriptError::Command(CommandError::BadCommand));
+        };
+        commit(alloc, &mut self.timeline, job)?;
+        Ok(Reply::Committed)
+    }
+
+    fn pin(&mut self) -> Result<Reply, ScriptError>
+        ensures step { GivesUnless is_memory (λ reply. (seen reply, self.new)) result (pin_snapshot self.old) }
+        ensures err { OnErr result (self.new ≡ self.old) }
+    {
+        let snapshot = self.timeline.pin()?;
+        let number = self.pins.len();
+        self.pins.push(snapshot)?;
+        Ok(Reply::Pinned(number))
+    }
+
+    fn query(&mut self, alloc: Global, text: &[u8]) -> Result<Reply, ScriptError>
+        ensures step { GivesUnless is_memory (λ reply. (seen reply, self.new)) result (ask_now text.now self.old) }
+        ensures same { self.new ≡ self.old }
+    {
+        let query = Query::parse(alloc, text, self.timeline.spec().schema())?;
+        let snapshot = self.timeline.pin()?;
+        Ok(Reply::Said(snapshot.answer_one(&query)?))
+    }
+
+    fn at(&self, alloc: Global, number: u64, text: &[u8]) -> Result<Reply, ScriptError>
+        ensures { GivesUnless is_memory (λ reply. (seen reply, self.now)) result (ask_at number text.now self.now) }
+    {
+        let Some(snapshot) = self.pins.get(number as usize) else {
+            return Err(ScriptError::Command(CommandError::BadCommand));
+        };
+        let query = Query::parse(alloc, text, self.timeline.spec().schema())?;
+        Ok(Reply::Said(snapshot.answer_one(&query)?))
+    }
+
+    fn audit(&mut self, alloc: Global, text: &[u8]) -> Result<Reply, ScriptError>
+        ensures step { GivesUnless is_memory (λ reply. (seen reply, self.new)) result (audit_now text.now self.old) }
+        ensures same { self.new ≡ self.old }
+    {
+        let query = Query::parse(alloc, text, self.timeline.spec().schema())?;
+        let snapshot = self.timeline.pin()?;
+        Ok(Reply::Said(snapshot.audit(&query)?))
+    }
+
+    fn stats(&self, alloc: Global) -> Result<Reply, ScriptError>
+        ensures { GivesUnless is_memory (λ reply. (seen reply, self.now)) result (tell_stats self.now) }
+    {
+        Ok(Reply::Said(stats_line(alloc, self.timeline.stats())?))
+    }
+
+    // The start of the chunk in which an instant lies, in milliseconds since the epoch.
+    fn chunk_named(&self, instant: &[u8]) -> Result<i64, ScriptError>
+        ensures { GivesUnless is_memory (λ start. start) result (chunk_named self.now instant.now) }
+    {
+        let time = instant_in(instant)?;
+        let schema = self.timeline.spec().schema();
+        Ok(schema.segment_granularity.truncate(time))
+    }
+}
+
+// Works on a job and commits it.
+fn commit(alloc: Global, timeline: &mut Timeline, job: &Job) -> Result<u64, TimelineError>
+    requires { FitsJob timeline.old.schema job.now }
+    ensures step { GivesUnless timeline_refusal.is_memory (λ version. (version, timeline.new)) result (commit timeline.old job.now) }
+    ensures err { OnErr result (timeline.new ≡ timeline.old) }
+{
+    let fragment = work(alloc, timeline.spec().schema(), job)?;
+    timeline.commit(job, fragment)
+}
