@@ -1,11 +1,9 @@
-ghost use Rattle.std.specs.Prelude.{◌≡◌, IfOk, map, length, string_bytes};
+ghost use Rattle.std.specs.Prelude.{◌≡◌, IfOk, map, length};
 ghost use Rattle.std.specs.List.{AllByRecursion};
-ghost use Rattle.serde_json.specs.Data.{array, object};
-ghost use Rattle.serde_json.specs.View.{view, members_view, items_view, items_of};
-ghost use Rattle.dr_time.specs.Printed.{IsPrintable};
+ghost use Rattle.serde_json.specs.Data.{array, no_members};
+ghost use Rattle.serde_json.specs.View.{view, members_view, items_of};
 ghost use Rattle.dr_query.specs.Answer.{text_of, result_data, with_outputs};
 ghost use Rattle.dr_answer.specs.Fits.{FitsQuery};
-ghost use Rattle.serde_json.specs.Data.{no_members};
 
 use dr_base::Numbers;
 use dr_query::{Aggregation, Query, ResultRow};

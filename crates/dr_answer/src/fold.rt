@@ -1,5 +1,4 @@
 ghost use Rattle.std.specs.Prelude.{◌≡◌, IfOk, map, fold, ◌∷◌, []};
-ghost use Rattle.std.specs.List.{flat_map};
 ghost use Rattle.dr_agg.specs.Combination.{combine_of};
 ghost use Rattle.dr_query.specs.Fold.{reading as reading_of, value_at as value_at_of, folded, folds};
 ghost use Rattle.dr_query.specs.Selection.{selected};

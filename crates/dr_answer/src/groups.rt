@@ -1,4 +1,4 @@
-ghost use Rattle.std.specs.Prelude.{◌≡◌, ℤ, pos, IfOk};
+ghost use Rattle.std.specs.Prelude.{◌≡◌, ℤ, IfOk};
 ghost use Rattle.std.specs.List.{list_any, AllByRecursion};
 ghost use Rattle.dr_answer.specs.Fits.{FitsQuery};
 ghost use Rattle.dr_query.specs.Groups.{groups, span as span_of, bucket as bucket_of, meets as meets_of};

@@ -177,6 +177,13 @@ fn shares_fragments(rt: HostRuntime) -> Result<(), Fail> {
     assert_eq!(rt; job.inputs.len(), 2);
     let pieces = job.inputs.pieces(alloc)?;
     assert_eq!(rt; pieces.len(), 2);
+    let wanted = [
+        [(DAY, "A", [1, 5]), (DAY, "B", [1, -2])],
+        [(DAY, "A", [1, 7]), (DAY + HOUR, "A", [1, 1])],
+    ];
+    for (piece, rows) in pieces.iter().zip(&wanted) {
+        expect_rows(&rt, piece, rows);
+    }
     for (place, input) in job.inputs.as_slice().iter().enumerate() {
         let share = input.share()?;
         assert!(rt; share.fragment().equals(input.fragment()));
