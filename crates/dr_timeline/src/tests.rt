@@ -7,6 +7,7 @@ use dr_merge::{Purpose, work};
 use dr_query::{AnswerError, Query};
 use dr_spec::IngestSpec;
 use std::alloc::Global;
+use std::process::Abort;
 use std::test::Fail;
 
 const DATA_SCHEMA: &str =
@@ -44,6 +45,13 @@ fn accept(alloc: Global, timeline: &mut Timeline, event: &str) -> Result<u64, Fa
     Ok(timeline.accept(event)?)
 }
 
+fn accept_each(alloc: Global, timeline: &mut Timeline, events: &[&str]) -> Result<(), Fail> {
+    for event in events {
+        accept(alloc, timeline, event)?;
+    }
+    Ok(())
+}
+
 fn seal(timeline: &mut Timeline) -> Result<(), Fail> {
     Ok(timeline.seal(DAY)?)
 }
@@ -51,9 +59,7 @@ fn seal(timeline: &mut Timeline) -> Result<(), Fail> {
 /// A timeline with these events.
 fn timeline_of(alloc: Global, tuning: &str, events: &[&str]) -> Result<Timeline, Fail> {
     let mut timeline = timeline_with(alloc, tuning)?;
-    for event in events {
-        accept(alloc, &mut timeline, event)?;
-    }
+    accept_each(alloc, &mut timeline, events)?;
     Ok(timeline)
 }
 
@@ -68,6 +74,20 @@ fn timeline_sealed_after_each(
         accept(alloc, &mut timeline, event)?;
         seal(&mut timeline)?;
     }
+    Ok(timeline)
+}
+
+/// A timeline with these two events, the first of them in a sealed range, the second in the open one.
+fn timeline_sealed_between(alloc: Global, first: &str, second: &str) -> Result<Timeline, Fail> {
+    let mut timeline = timeline_sealed_after_each(alloc, NO_LIMIT, &[first])?;
+    accept(alloc, &mut timeline, second)?;
+    Ok(timeline)
+}
+
+/// A timeline with these two events in ranges that were merged.
+fn timeline_merged(alloc: Global, first: &str, second: &str) -> Result<Timeline, Fail> {
+    let mut timeline = timeline_sealed_after_each(alloc, NO_LIMIT, &[first, second])?;
+    merge_two(alloc, &mut timeline)?;
     Ok(timeline)
 }
 
@@ -101,17 +121,50 @@ fn answer_over(alloc: Global, snapshot: &Snapshot, query: &str) -> Result<String
     text_of(snapshot.answer_one(&query))
 }
 
-fn answer(alloc: Global, timeline: &mut Timeline, query: &str) -> Result<String, Fail> {
-    answer_over(alloc, &timeline.pin()?, query)
-}
-
 fn audit_over(alloc: Global, snapshot: &Snapshot, query: &str) -> Result<String, Fail> {
     let query = query_of(alloc, snapshot, query)?;
     text_of(snapshot.audit(&query))
 }
 
-fn audit(alloc: Global, timeline: &mut Timeline, query: &str) -> Result<String, Fail> {
-    audit_over(alloc, &timeline.pin()?, query)
+/// The ranges of a snapshot, its answer to a query, and the raw answer.
+fn expect_snapshot(
+    rt: &impl Abort,
+    alloc: Global,
+    snapshot: &Snapshot,
+    ranges: &[RangeInfo],
+    query: &str,
+    answer: &str,
+    audit: &str,
+) -> Result<(), Fail> {
+    assert_eq!(rt; snapshot.ranges(), ranges);
+    assert_eq!(rt; answer_over(alloc, snapshot, query)?.as_str(), answer);
+    assert_eq!(rt; audit_over(alloc, snapshot, query)?.as_str(), audit);
+    Ok(())
+}
+
+/// The ranges of a timeline, its answer to a query, and the raw answer.
+fn expect(
+    rt: &impl Abort,
+    alloc: Global,
+    timeline: Result<Timeline, Fail>,
+    ranges: &[RangeInfo],
+    query: &str,
+    answer: &str,
+    audit: &str,
+) -> Result<(), Fail> {
+    let mut timeline = timeline?;
+    let snapshot = timeline.pin()?;
+    expect_snapshot(rt, alloc, &snapshot, ranges, query, answer, audit)
+}
+
+fn expect_ranges(
+    rt: &impl Abort,
+    timeline: &mut Timeline,
+    wanted: &[RangeInfo],
+) -> Result<(), Fail> {
+    let snapshot = timeline.pin()?;
+    assert_eq!(rt; snapshot.ranges(), wanted);
+    Ok(())
 }
 
 fn sealed(from: usize, to: usize, rows: usize) -> RangeInfo {
@@ -136,21 +189,39 @@ fn open(from: usize, to: usize, rows: usize) -> RangeInfo {
     }
 }
 
+/// The answers to the queries, by their sums and counts.
+const ADDED_10_ROWS_1: &str =
+    r#"[{"result":{"added":10,"cnt":1},"timestamp":"2024-01-01T00:00:00.000Z"}]"#;
+
+const ADDED_10_ROWS_2: &str =
+    r#"[{"result":{"added":10,"cnt":2},"timestamp":"2024-01-01T00:00:00.000Z"}]"#;
+
+const ADDED_10_ROWS_3: &str =
+    r#"[{"result":{"added":10,"cnt":3},"timestamp":"2024-01-01T00:00:00.000Z"}]"#;
+
+const ADDED_10_EVENTS_3: &str =
+    r#"[{"result":{"added":10,"n":3},"timestamp":"2024-01-01T00:00:00.000Z"}]"#;
+
+const LEAST_ROWS_1: &str =
+    r#"[{"result":{"added":-9223372036854775808,"cnt":1},"timestamp":"2024-01-01T00:00:00.000Z"}]"#;
+
+const LEAST_ROWS_2: &str =
+    r#"[{"result":{"added":-9223372036854775808,"cnt":2},"timestamp":"2024-01-01T00:00:00.000Z"}]"#;
+
 #[test]
 fn answers_the_first_query(rt: HostRuntime) -> Result<(), Fail> {
     let alloc = rt.alloc();
-    let mut timeline = timeline_of(alloc, NO_LIMIT, &[FIRST, SECOND, THIRD])?;
-    let text = answer(alloc, &mut timeline, ADDED_AND_ROWS)?;
-    assert_eq!(rt;
-        text.as_str(),
-        r#"[{"result":{"added":10,"cnt":3},"timestamp":"2024-01-01T00:00:00.000Z"}]"#
-    );
-    let text = audit(alloc, &mut timeline, ADDED_AND_ROWS)?;
-    assert_eq!(rt;
-        text.as_str(),
-        r#"[{"result":{"added":10,"cnt":3},"timestamp":"2024-01-01T00:00:00.000Z"}]"#
-    );
-    Ok(())
+    let timeline = timeline_of(alloc, NO_LIMIT, &[FIRST, SECOND, THIRD]);
+    let ranges = [open(0, 3, 3)];
+    expect(
+        &rt,
+        alloc,
+        timeline,
+        &ranges,
+        ADDED_AND_ROWS,
+        ADDED_10_ROWS_3,
+        ADDED_10_ROWS_3,
+    )
 }
 
 #[test]
@@ -188,15 +259,11 @@ fn shows_the_events(rt: HostRuntime) -> Result<(), Fail> {
 fn answers_without_events(rt: HostRuntime) -> Result<(), Fail> {
     let alloc = rt.alloc();
     let mut timeline = timeline_with(alloc, NO_LIMIT)?;
-    let text = answer(alloc, &mut timeline, ADDED_AND_ROWS)?;
-    assert_eq!(rt; text.as_str(), "[]");
-    let text = audit(alloc, &mut timeline, ADDED_AND_ROWS)?;
-    assert_eq!(rt; text.as_str(), "[]");
     let snapshot = timeline.pin()?;
+    expect_snapshot(&rt, alloc, &snapshot, &[], ADDED_AND_ROWS, "[]", "[]")?;
     assert_eq!(rt; snapshot.event_count(), 0);
     assert_eq!(rt; snapshot.span(), None);
     assert!(rt; snapshot.event(0).is_none());
-    assert!(rt; snapshot.ranges().is_empty());
     Ok(())
 }
 
@@ -207,8 +274,6 @@ fn refuses_more_events_than_are_retained(rt: HostRuntime) -> Result<(), Fail> {
     let event = read_event(alloc, timeline.spec(), 0, THIRD.as_bytes())?;
     let refused = timeline.accept(event);
     assert_eq!(rt; refused, Err(TimelineError::StreamFull));
-    assert_eq!(rt; TimelineError::StreamFull.number(), 90);
-    assert_eq!(rt; TimelineError::StreamFull.name(), "StreamFull");
     assert_eq!(rt; timeline.pin()?.event_count(), 2);
     Ok(())
 }
@@ -256,13 +321,17 @@ fn shows_events_across_blocks(rt: HostRuntime) -> Result<(), Fail> {
 #[test]
 fn answers_across_blocks(rt: HostRuntime) -> Result<(), Fail> {
     let alloc = rt.alloc();
-    let mut timeline = timeline_of_blocks(alloc)?;
     let wanted = r#"[{"result":{"added":5132,"n":1026},"timestamp":"2024-01-01T00:00:00.000Z"}]"#;
-    let text = answer(alloc, &mut timeline, SUMS_OVER_OVERLAPPING)?;
-    assert_eq!(rt; text.as_str(), wanted);
-    let text = audit(alloc, &mut timeline, SUMS_OVER_OVERLAPPING)?;
-    assert_eq!(rt; text.as_str(), wanted);
-    Ok(())
+    let ranges = [open(0, 1026, 2)];
+    expect(
+        &rt,
+        alloc,
+        timeline_of_blocks(alloc),
+        &ranges,
+        SUMS_OVER_OVERLAPPING,
+        wanted,
+        wanted,
+    )
 }
 
 /// A snapshot that was pinned between the first event and the second.
@@ -278,29 +347,45 @@ fn keeps_what_was_pinned(rt: HostRuntime) -> Result<(), Fail> {
     let alloc = rt.alloc();
     let snapshot = pinned_between_events(alloc)?;
     assert_eq!(rt; snapshot.event_count(), 1);
-    assert_eq!(rt; snapshot.ranges(), [open(0, 1, 1)].as_slice());
-    let text = answer_over(alloc, &snapshot, ADDED_AND_ROWS)?;
-    assert_eq!(rt;
-        text.as_str(),
-        r#"[{"result":{"added":5,"cnt":1},"timestamp":"2024-01-01T00:00:00.000Z"}]"#
-    );
-    Ok(())
+    let wanted = r#"[{"result":{"added":5,"cnt":1},"timestamp":"2024-01-01T00:00:00.000Z"}]"#;
+    expect_snapshot(
+        &rt,
+        alloc,
+        &snapshot,
+        &[open(0, 1, 1)],
+        ADDED_AND_ROWS,
+        wanted,
+        wanted,
+    )
 }
 
 #[test]
 fn counts_an_event_of_two_intervals_once(rt: HostRuntime) -> Result<(), Fail> {
     let alloc = rt.alloc();
-    let wanted = r#"[{"result":{"added":10,"n":3},"timestamp":"2024-01-01T00:00:00.000Z"}]"#;
+    let wanted = ADDED_10_EVENTS_3;
     let events = [FIRST, SECOND, THIRD];
-    let mut timeline = timeline_of(alloc, NO_LIMIT, &events)?;
-    let text = answer(alloc, &mut timeline, SUMS_OVER_OVERLAPPING)?;
-    assert_eq!(rt; text.as_str(), wanted);
-    let mut timeline = timeline_sealed_after_each(alloc, NO_LIMIT, &events)?;
-    let text = answer(alloc, &mut timeline, SUMS_OVER_OVERLAPPING)?;
-    assert_eq!(rt; text.as_str(), wanted);
-    let text = audit(alloc, &mut timeline, SUMS_OVER_OVERLAPPING)?;
-    assert_eq!(rt; text.as_str(), wanted);
-    Ok(())
+    let timeline = timeline_of(alloc, NO_LIMIT, &events);
+    let ranges = [open(0, 3, 3)];
+    expect(
+        &rt,
+        alloc,
+        timeline,
+        &ranges,
+        SUMS_OVER_OVERLAPPING,
+        wanted,
+        wanted,
+    )?;
+    let timeline = timeline_sealed_after_each(alloc, NO_LIMIT, &events);
+    let ranges = [sealed(0, 1, 1), sealed(1, 2, 1), sealed(2, 3, 1)];
+    expect(
+        &rt,
+        alloc,
+        timeline,
+        &ranges,
+        SUMS_OVER_OVERLAPPING,
+        wanted,
+        wanted,
+    )
 }
 
 const GREATEST: &str =
@@ -311,56 +396,65 @@ const ONE: &str = r#"{"t":"2024-01-01T00:00:00Z","page":"A","lang":"en","a":1}"#
 #[test]
 fn wraps_a_sum(rt: HostRuntime) -> Result<(), Fail> {
     let alloc = rt.alloc();
-    let mut timeline = timeline_of(alloc, NO_LIMIT, &[GREATEST, ONE])?;
-    let text = answer(alloc, &mut timeline, ADDED_AND_ROWS)?;
-    assert_eq!(rt;
-        text.as_str(),
-        r#"[{"result":{"added":-9223372036854775808,"cnt":1},"timestamp":"2024-01-01T00:00:00.000Z"}]"#
-    );
-    let text = audit(alloc, &mut timeline, ADDED_AND_ROWS)?;
-    assert_eq!(rt;
-        text.as_str(),
-        r#"[{"result":{"added":-9223372036854775808,"cnt":2},"timestamp":"2024-01-01T00:00:00.000Z"}]"#
-    );
-    Ok(())
+    let timeline = timeline_of(alloc, NO_LIMIT, &[GREATEST, ONE]);
+    let ranges = [open(0, 2, 1)];
+    expect(
+        &rt,
+        alloc,
+        timeline,
+        &ranges,
+        ADDED_AND_ROWS,
+        LEAST_ROWS_1,
+        LEAST_ROWS_2,
+    )
 }
 
 #[test]
 fn wraps_a_sum_over_two_ranges(rt: HostRuntime) -> Result<(), Fail> {
     let alloc = rt.alloc();
-    let mut timeline = timeline_of(alloc, NO_LIMIT, &[GREATEST])?;
-    seal(&mut timeline)?;
-    accept(alloc, &mut timeline, ONE)?;
-    let text = answer(alloc, &mut timeline, ADDED_AND_ROWS)?;
-    assert_eq!(rt;
-        text.as_str(),
-        r#"[{"result":{"added":-9223372036854775808,"cnt":2},"timestamp":"2024-01-01T00:00:00.000Z"}]"#
-    );
-    seal(&mut timeline)?;
-    assert_eq!(rt; merge(alloc, &mut timeline, 0, 2), Ok(0));
-    let text = answer(alloc, &mut timeline, ADDED_AND_ROWS)?;
-    assert_eq!(rt;
-        text.as_str(),
-        r#"[{"result":{"added":-9223372036854775808,"cnt":1},"timestamp":"2024-01-01T00:00:00.000Z"}]"#
-    );
-    Ok(())
+    let timeline = timeline_sealed_between(alloc, GREATEST, ONE);
+    let ranges = [sealed(0, 1, 1), open(1, 2, 1)];
+    expect(
+        &rt,
+        alloc,
+        timeline,
+        &ranges,
+        ADDED_AND_ROWS,
+        LEAST_ROWS_2,
+        LEAST_ROWS_2,
+    )?;
+    let timeline = timeline_merged(alloc, GREATEST, ONE);
+    expect(
+        &rt,
+        alloc,
+        timeline,
+        &[sealed(0, 2, 1)],
+        ADDED_AND_ROWS,
+        LEAST_ROWS_1,
+        LEAST_ROWS_2,
+    )
 }
 
 #[test]
 fn seals_a_range_with_as_many_rows_as_are_held(rt: HostRuntime) -> Result<(), Fail> {
     let alloc = rt.alloc();
     let tuning = r#"{"maxRowsInMemory":2}"#;
-    let mut timeline = timeline_of(alloc, tuning, &[FIRST, SECOND])?;
-    assert_eq!(rt; timeline.pin()?.ranges(), [sealed(0, 2, 2)].as_slice());
-    let mut timeline = timeline_of(alloc, tuning, &[FIRST, SECOND, THIRD])?;
+    let timeline = timeline_of(alloc, tuning, &[FIRST, SECOND, THIRD]);
     let ranges = [sealed(0, 2, 2), open(2, 3, 1)];
-    assert_eq!(rt; timeline.pin()?.ranges(), ranges.as_slice());
-    let text = answer(alloc, &mut timeline, ADDED_AND_ROWS)?;
-    assert_eq!(rt;
-        text.as_str(),
-        r#"[{"result":{"added":10,"cnt":3},"timestamp":"2024-01-01T00:00:00.000Z"}]"#
-    );
-    Ok(())
+    expect(
+        &rt,
+        alloc,
+        timeline,
+        &ranges,
+        ADDED_AND_ROWS,
+        ADDED_10_ROWS_3,
+        ADDED_10_ROWS_3,
+    )?;
+    expect_ranges(
+        &rt,
+        &mut timeline_of(alloc, tuning, &[FIRST, SECOND])?,
+        &[sealed(0, 2, 2)],
+    )
 }
 
 #[test]
@@ -368,8 +462,7 @@ fn holds_rows_that_combine_in_one_range(rt: HostRuntime) -> Result<(), Fail> {
     let alloc = rt.alloc();
     let tuning = r#"{"maxRowsInMemory":2}"#;
     let mut timeline = timeline_of(alloc, tuning, &[FIRST, FIRST, FIRST])?;
-    assert_eq!(rt; timeline.pin()?.ranges(), [open(0, 3, 1)].as_slice());
-    Ok(())
+    expect_ranges(&rt, &mut timeline, &[open(0, 3, 1)])
 }
 
 #[test]
@@ -382,55 +475,44 @@ fn orders_the_ranges_by_chunk(rt: HostRuntime) -> Result<(), Fail> {
     let mut of_next_day = open(0, 1, 1);
     of_next_day.chunk = NEXT_DAY;
     let ranges = [sealed(0, 2, 2), of_next_day];
-    assert_eq!(rt; timeline.pin()?.ranges(), ranges.as_slice());
-    Ok(())
-}
-
-#[test]
-fn merges_two_ranges(rt: HostRuntime) -> Result<(), Fail> {
-    let alloc = rt.alloc();
-    let mut timeline = timeline_sealed_after_each(alloc, NO_LIMIT, &[FIRST, FIRST])?;
-    let ranges = [sealed(0, 1, 1), sealed(1, 2, 1)];
-    assert_eq!(rt; timeline.pin()?.ranges(), ranges.as_slice());
-    assert_eq!(rt; merge(alloc, &mut timeline, 0, 2), Ok(0));
-    assert_eq!(rt; timeline.pin()?.ranges(), [sealed(0, 2, 1)].as_slice());
+    expect_ranges(&rt, &mut timeline, &ranges)?;
     Ok(())
 }
 
 #[test]
 fn answers_over_two_ranges(rt: HostRuntime) -> Result<(), Fail> {
     let alloc = rt.alloc();
-    let mut timeline = timeline_sealed_after_each(alloc, NO_LIMIT, &[FIRST, FIRST])?;
-    let text = answer(alloc, &mut timeline, ADDED_AND_ROWS)?;
-    assert_eq!(rt;
-        text.as_str(),
-        r#"[{"result":{"added":10,"cnt":2},"timestamp":"2024-01-01T00:00:00.000Z"}]"#
-    );
-    Ok(())
+    let timeline = timeline_sealed_after_each(alloc, NO_LIMIT, &[FIRST, FIRST]);
+    let ranges = [sealed(0, 1, 1), sealed(1, 2, 1)];
+    expect(
+        &rt,
+        alloc,
+        timeline,
+        &ranges,
+        ADDED_AND_ROWS,
+        ADDED_10_ROWS_2,
+        ADDED_10_ROWS_2,
+    )
 }
 
 #[test]
 fn answers_over_a_merged_range(rt: HostRuntime) -> Result<(), Fail> {
     let alloc = rt.alloc();
-    let mut timeline = timeline_sealed_after_each(alloc, NO_LIMIT, &[FIRST, FIRST])?;
-    merge_two(alloc, &mut timeline)?;
-    let text = answer(alloc, &mut timeline, ADDED_AND_ROWS)?;
-    assert_eq!(rt;
-        text.as_str(),
-        r#"[{"result":{"added":10,"cnt":1},"timestamp":"2024-01-01T00:00:00.000Z"}]"#
-    );
-    let text = audit(alloc, &mut timeline, ADDED_AND_ROWS)?;
-    assert_eq!(rt;
-        text.as_str(),
-        r#"[{"result":{"added":10,"cnt":2},"timestamp":"2024-01-01T00:00:00.000Z"}]"#
-    );
-    Ok(())
+    let timeline = timeline_merged(alloc, FIRST, FIRST);
+    expect(
+        &rt,
+        alloc,
+        timeline,
+        &[sealed(0, 2, 1)],
+        ADDED_AND_ROWS,
+        ADDED_10_ROWS_1,
+        ADDED_10_ROWS_2,
+    )
 }
 
 /// A snapshot that was pinned before its open range was sealed and its ranges were merged.
 fn pinned_before_a_merge(alloc: Global) -> Result<Snapshot, Fail> {
-    let mut timeline = timeline_sealed_after_each(alloc, NO_LIMIT, &[FIRST])?;
-    accept(alloc, &mut timeline, FIRST)?;
+    let mut timeline = timeline_sealed_between(alloc, FIRST, FIRST)?;
     let snapshot = timeline.pin()?;
     seal(&mut timeline)?;
     merge_two(alloc, &mut timeline)?;
@@ -442,13 +524,15 @@ fn keeps_the_pinned_ranges(rt: HostRuntime) -> Result<(), Fail> {
     let alloc = rt.alloc();
     let snapshot = pinned_before_a_merge(alloc)?;
     let ranges = [sealed(0, 1, 1), open(1, 2, 1)];
-    assert_eq!(rt; snapshot.ranges(), ranges.as_slice());
-    let text = answer_over(alloc, &snapshot, ADDED_AND_ROWS)?;
-    assert_eq!(rt;
-        text.as_str(),
-        r#"[{"result":{"added":10,"cnt":2},"timestamp":"2024-01-01T00:00:00.000Z"}]"#
-    );
-    Ok(())
+    expect_snapshot(
+        &rt,
+        alloc,
+        &snapshot,
+        &ranges,
+        ADDED_AND_ROWS,
+        ADDED_10_ROWS_2,
+        ADDED_10_ROWS_2,
+    )
 }
 
 #[test]
@@ -460,9 +544,7 @@ fn refuses_a_job_whose_ranges_were_merged(rt: HostRuntime) -> Result<(), Fail> {
     assert_eq!(rt; merge(alloc, &mut timeline, 0, 2), Ok(0));
     let refused = timeline.commit(&job, fragment);
     assert_eq!(rt; refused, Err(TimelineError::Stale));
-    assert_eq!(rt; TimelineError::Stale.number(), 93);
-    assert_eq!(rt; TimelineError::Stale.name(), "Stale");
-    assert_eq!(rt; timeline.pin()?.ranges(), [sealed(0, 2, 1)].as_slice());
+    expect_ranges(&rt, &mut timeline, &[sealed(0, 2, 1)])?;
     Ok(())
 }
 
@@ -476,7 +558,7 @@ fn finds_the_ranges_of_a_job_where_they_stand_now(rt: HostRuntime) -> Result<(),
     assert_eq!(rt; merge(alloc, &mut timeline, 0, 2), Ok(0));
     assert_eq!(rt; timeline.commit(&job, fragment), Ok(0));
     let ranges = [sealed(0, 2, 1), sealed(2, 4, 1)];
-    assert_eq!(rt; timeline.pin()?.ranges(), ranges.as_slice());
+    expect_ranges(&rt, &mut timeline, &ranges)?;
     Ok(())
 }
 
@@ -487,8 +569,6 @@ fn refuses_places_without_a_range(rt: HostRuntime) -> Result<(), Fail> {
     let refused = Err(TimelineError::NoSuchRange);
     assert_eq!(rt; merge(alloc, &mut timeline, 0, 2), refused);
     assert_eq!(rt; merge(alloc, &mut timeline, 1, 1), refused);
-    assert_eq!(rt; TimelineError::NoSuchRange.number(), 92);
-    assert_eq!(rt; TimelineError::NoSuchRange.name(), "NoSuchRange");
     Ok(())
 }
 
@@ -499,9 +579,7 @@ fn refuses_to_seal_nothing(rt: HostRuntime) -> Result<(), Fail> {
     let refused = Err(TimelineError::NothingToSeal);
     assert_eq!(rt; timeline.seal(DAY), refused);
     assert_eq!(rt; timeline.seal(NEXT_DAY), refused);
-    assert_eq!(rt; TimelineError::NothingToSeal.number(), 91);
-    assert_eq!(rt; TimelineError::NothingToSeal.name(), "NothingToSeal");
-    assert_eq!(rt; timeline.pin()?.ranges(), [sealed(0, 1, 1)].as_slice());
+    expect_ranges(&rt, &mut timeline, &[sealed(0, 1, 1)])?;
     Ok(())
 }
 
@@ -513,10 +591,23 @@ fn refuses_more_commits_than_there_may_be(rt: HostRuntime) -> Result<(), Fail> {
     assert_eq!(rt; merge(alloc, &mut timeline, 0, 1), Ok(0));
     let refused = merge(alloc, &mut timeline, 0, 1);
     assert_eq!(rt; refused, Err(TimelineError::CommitsFull));
-    assert_eq!(rt; TimelineError::CommitsFull.number(), 95);
-    assert_eq!(rt; TimelineError::CommitsFull.name(), "CommitsFull");
-    assert_eq!(rt; timeline.pin()?.ranges(), [sealed(0, 1, 1)].as_slice());
+    expect_ranges(&rt, &mut timeline, &[sealed(0, 1, 1)])?;
     Ok(())
+}
+
+#[test]
+fn numbers_and_names_the_refusals(rt: HostRuntime) {
+    let refusals = [
+        (TimelineError::StreamFull, 90, "StreamFull"),
+        (TimelineError::NothingToSeal, 91, "NothingToSeal"),
+        (TimelineError::NoSuchRange, 92, "NoSuchRange"),
+        (TimelineError::Stale, 93, "Stale"),
+        (TimelineError::CommitsFull, 95, "CommitsFull"),
+    ];
+    for (refusal, number, name) in &refusals {
+        assert_eq!(rt; refusal.number(), *number);
+        assert_eq!(rt; refusal.name(), *name);
+    }
 }
 
 /// Whether a snapshot with the first events extends one with the others, and the other way round. The ranges of the first
