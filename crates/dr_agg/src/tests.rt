@@ -1,7 +1,3 @@
-ghost use Rattle.std.specs.Prelude.{IfOk};
-ghost use Rattle.dr_agg.specs.Combination.{FitsColumns};
-ghost use Rattle.dr_agg.specs.Rollup.{AllFit};
-
 use super::*;
 use dr_base::{Key, Numbers, Row, Text, Texts};
 use std::alloc::Global;
@@ -13,9 +9,7 @@ const KINDS: [Kind; 4] = [Kind::Count, Kind::LongSum, Kind::LongMin, Kind::LongM
 const HOUR: i64 = 3600000;
 
 // A row of one event with one value, which is summed, and of which the least and the greatest are kept.
-fn row(alloc: Global, time: i64, page: &str, value: i64) -> Result<Row, Fail>
-    ensures { IfOk result (λ row. FitsColumns KINDS row.metrics) }
-{
+fn row(alloc: Global, time: i64, page: &str, value: i64) -> Result<Row, Fail> {
     let mut dims = Texts::new(alloc);
     dims.push(Text::from_str(alloc, page)?)?;
     let mut metrics = Numbers::new(alloc);
@@ -59,9 +53,7 @@ fn combines_rows_of_one_key(rt: HostRuntime) -> Result<(), Fail> {
 }
 
 // Rows of two hours and two pages, neither in order nor each of a key of its own.
-fn unordered_rows(alloc: Global) -> Result<Vec<Row>, Fail>
-    ensures { IfOk result (λ rows. AllFit KINDS rows.items) }
-{
+fn unordered_rows(alloc: Global) -> Result<Vec<Row>, Fail> {
     let mut rows = Vec::new(alloc);
     rows.push(row(alloc, HOUR, "B", -2)?)?;
     rows.push(row(alloc, 0, "A", 5)?)?;
@@ -148,6 +140,30 @@ fn sums_wrap(rt: HostRuntime) -> Result<(), Fail> {
     let pieces = [row(alloc, 0, "A", i64::MAX)?, row(alloc, 0, "A", 1)?];
     let rows = rollup_rows(alloc, true, &KINDS, &pieces)?;
     expect_rows(&rt, &rows, &[(0, "A", [2, i64::MIN, 1, i64::MAX])]);
+    Ok(())
+}
+
+// Metrics of so many columns, each the number.
+fn metrics(alloc: Global, count: usize, number: i64) -> Result<Numbers, Fail> {
+    let mut metrics = Numbers::new(alloc);
+    for _ in 0..count {
+        metrics.push(number)?;
+    }
+    Ok(metrics)
+}
+
+#[test]
+fn reads_absent_metrics_as_zero(rt: HostRuntime) -> Result<(), Fail> {
+    let alloc = rt.alloc();
+    let mut into = metrics(alloc, 4, 7)?;
+    combine_into(&KINDS, &mut into, &metrics(alloc, 2, 5)?)?;
+    assert_eq!(rt; into.as_slice(), [12, 12, 0, 7].as_slice());
+    let mut short = metrics(alloc, 1, 7)?;
+    combine_into(&KINDS, &mut short, &metrics(alloc, 4, 5)?)?;
+    assert_eq!(rt; short.as_slice(), [12, 5, 0, 5].as_slice());
+    let mut long = metrics(alloc, 6, -7)?;
+    combine_into(&KINDS, &mut long, &metrics(alloc, 6, 5)?)?;
+    assert_eq!(rt; long.as_slice(), [-2, -2, -7, 5].as_slice());
     Ok(())
 }
 

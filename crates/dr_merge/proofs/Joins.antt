@@ -1,11 +1,8 @@
 -- The rows of the inputs of a job, one input after another.
-use Rattle.std.proofs.Common.{◌≡◌, ◌∙◌, sym, ap, ℕ, ◌+◌, ◌<◌, Bool, true, false, List, [], ◌∷◌, ◌++◌, length, map, take, get_or}
-use Rattle.std.specs.Bool.{OnTrue}
-use Rattle.std.specs.List.{AllByRecursion}
+use Rattle.std.proofs.Common.{◌≡◌, ◌∙◌, sym, ap, ℕ, ◌+◌, ◌<◌, List, [], ◌∷◌, ◌++◌, length, map, take, get_or}
 use Rattle.std.proofs.lemmas.List.{map_more, append-nil, append_assoc}
 use Rattle.dr_base.specs.declared.row.Row.{Row}
-use Rattle.dr_agg.specs.declared.kind.Kind.{Kind}
-use Rattle.dr_agg.specs.Rollup.{AllFit, all_rows}
+use Rattle.dr_agg.specs.Rollup.{all_rows}
 use Rattle.dr_merge.specs.declared.fragment.Fragment.{Fragment}
 
 all_rows-push : (lists : List (List Row)) (rows : List Row) → all_rows (lists ++ rows ∷ []) ≡ all_rows lists ++ rows
@@ -19,16 +16,3 @@ rows_more rows new inputs i f lt is so_far more =
     let lists : map (λ f. f.rows) (take (i + 1) inputs) ≡ map (λ f. f.rows) (take i inputs) ++ f.rows ∷ [] =
     map_more (λ (f : Fragment). f.rows) inputs i f lt ∙ ap (λ (x : Fragment). map (λ f. f.rows) (take i inputs) ++ x.rows ∷ []) (sym is) in
     more ∙ ap (λ rs. rs ++ f.rows) so_far ∙ sym (all_rows-push (map (λ f. f.rows) (take i inputs)) f.rows) ∙ ap all_rows (sym lists)
-
-AllFit-append : (kinds : List Kind) (a b : List Row) → AllFit kinds a → AllFit kinds b → AllFit kinds (a ++ b)
-AllFit-append kinds [] b x y = y
-AllFit-append kinds (r ∷ a) b x y = (x.0, AllFit-append kinds a b x.1 y)
-
--- the rows of inputs whose rows fit
-pub fits-all : (kinds : List Kind) (inputs : List Fragment) → AllByRecursion (λ f. AllFit kinds f.rows) inputs → AllFit kinds (all_rows (map (λ f. f.rows) inputs))
-fits-all kinds [] all = tt
-fits-all kinds (f ∷ fs) all = AllFit-append kinds f.rows (all_rows (map (λ f. f.rows) fs)) all.0 (fits-all kinds fs all.1)
-
-pub where-set : (b : Bool) (P : Type 0) → P → OnTrue b P
-where-set true P p = p
-where-set false P p = tt

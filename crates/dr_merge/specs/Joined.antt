@@ -1,7 +1,6 @@
 -- What the inputs of a job are joined to (Apache Druid documentation, ingestion: merging of persisted segments).
 use Rattle.std.specs.Prelude.{ℕ, ℤ, List, [], ◌∷◌, map, fold}
-use Rattle.std.specs.List.{AllByRecursion}
-use Rattle.dr_agg.specs.Rollup.{join, AllFit}
+use Rattle.dr_agg.specs.Rollup.{join}
 use Rattle.dr_spec.specs.Columns.{kinds_of}
 use Rattle.dr_spec.specs.declared.schema.Schema.{Schema}
 use Rattle.dr_merge.specs.declared.fragment.Fragment.{Fragment}
@@ -21,7 +20,3 @@ joined schema k fs = record { chunk = k; from = first_from fs; to = last_to fs; 
 
 abbrev pub joined_fragment : Schema → Job → Fragment
 joined_fragment schema job = joined schema job.chunk job.inputs
-
--- the rows of each input have a value for each column of the schema
-abbrev pub FitsJob : Schema → Job → Type 0
-FitsJob schema job = AllByRecursion (λ f. AllFit (kinds_of schema) f.rows) job.inputs

@@ -1,7 +1,6 @@
 ghost use Rattle.std.specs.Prelude.{◌≡◌, ◌++◌, IfOk, OnOk, map};
-ghost use Rattle.std.specs.List.{AllByRecursion};
-ghost use Rattle.dr_agg.specs.Rollup.{AllFit, all_rows, join};
-ghost use Rattle.dr_merge.specs.Joined.{joined_fragment, FitsJob, first_from, last_to};
+ghost use Rattle.dr_agg.specs.Rollup.{all_rows, join};
+ghost use Rattle.dr_merge.specs.Joined.{joined_fragment, first_from, last_to};
 
 use crate::fragment::Fragment;
 use crate::job::Job;
@@ -17,7 +16,6 @@ use std::alloc::{AllocError, Global};
 /// with rollup one for each key (Apache Druid documentation, ingestion: merging of persisted segments). It needs no
 /// timeline. The only error is that memory ran out.
 pub fn work(alloc: Global, schema: &Schema, job: &Job) -> Result<Fragment, AllocError>
-    requires { FitsJob schema.now job.now }
     ensures { IfOk result (λ fragment. fragment ≡ joined_fragment schema.now job.now) }
 {
     let kinds = columns_of(alloc, schema)?;
@@ -54,7 +52,6 @@ fn join(
     kinds: &[Kind],
     inputs: &[SharedFragment],
 ) -> Result<Vec<Row>, AllocError>
-    requires { AllByRecursion (λ f. AllFit kinds.now f.rows) inputs.now }
     ensures { IfOk result (λ rows. rows.items ≡ join combines kinds.now (map (λ f. f.rows) inputs.now)) }
 {
     let rows = all_rows(alloc, inputs)?;

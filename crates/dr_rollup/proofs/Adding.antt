@@ -7,9 +7,9 @@ use Rattle.dr_base.specs.declared.row.Row.{Row}
 use Rattle.dr_gran.specs.Truncation.{truncation}
 use Rattle.dr_dict.proofs.Texts.{distinct-nil}
 use Rattle.dr_agg.specs.declared.kind.Kind.{Kind}
-use Rattle.dr_agg.specs.Rollup.{add_row, rollup, rollup_onto, AllFit}
-use Rattle.dr_agg.specs.Combination.{combine_columns, FitsColumns}
-use Rattle.dr_agg.proofs.RollupLaws.{rollup_onto_push, AllFit-rollup_onto}
+use Rattle.dr_agg.specs.Rollup.{add_row, rollup, rollup_onto}
+use Rattle.dr_agg.specs.Combination.{combine_columns}
+use Rattle.dr_agg.proofs.RollupLaws.{rollup_onto_push}
 use Rattle.dr_spec.specs.declared.schema.Schema.{Schema}
 use Rattle.dr_spec.specs.Columns.{kinds_of}
 use Rattle.dr_dict.specs.Dictionary.{Dictionary}
@@ -42,17 +42,6 @@ module _ (s : Schema) (ks : List Kind) (limit : ℕ) (ds : List Dictionary) (c :
   -- as many rows as entries
   pub entries-counted : length (rows_of s ds (entries_of en)) ≡ length (entries_of en)
   entries-counted = rows-counted s.rollup (kinds_of s) (map (row_of ds) (entries_of en)) h.sound.apart ∙ length-map (entries_of en) (row_of ds)
-
-  -- a value for each column in each row
-  pub fits-rows : AllFit ks (rows_of s ds (entries_of en))
-  fits-rows = subst (λ l. AllFit ks (rollup s.rollup l (map (row_of ds) (entries_of en)))) h.columns (AllFit-rollup_onto s.rollup ks [] (map (row_of ds) (entries_of en)) tt (by (entries_of en) h.sound.fits))
-    where
-      by : (es : List Entry) → AllByRecursion (λ x. FitsColumns ks x.1) es → AllFit ks (map (row_of ds) es)
-      by [] all = tt
-      by (x ∷ es) all = (all.0, by es all.1)
-
-  pub fits-event : (e : Event) → FitsColumns ks (unrolled s e).metrics
-  fits-event e = subst (λ l. FitsColumns ks (contributions l e.inputs)) h.columns (length-contributions ks e.inputs)
 
   -- with another key that was coded last
   pub coded-again : (d : Coded) → length d.numbers.items ≡ length ds → Holds s ks limit ds d en

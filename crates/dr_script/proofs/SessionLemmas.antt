@@ -9,7 +9,6 @@ use Rattle.dr_timeline.specs.declared.timeline_error.TimelineError.{TimelineErro
 use Rattle.dr_timeline.specs.declared.timeline_error.TimelineError.TheVariants.{CommitsFull}
 use Rattle.dr_timeline.specs.Refusal.{is_memory}
 use Rattle.dr_timeline.specs.Run.{IsCore}
-use Rattle.dr_merge.specs.Joined.{FitsJob}
 use Rattle.dr_timeline.specs.Segments.{Pinned}
 use Rattle.dr_timeline.specs.State.{State}
 use Rattle.dr_timeline.specs.Standing.{place_of}
@@ -34,11 +33,5 @@ commit_schema : (old new : State) (job : Job) (result : Result ℕ TimelineError
 commit_schema old new job (Ok v) step err = schema_at old new job (place_of old job) v step
 commit_schema old new job (Err e) step err = ap (λ (s : State). s.schema) err
 
-pub keeps_core : (old new : State) (job : Job) (result : Result ℕ TimelineError) (jobs : List Job) (pins : List Pinned) → GivesUnless is_memory (λ v. (v, new)) result (commit old job) → OnErr result (new ≡ old)
-    → IsCore old jobs pins → IsCore new jobs pins
-keeps_core old new job result jobs pins step err core =
-    let same = sym (commit_schema old new job result step err) in
-    record {
-      jobs_fit = subst (λ (schema : Schema). AllByRecursion (FitsJob schema) jobs) same core.jobs_fit;
-      pins_are = subst (λ (schema : Schema). AllByRecursion (λ p. p.schema ≡ schema) pins) same core.pins_are;
-    }
+pub keeps_core : (old new : State) (job : Job) (result : Result ℕ TimelineError) (pins : List Pinned) → GivesUnless is_memory (λ v. (v, new)) result (commit old job) → OnErr result (new ≡ old) → IsCore old pins → IsCore new pins
+keeps_core old new job result pins step err core = subst (λ (schema : Schema). AllByRecursion (λ p. p.schema ≡ schema) pins) (sym (commit_schema old new job result step err)) core

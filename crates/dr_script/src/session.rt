@@ -1,6 +1,5 @@
 ghost use Rattle.std.specs.Prelude.{◌≡◌, IfOk, OnErr};
 ghost use Rattle.dr_base.specs.Reading.{GivesUnless};
-ghost use Rattle.dr_merge.specs.Joined.{FitsJob};
 ghost use Rattle.dr_timeline.specs.Refusal as timeline_refusal;
 ghost use Rattle.dr_timeline.specs.Run.{empty_core};
 ghost use Rattle.dr_timeline.specs.Stepping.{commit};
@@ -42,7 +41,7 @@ impl Model for Session {
 
     ghost view = { λ s. record { timeline = s.timeline; jobs = s.jobs.items; pins = s.pins.items } };
 
-    ghost invariant = { λ s. IsCore s.timeline s.jobs.items s.pins.items };
+    ghost invariant = { λ s. IsCore s.timeline s.pins.items };
 }
 
 impl Session {
@@ -207,7 +206,6 @@ impl Session {
 
 // Works on a job and commits it.
 fn commit(alloc: Global, timeline: &mut Timeline, job: &Job) -> Result<u64, TimelineError>
-    requires { FitsJob timeline.old.schema job.now }
     ensures step { GivesUnless timeline_refusal.is_memory (λ version. (version, timeline.new)) result (commit timeline.old job.now) }
     ensures err { OnErr result (timeline.new ≡ timeline.old) }
 {

@@ -6,13 +6,11 @@ use Rattle.std.proofs.lemmas.List.{map-append, append-nil, take_all, length-drop
 use Rattle.std.proofs.lemmas.List.Elements.{filter-append}
 use Rattle.dr_base.specs.declared.event.Event.{Event}
 use Rattle.dr_base.specs.declared.row.Row.{Row}
-use Rattle.dr_agg.specs.Combination.{FitsColumns}
-use Rattle.dr_agg.specs.Rollup.{add_row, rollup, rollup_onto, all_rows, join, AllFit}
-use Rattle.dr_agg.proofs.RollupLaws.{rollup_onto_push, AllFit-rollup_onto, rollup-all_rows}
+use Rattle.dr_agg.specs.Rollup.{add_row, rollup, rollup_onto, all_rows, join}
+use Rattle.dr_agg.proofs.RollupLaws.{rollup_onto_push, rollup-all_rows}
 use Rattle.dr_spec.specs.Columns.{kinds_of}
 use Rattle.dr_spec.specs.declared.schema.Schema.{Schema}
 use Rattle.dr_rollup.specs.OpenRows.{OpenRows, rows_with, with_rows}
-use Rattle.dr_rollup.proofs.Contributing.{length-contributions}
 use Rattle.dr_timeline.specs.declared.chunk.Chunk.{Chunk}
 use Rattle.dr_merge.specs.declared.fragment.Fragment.{Fragment}
 use Rattle.dr_timeline.specs.declared.sealed_range.SealedRange.{SealedRange}
@@ -26,17 +24,6 @@ use Rattle.dr_timeline.proofs.Each.{All-push, All-left, All-right, All-append}
 use Rattle.dr_timeline.proofs.Tiles.{end_from, tile-end, tile-start, tile-more, tile-append, tile-right, tile-left, tile-some, end_from-append, joined-events, drop-push, events_of-push}
 
 -- ---- rows of events
-
--- an event's row has a value for each column
-pub fits-unrolled : (schema : Schema) (e : Event) → FitsColumns (kinds_of schema) (unrolled schema e).metrics
-fits-unrolled schema e = length-contributions (kinds_of schema) e.inputs
-
-AllFit-unrolled : (schema : Schema) (es : List Event) → AllFit (kinds_of schema) (map (unrolled schema) es)
-AllFit-unrolled schema [] = tt
-AllFit-unrolled schema (e ∷ es) = (fits-unrolled schema e, AllFit-unrolled schema es)
-
-pub AllFit-rolled_up : (schema : Schema) (es : List Event) → AllFit (kinds_of schema) (rolled_up schema es)
-AllFit-rolled_up schema es = AllFit-rollup_onto schema.rollup (kinds_of schema) [] (map (unrolled schema) es) tt (AllFit-unrolled schema es)
 
 -- the rollup with one more event
 pub rolled_up-push : (schema : Schema) (es : List Event) (e : Event) → rolled_up schema (es ++ e ∷ []) ≡ add_row schema.rollup (kinds_of schema) (rolled_up schema es) (unrolled schema e)

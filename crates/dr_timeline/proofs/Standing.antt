@@ -5,8 +5,6 @@ use Rattle.std.specs.declared.cmp.Ordering.TheVariants.{Greater}
 use Rattle.std.specs.Ordering.{int_cmp}
 use Rattle.std.proofs.lemmas.List.{map-append, drop-map, take-map, length-map, length-take, length-drop, take-append-drop, drop-drop}
 use Rattle.dr_base.specs.declared.event.Event.{Event}
-use Rattle.dr_agg.specs.Rollup.{AllFit}
-use Rattle.dr_spec.specs.Columns.{kinds_of}
 use Rattle.dr_spec.specs.declared.schema.Schema.{Schema}
 use Rattle.dr_timeline.specs.declared.chunk.Chunk.{Chunk}
 use Rattle.dr_merge.specs.declared.job.Job.{Job}
@@ -17,7 +15,7 @@ use Rattle.dr_merge.specs.Joined.{joined, joined_fragment}
 use Rattle.dr_timeline.specs.Steps.{fragment_of, ranges_at, StandsAt, joined_range, replaced, committed}
 use Rattle.dr_timeline.specs.Held.{range_of, ranges_of, cut_of, Holds, HasFewRows, Keeps, StandsIn, with_range, at_start, chunk_at, open_count, IsFirst}
 use Rattle.dr_timeline.proofs.Each.{All-left, All-right}
-use Rattle.dr_timeline.proofs.Holding.{AllFit-rolled_up, holds-replaced}
+use Rattle.dr_timeline.proofs.Holding.{holds-replaced}
 use Rattle.dr_timeline.proofs.Changes.{cuts-at_start, sealed_in-cuts, starts-here, total-at_start, All-at_start, All-chunk_at}
 use Rattle.dr_timeline.proofs.Keeping.{holds-chunk_at, rising-starts}
 
@@ -66,11 +64,6 @@ shown-inputs schema es cs serials commits lost thrown k c place count here start
 
 pub shown-length : (schema : Schema) (es : List Event) (cs : List Chunk) (serials commits lost thrown : ℕ) (k : ℤ) (c : Chunk) → chunk_at schema k cs ≡ c → length (sealed_in k (seen schema es cs serials commits lost thrown).cuts) ≡ length c.sealed
 shown-length schema es cs serials commits lost thrown k c here = ap (λ rs. length rs) (sealed_in-cuts schema cs k ∙ ap ranges_of here) ∙ length-map c.sealed range_of
-
--- the rows of planned inputs fit the schema
-pub fits-fragments : (schema : Schema) (es : List Event) (k : ℤ) (rs : List Range) → AllByRecursion (λ f. AllFit (kinds_of schema) f.rows) (map (fragment_of schema es k) rs)
-fits-fragments schema es k [] = tt
-fits-fragments schema es k (r ∷ rs) = (AllFit-rolled_up schema _, fits-fragments schema es k rs)
 
 -- a job stands among the sealed ranges that are kept just where it stands among those that a contract sees
 pub stands-at : (schema : Schema) (es : List Event) (cs : List Chunk) (serials commits lost thrown : ℕ) (job : Job) (c : Chunk) (place : ℕ) → chunk_at schema job.chunk cs ≡ c → map (λ c. c.start) cs ≡ chunks schema es → AllByRecursion (Holds schema es) cs

@@ -18,7 +18,6 @@ use Rattle.dr_timeline.specs.Refusal.{number_of}
 use Rattle.dr_timeline.specs.RawAnswer.{raw_answer}
 use Rattle.dr_timeline.specs.State.{State, empty_state}
 use Rattle.dr_timeline.specs.Stepping.{accept, seal, plan, commit}
-use Rattle.dr_merge.specs.Joined.{FitsJob}
 use Rattle.dr_timeline.specs.Segments.{Pinned, pinned, rows_of}
 
 -- a run so far: its timeline, and the jobs and the snapshots that were given, in order
@@ -94,7 +93,6 @@ RunFrom old (s ∷ ss) (r ∷ rs) new = (mid : CoreState) × Moves old s r mid �
 abbrev pub Run : Schema → List Step → List Reply → Type 0
 Run schema steps replies = (new : CoreState) × RunFrom (empty_core schema) steps replies new
 
--- what a run keeps between steps: each job fits the schema, and each snapshot is of it
-pub record IsCore (timeline : State) (jobs : List Job) (pins : List Pinned) : Type 0 where
-  pub jobs_fit : AllByRecursion (FitsJob timeline.schema) jobs
-  pub pins_are : AllByRecursion (λ p. p.schema ≡ timeline.schema) pins
+-- what a run keeps between steps: each snapshot is of its schema
+abbrev pub IsCore : State → List Pinned → Type 0
+IsCore timeline pins = AllByRecursion (λ p. p.schema ≡ timeline.schema) pins

@@ -39,7 +39,7 @@ impl Model for CoreRun {
 
     ghost view = { λ c. record { timeline = c.timeline; jobs = c.jobs.items; pins = c.pins.items } };
 
-    ghost invariant = { λ c. IsCore c.timeline c.jobs.items c.pins.items };
+    ghost invariant = { λ c. IsCore c.timeline c.pins.items };
 }
 
 /// Takes the steps in turn from a timeline without events, on one thread, and gives a reply to each. The only error is

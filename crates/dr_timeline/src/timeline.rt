@@ -6,7 +6,7 @@ ghost use Rattle.dr_timeline.specs.Stepping.{accept, seal, plan, commit};
 ghost use Rattle.dr_timeline.specs.Refusal.{is_memory};
 ghost use Rattle.dr_base.specs.Reading.{GivesUnless};
 ghost use Rattle.dr_timeline.specs.Noted.{noted, stats};
-ghost use Rattle.dr_merge.specs.Joined.{joined_fragment, FitsJob};
+ghost use Rattle.dr_merge.specs.Joined.{joined_fragment};
 ghost use Rattle.dr_timeline.specs.Segments.{pinned};
 ghost use Rattle.dr_events.specs.Fits.{FitsSchema};
 ghost use Rattle.dr_spec.specs.WellFormed.{IsWellFormed};
@@ -168,7 +168,6 @@ impl Timeline {
         purpose: Purpose,
     ) -> Result<Job, TimelineError>
         ensures job { IfOk result (λ job. job ≡ job_of self.now chunk lo hi purpose) }
-        ensures fits { IfOk result (λ job. FitsJob self.now.schema job) }
         ensures no_range { IsErrOf result NoSuchRange ↔ ((lo < hi) × (hi ≤ length (sealed_in chunk self.now.cuts)) → ⊥) }
         ensures refusals { IfErr result (λ e. (e ≡ NoMemory) ⊎ (e ≡ NoSuchRange)) }
         ensures step { GivesUnless is_memory (λ job. job) result (plan self.now chunk lo hi purpose) }

@@ -5,11 +5,10 @@ use Rattle.dr_timeline.specs.declared.chunk.Chunk.{Chunk}
 use Rattle.dr_timeline.specs.declared.sealed_range.SealedRange.{SealedRange}
 use Rattle.dr_timeline.specs.State.{State, sealed_in}
 use Rattle.dr_timeline.specs.Steps.{job_of, ranges_at}
-use Rattle.dr_merge.specs.Joined.{FitsJob}
 use Rattle.dr_timeline.specs.Held.{chunk_at, ranges_of}
 use Rattle.dr_timeline.proofs.Places.{chunk_at-here, chunk_at-new}
 use Rattle.dr_timeline.proofs.Changes.{sealed_in-cuts}
-use Rattle.dr_timeline.proofs.Standing.{seen, shown-length, shown-serials, shown-inputs, fits-fragments}
+use Rattle.dr_timeline.proofs.Standing.{seen, shown-length, shown-serials, shown-inputs}
 use Rattle.dr_timeline.proofs.Placing.{plan-ok, plan-none}
 use Rattle.dr_timeline.proofs.Keeping.{rising-starts}
 use Rattle.dr_timeline.proofs.timeline.Timeline.plan.Goals as goal
@@ -97,15 +96,6 @@ pub returns-clause-job : goal.returns-clause-job
 returns-clause-job c =
     let sealed = (goal.at.returns-clause-job c).After-as_slice-sealed in
     planned (goal.at.returns-clause-job c).In_ok-job_over (here sealed) (ranges sealed) ∙ ap (λ (s : State). job_of s c.args.chunk c.args.lo c.args.hi c.args.purpose) c.self.view_is
-
-pub returns-clause-fits : goal.returns-clause-fits
-returns-clause-fits c =
-    let t = c.self.inside in
-    let sealed = (goal.at.returns-clause-fits c).After-as_slice-sealed in
-    let made = (goal.at.returns-clause-fits c).In_ok-job_over in
-    let fits : FitsJob t.spec c.in_ok-job_over.field-0 =
-    subst (FitsJob t.spec) (sym (planned made (here sealed) (ranges sealed))) (fits-fragments t.spec t.stream.items c.args.chunk (ranges_at (shown made) c.args.chunk c.args.lo (c.args.hi - c.args.lo))) in
-    subst (λ (s : State). FitsJob s.schema c.in_ok-job_over.field-0) c.self.view_is fits
 
 pub returns-in_default-clause-step : goal.returns-in_default-clause-step
 returns-in_default-clause-step c = λ _. plan-none c.args.self.now c.args.chunk c.args.lo c.args.hi c.args.purpose ((returns-in_default-clause-no_range c).0 refl)
