@@ -1,14 +1,13 @@
 -- What a session keeps.
 use Rattle.std.proofs.Common.{◌≡◌, ◌∙◌, refl, sym, ap, subst, ℕ, Bool, true, false, cond, List, Option, Some, None, Result, Ok, Err}
 use Rattle.std.specs.Prelude.{OnErr, nat_le}
-use Rattle.std.specs.List.{AllByRecursion}
 use Rattle.dr_base.specs.Reading.{GivesUnless}
 use Rattle.dr_spec.specs.declared.schema.Schema.{Schema}
 use Rattle.dr_merge.specs.declared.job.Job.{Job}
 use Rattle.dr_timeline.specs.declared.timeline_error.TimelineError.{TimelineError}
 use Rattle.dr_timeline.specs.declared.timeline_error.TimelineError.TheVariants.{CommitsFull}
 use Rattle.dr_timeline.specs.Refusal.{is_memory}
-use Rattle.dr_timeline.specs.Run.{IsCore}
+use Rattle.dr_timeline.specs.Run.{HaveSchema}
 use Rattle.dr_timeline.specs.Segments.{Pinned}
 use Rattle.dr_timeline.specs.State.{State}
 use Rattle.dr_timeline.specs.Standing.{place_of}
@@ -33,5 +32,6 @@ commit_schema : (old new : State) (job : Job) (result : Result ℕ TimelineError
 commit_schema old new job (Ok v) step err = schema_at old new job (place_of old job) v step
 commit_schema old new job (Err e) step err = ap (λ (s : State). s.schema) err
 
-pub keeps_core : (old new : State) (job : Job) (result : Result ℕ TimelineError) (pins : List Pinned) → GivesUnless is_memory (λ v. (v, new)) result (commit old job) → OnErr result (new ≡ old) → IsCore old pins → IsCore new pins
-keeps_core old new job result pins step err core = subst (λ (schema : Schema). AllByRecursion (λ p. p.schema ≡ schema) pins) (sym (commit_schema old new job result step err)) core
+-- the snapshots of a session fit its timeline behind a commit too
+pub keeps_schema : (old new : State) (job : Job) (result : Result ℕ TimelineError) (pins : List Pinned) → GivesUnless is_memory (λ v. (v, new)) result (commit old job) → OnErr result (new ≡ old) → HaveSchema old.schema pins → HaveSchema new.schema pins
+keeps_schema old new job result pins step err have = subst (λ (schema : Schema). HaveSchema schema pins) (sym (commit_schema old new job result step err)) have

@@ -35,13 +35,13 @@ pub struct Session {
 }
 
 impl Model for Session {
-    ghost use Rattle.dr_timeline.specs.Run.{CoreState, IsCore};
+    ghost use Rattle.dr_timeline.specs.Run.{CoreState, HaveSchema};
 
     ghost Value = { CoreState };
 
     ghost view = { λ s. record { timeline = s.timeline; jobs = s.jobs.items; pins = s.pins.items } };
 
-    ghost invariant = { λ s. IsCore s.timeline s.pins.items };
+    ghost invariant = { λ s. HaveSchema s.timeline.schema s.pins.items };
 }
 
 impl Session {

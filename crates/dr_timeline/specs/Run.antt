@@ -93,6 +93,6 @@ RunFrom old (s ∷ ss) (r ∷ rs) new = (mid : CoreState) × Moves old s r mid �
 abbrev pub Run : Schema → List Step → List Reply → Type 0
 Run schema steps replies = (new : CoreState) × RunFrom (empty_core schema) steps replies new
 
--- what a run keeps between steps: each snapshot is of its schema
-abbrev pub IsCore : State → List Pinned → Type 0
-IsCore timeline pins = AllByRecursion (λ p. p.schema ≡ timeline.schema) pins
+-- each snapshot is of the schema, as a run keeps it between steps
+abbrev pub HaveSchema : Schema → List Pinned → Type 0
+HaveSchema schema pins = AllByRecursion (λ p. p.schema ≡ schema) pins

@@ -33,13 +33,13 @@ pub struct CoreRun {
 }
 
 impl Model for CoreRun {
-    ghost use Rattle.dr_timeline.specs.Run.{CoreState, IsCore};
+    ghost use Rattle.dr_timeline.specs.Run.{CoreState, HaveSchema};
 
     ghost Value = { CoreState };
 
     ghost view = { λ c. record { timeline = c.timeline; jobs = c.jobs.items; pins = c.pins.items } };
 
-    ghost invariant = { λ c. IsCore c.timeline c.pins.items };
+    ghost invariant = { λ c. HaveSchema c.timeline.schema c.pins.items };
 }
 
 /// Takes the steps in turn from a timeline without events, on one thread, and gives a reply to each. The only error is
