@@ -1,8 +1,8 @@
--- Comparing each name with those before it, as a loop does.
-use Rattle.std.proofs.Common.{◌≡◌, ◌≢◌, ◌∙◌, sym, refl, ap, subst, append_assoc, append-nil, arith, ℕ, ◌+◌, ◌<◌, ◌≤◌, Bool, true, false, ◌||◌, List, [], ◌∷◌, ◌++◌, length, take, drop, get_or, Result, Ok, Err, bytes_eq}
+-- Looking each name up among those before it, as a loop does.
+use Rattle.std.proofs.Common.{◌≡◌, ◌≢◌, ◌∙◌, sym, refl, subst, append_assoc, append-nil, arith, ℕ, ◌+◌, ◌<◌, ◌≤◌, Bool, true, false, List, [], ◌∷◌, ◌++◌, length, drop, get_or, Result, Ok, Err, bytes_eq}
 use Rattle.std.specs.List.{list_any}
 use Rattle.std.specs.Cmp.Lexicographic.{bytes_decides}
-use Rattle.std.proofs.lemmas.List.{take_more, drop_more, drop_all}
+use Rattle.std.proofs.lemmas.List.{drop_more, drop_all}
 use Rattle.std.proofs.lemmas.List.Folds.{list_any_at}
 use Rattle.std.proofs.lemmas.List.Quantifiers.{all_pairs_push}
 use Rattle.dr_query.specs.declared.aggregation.Aggregation.{Aggregation}
@@ -10,42 +10,32 @@ use Rattle.dr_query.specs.declared.query_error.QueryError.{QueryError}
 use Rattle.dr_query.specs.declared.query_error.QueryError.TheVariants.{DuplicateOutput}
 use Rattle.dr_query.specs.Outputs.{output_names, AreDistinct, distinct_from}
 
-list_any-output_names : (name : List ℕ) (all : List Aggregation) → list_any (bytes_eq name) (output_names all) ≡ list_any (λ a. bytes_eq name a.name) all
-list_any-output_names name [] = refl
-list_any-output_names name (a ∷ more) = ap (λ b. bytes_eq name a.name || b) (list_any-output_names name more)
-
-output_names-push : (all : List Aggregation) (a : Aggregation) → output_names (all ++ a ∷ []) ≡ output_names all ++ a.name ∷ []
-output_names-push [] a = refl
-output_names-push (b ∷ more) a = ap (λ names. b.name ∷ names) (output_names-push more a)
-
 -- a name that is new
-pub distinct_from-goes_on : (all : List Aggregation) (i : ℕ) (a : Aggregation) (whole : Result (Unit {0}) QueryError) → i < length all → a ≡ get_or all i a
-    → list_any (λ b. bytes_eq a.name b.name) (take i all) ≡ false
-    → distinct_from (output_names (take i all)) (output_names (drop i all)) ≡ whole
-    → distinct_from (output_names (take (i + 1) all)) (output_names (drop (i + 1) all)) ≡ whole
+pub distinct_from-goes_on : (all : List Aggregation) (i : ℕ) (a : Aggregation) (seen : List (List ℕ)) (whole : Result (Unit {0}) QueryError) → i < length all → a ≡ get_or all i a
+    → list_any (bytes_eq a.name) seen ≡ false
+    → distinct_from seen (output_names (drop i all)) ≡ whole
+    → distinct_from (seen ++ a.name ∷ []) (output_names (drop (i + 1) all)) ≡ whole
 unfolding distinct_from
-distinct_from-goes_on all i a whole lt is test so_far =
-    let unseen = list_any-output_names a.name (take i all) ∙ test in
-    let e : distinct_from (output_names (take i all)) (output_names (drop i all)) ≡ distinct_from (output_names (take (i + 1) all)) (output_names (drop (i + 1) all)) =
-    rw (take_more all i a lt, drop_more all i a lt, ← is, output_names-push (take i all) a, unseen) refl in
+distinct_from-goes_on all i a seen whole lt is test so_far =
+    let e : distinct_from seen (output_names (drop i all)) ≡ distinct_from (seen ++ a.name ∷ []) (output_names (drop (i + 1) all)) =
+    rw (drop_more all i a lt, ← is, test) refl in
     sym e ∙ so_far
 
 -- a name that stood before
-pub distinct_from-stops : (all : List Aggregation) (i : ℕ) (a : Aggregation) (whole : Result (Unit {0}) QueryError) → i < length all → a ≡ get_or all i a
-    → list_any (λ b. bytes_eq a.name b.name) (take i all) ≡ true
-    → distinct_from (output_names (take i all)) (output_names (drop i all)) ≡ whole → whole ≡ Err (DuplicateOutput a.name)
+pub distinct_from-stops : (all : List Aggregation) (i : ℕ) (a : Aggregation) (seen : List (List ℕ)) (whole : Result (Unit {0}) QueryError) → i < length all → a ≡ get_or all i a
+    → list_any (bytes_eq a.name) seen ≡ true
+    → distinct_from seen (output_names (drop i all)) ≡ whole → whole ≡ Err (DuplicateOutput a.name)
 unfolding distinct_from
-distinct_from-stops all i a whole lt is test so_far =
-    let seen = list_any-output_names a.name (take i all) ∙ test in
-    let e : distinct_from (output_names (take i all)) (output_names (drop i all)) ≡ Err (DuplicateOutput a.name) = rw (drop_more all i a lt, ← is, seen) refl in
+distinct_from-stops all i a seen whole lt is test so_far =
+    let e : distinct_from seen (output_names (drop i all)) ≡ Err (DuplicateOutput a.name) = rw (drop_more all i a lt, ← is, test) refl in
     sym so_far ∙ e
 
-pub distinct_from-ends : (all : List Aggregation) (i : ℕ) (whole : Result (Unit {0}) QueryError) → length all ≤ i
-    → distinct_from (output_names (take i all)) (output_names (drop i all)) ≡ whole → whole ≡ Ok tt
+pub distinct_from-ends : (all : List Aggregation) (i : ℕ) (seen : List (List ℕ)) (whole : Result (Unit {0}) QueryError) → length all ≤ i
+    → distinct_from seen (output_names (drop i all)) ≡ whole → whole ≡ Ok tt
 unfolding distinct_from
-distinct_from-ends all i whole le so_far =
+distinct_from-ends all i seen whole le so_far =
     let none : drop i all ≡ [] = drop_all i all le in
-    let e : distinct_from (output_names (take i all)) (output_names (drop i all)) ≡ Ok tt = rw none refl in
+    let e : distinct_from seen (output_names (drop i all)) ≡ Ok tt = rw none refl in
     sym so_far ∙ e
 
 -- a name that did not stand before differs from each that did

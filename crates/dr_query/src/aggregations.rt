@@ -1,5 +1,5 @@
-ghost use Rattle.std.specs.Prelude.{◌≡◌, ◌++◌, ◌∷◌, [], OnOk, OnErr, bytes_eq, length};
-ghost use Rattle.std.specs.List.{list_any, list_all};
+ghost use Rattle.std.specs.Prelude.{◌≡◌, ◌++◌, ◌∷◌, [], OnOk, OnErr, length};
+ghost use Rattle.std.specs.List.{list_all};
 ghost use Rattle.serde_json.specs.View.{view, items_view};
 ghost use Rattle.dr_spec.specs.Each.{each};
 ghost use Rattle.dr_query.specs.AggregationsOf.{aggregation_of, aggregations_of};
@@ -8,8 +8,9 @@ ghost use Rattle.dr_query.specs.Outputs.{output_names, AreDistinct, distinct_fro
 ghost use Rattle.dr_query.specs.Refusal.{Gives};
 
 use crate::aggregation::Aggregation;
+use crate::names::Names;
 use crate::query_error::QueryError;
-use dr_base::{Text, field, list_value};
+use dr_base::{field, list_value};
 use dr_spec::Schema;
 use serde_json::Value;
 use std::alloc::{AllocError, Global};
@@ -84,13 +85,14 @@ impl Aggregations {
     }
 
     /// Refuses the first name that stood before.
-    pub(crate) fn distinct(&self) -> Result<(), QueryError>
+    pub(crate) fn distinct(&self, alloc: Global) -> Result<(), QueryError>
         ensures value { Gives (λ u. u) result (distinct_from [] (output_names self.now)) }
         ensures distinct { OnOk result (AreDistinct (output_names self.now)) }
     {
         let all = self.as_slice();
-        for (place, aggregation) in all.iter().enumerate() {
-            if is_output(&aggregation.name, &all[..place]) {
+        let mut seen = Names::new(alloc);
+        for aggregation in all {
+            if !seen.add(&aggregation.name)? {
                 return Err(QueryError::DuplicateOutput(aggregation.name.copy()?));
             }
         }
@@ -106,10 +108,4 @@ fn each(alloc: Global, values: &[Value], schema: &Schema) -> Result<Aggregations
         aggregations.push(Aggregation::read(alloc, value, schema)?)?;
     }
     Ok(aggregations)
-}
-
-fn is_output(name: &Text, aggregations: &[Aggregation]) -> bool
-    ensures { result ≡ list_any (λ a. bytes_eq name.now a.name) aggregations.now }
-{
-    aggregations.iter().any(|other| *name == other.name)
 }

@@ -8,6 +8,7 @@ mod answer_error;
 mod column;
 mod fields;
 mod intervals;
+mod names;
 mod query;
 mod query_error;
 mod result_row;

@@ -70,7 +70,7 @@ impl Query {
         let intervals = intervals(alloc, &value)?;
         granularity(alloc, &value)?;
         let aggregations = Aggregations::read(alloc, &value, schema)?;
-        aggregations.distinct()?;
+        aggregations.distinct(alloc)?;
         no_other_field(alloc, members)?;
         Ok(Query {
             intervals,

@@ -1,22 +1,28 @@
-use Rattle.std.proofs.Common.{◌≡◌, ◌∙◌, sym, true, false, take, [], bytes_eq}
-use Rattle.std.specs.List.{list_any}
+use Rattle.std.proofs.Common.{◌≡◌, refl, Bool, true, false, not, [], Result, Ok}
+use Rattle.dr_query.specs.declared.query_error.QueryError.{QueryError}
 use Rattle.dr_query.specs.Outputs.{output_names, distinct_from}
 use Rattle.dr_query.proofs.DistinctOutputs.{distinct_from-goes_on, distinct_from-stops, distinct_from-ends, AreDistinct-from_distinct_from}
 use Rattle.dr_query.proofs.aggregations.Aggregations.distinct.Goals as goal
 
-pub returns-then-is_output-clause-value : goal.returns-then-is_output-clause-value
-returns-then-is_output-clause-value c =
-    let test : list_any (λ b. bytes_eq c.index-all-place.result.name b.name) (take c.loop-place.place c.as_slice-all.result.now) ≡ true = sym c.is_output.ensures ∙ c.if-is_output.true in
-    λ _. rw c.in_ok-copy.ensures (distinct_from-stops c.as_slice-all.result.now c.loop-place.place c.index-all-place.result (distinct_from [] (output_names c.args.self.now)) c.loop-place-test.true c.index-all-place.is test c.loop-place.invariant)
+stood : (stands is_new : Bool) → ◌≡◌ {A = Result Bool QueryError} (Ok (not stands)) (Ok is_new) → is_new ≡ false → stands ≡ true
+stood true is_new told none = refl
+stood false is_new told none = absurd (cc)
 
-pub loop-place-preserved : goal.loop-place-preserved
-loop-place-preserved c =
-    let test : list_any (λ b. bytes_eq c.index-all-place.result.name b.name) (take c.loop-place.place c.as_slice-all.result.now) ≡ false = sym c.is_output.ensures ∙ c.if-is_output.false in
-    distinct_from-goes_on c.as_slice-all.result.now c.loop-place.place c.index-all-place.result (distinct_from [] (output_names c.args.self.now)) c.loop-place-test.true c.index-all-place.is test c.loop-place.invariant
+did_not_stand : (stands is_new : Bool) → ◌≡◌ {A = Result Bool QueryError} (Ok (not stands)) (Ok is_new) → is_new ≡ true → stands ≡ false
+did_not_stand false is_new told some = refl
+did_not_stand true is_new told some = absurd (cc)
+
+pub returns-then-not-branch-clause-value : goal.returns-then-not-branch-clause-value
+returns-then-not-branch-clause-value c =
+    λ _. rw c.in_ok-copy.ensures (distinct_from-stops c.as_slice-all.result.now c.loop-aggregation.aggregation-index c.aggregation-item.result c.loop-aggregation.seen (distinct_from [] (output_names c.args.self.now)) c.loop-aggregation-test.true c.aggregation-item.is (stood _ _ c.in_ok-add.ensures.is_new c.if-not-branch.true) c.loop-aggregation.invariant)
+
+pub loop-aggregation-preserved : goal.loop-aggregation-preserved
+loop-aggregation-preserved c =
+    rw (c.in_ok-add.ensures.added c.if-not-branch.false) (distinct_from-goes_on c.as_slice-all.result.now c.loop-aggregation.aggregation-index c.aggregation-item.result c.loop-aggregation.seen (distinct_from [] (output_names c.args.self.now)) c.loop-aggregation-test.true c.aggregation-item.is (did_not_stand _ _ c.in_ok-add.ensures.is_new c.if-not-branch.false) c.loop-aggregation.invariant)
 
 pub returns-clause-value : goal.returns-clause-value
 returns-clause-value c =
-    distinct_from-ends c.as_slice-all.result.now c.loop-place.place (distinct_from [] (output_names c.args.self.now)) c.loop-place-test.false c.loop-place.invariant
+    distinct_from-ends c.as_slice-all.result.now c.loop-aggregation.aggregation-index c.loop-aggregation.seen (distinct_from [] (output_names c.args.self.now)) c.loop-aggregation-test.false c.loop-aggregation.invariant
 
 pub returns-clause-distinct : goal.returns-clause-distinct
 returns-clause-distinct c = AreDistinct-from_distinct_from (output_names c.args.self.now) (returns-clause-value c)
