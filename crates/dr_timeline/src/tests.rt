@@ -84,13 +84,6 @@ fn timeline_sealed_between(alloc: Global, first: &str, second: &str) -> Result<T
     Ok(timeline)
 }
 
-/// A timeline with these two events in ranges that were merged.
-fn timeline_merged(alloc: Global, first: &str, second: &str) -> Result<Timeline, Fail> {
-    let mut timeline = timeline_sealed_after_each(alloc, NO_LIMIT, &[first, second])?;
-    merge_two(alloc, &mut timeline)?;
-    Ok(timeline)
-}
-
 fn merge(alloc: Global, timeline: &mut Timeline, lo: usize, hi: usize) -> Result<u64, TimelineError>
     ensures { timeline.new.schema ≡ timeline.old.schema }
 {
@@ -190,23 +183,11 @@ fn open(from: usize, to: usize, rows: usize) -> RangeInfo {
 }
 
 /// The answers to the queries, by their sums and counts.
-const ADDED_10_ROWS_1: &str =
-    r#"[{"result":{"added":10,"cnt":1},"timestamp":"2024-01-01T00:00:00.000Z"}]"#;
-
 const ADDED_10_ROWS_2: &str =
     r#"[{"result":{"added":10,"cnt":2},"timestamp":"2024-01-01T00:00:00.000Z"}]"#;
 
 const ADDED_10_ROWS_3: &str =
     r#"[{"result":{"added":10,"cnt":3},"timestamp":"2024-01-01T00:00:00.000Z"}]"#;
-
-const ADDED_10_EVENTS_3: &str =
-    r#"[{"result":{"added":10,"n":3},"timestamp":"2024-01-01T00:00:00.000Z"}]"#;
-
-const LEAST_ROWS_1: &str =
-    r#"[{"result":{"added":-9223372036854775808,"cnt":1},"timestamp":"2024-01-01T00:00:00.000Z"}]"#;
-
-const LEAST_ROWS_2: &str =
-    r#"[{"result":{"added":-9223372036854775808,"cnt":2},"timestamp":"2024-01-01T00:00:00.000Z"}]"#;
 
 #[test]
 fn answers_the_first_query(rt: HostRuntime) -> Result<(), Fail> {
@@ -360,82 +341,6 @@ fn keeps_what_was_pinned(rt: HostRuntime) -> Result<(), Fail> {
 }
 
 #[test]
-fn counts_an_event_of_two_intervals_once(rt: HostRuntime) -> Result<(), Fail> {
-    let alloc = rt.alloc();
-    let wanted = ADDED_10_EVENTS_3;
-    let events = [FIRST, SECOND, THIRD];
-    let timeline = timeline_of(alloc, NO_LIMIT, &events);
-    let ranges = [open(0, 3, 3)];
-    expect(
-        &rt,
-        alloc,
-        timeline,
-        &ranges,
-        SUMS_OVER_OVERLAPPING,
-        wanted,
-        wanted,
-    )?;
-    let timeline = timeline_sealed_after_each(alloc, NO_LIMIT, &events);
-    let ranges = [sealed(0, 1, 1), sealed(1, 2, 1), sealed(2, 3, 1)];
-    expect(
-        &rt,
-        alloc,
-        timeline,
-        &ranges,
-        SUMS_OVER_OVERLAPPING,
-        wanted,
-        wanted,
-    )
-}
-
-const GREATEST: &str =
-    r#"{"t":"2024-01-01T00:00:00Z","page":"A","lang":"en","a":9223372036854775807}"#;
-
-const ONE: &str = r#"{"t":"2024-01-01T00:00:00Z","page":"A","lang":"en","a":1}"#;
-
-#[test]
-fn wraps_a_sum(rt: HostRuntime) -> Result<(), Fail> {
-    let alloc = rt.alloc();
-    let timeline = timeline_of(alloc, NO_LIMIT, &[GREATEST, ONE]);
-    let ranges = [open(0, 2, 1)];
-    expect(
-        &rt,
-        alloc,
-        timeline,
-        &ranges,
-        ADDED_AND_ROWS,
-        LEAST_ROWS_1,
-        LEAST_ROWS_2,
-    )
-}
-
-#[test]
-fn wraps_a_sum_over_two_ranges(rt: HostRuntime) -> Result<(), Fail> {
-    let alloc = rt.alloc();
-    let timeline = timeline_sealed_between(alloc, GREATEST, ONE);
-    let ranges = [sealed(0, 1, 1), open(1, 2, 1)];
-    expect(
-        &rt,
-        alloc,
-        timeline,
-        &ranges,
-        ADDED_AND_ROWS,
-        LEAST_ROWS_2,
-        LEAST_ROWS_2,
-    )?;
-    let timeline = timeline_merged(alloc, GREATEST, ONE);
-    expect(
-        &rt,
-        alloc,
-        timeline,
-        &[sealed(0, 2, 1)],
-        ADDED_AND_ROWS,
-        LEAST_ROWS_1,
-        LEAST_ROWS_2,
-    )
-}
-
-#[test]
 fn seals_a_range_with_as_many_rows_as_are_held(rt: HostRuntime) -> Result<(), Fail> {
     let alloc = rt.alloc();
     let tuning = r#"{"maxRowsInMemory":2}"#;
@@ -458,14 +363,6 @@ fn seals_a_range_with_as_many_rows_as_are_held(rt: HostRuntime) -> Result<(), Fa
 }
 
 #[test]
-fn holds_rows_that_combine_in_one_range(rt: HostRuntime) -> Result<(), Fail> {
-    let alloc = rt.alloc();
-    let tuning = r#"{"maxRowsInMemory":2}"#;
-    let mut timeline = timeline_of(alloc, tuning, &[FIRST, FIRST, FIRST])?;
-    expect_ranges(&rt, &mut timeline, &[open(0, 3, 1)])
-}
-
-#[test]
 fn orders_the_ranges_by_chunk(rt: HostRuntime) -> Result<(), Fail> {
     let alloc = rt.alloc();
     let next = r#"{"t":"2024-01-02T00:10:00Z","page":"A","lang":"en","a":1}"#;
@@ -477,37 +374,6 @@ fn orders_the_ranges_by_chunk(rt: HostRuntime) -> Result<(), Fail> {
     let ranges = [sealed(0, 2, 2), of_next_day];
     expect_ranges(&rt, &mut timeline, &ranges)?;
     Ok(())
-}
-
-#[test]
-fn answers_over_two_ranges(rt: HostRuntime) -> Result<(), Fail> {
-    let alloc = rt.alloc();
-    let timeline = timeline_sealed_after_each(alloc, NO_LIMIT, &[FIRST, FIRST]);
-    let ranges = [sealed(0, 1, 1), sealed(1, 2, 1)];
-    expect(
-        &rt,
-        alloc,
-        timeline,
-        &ranges,
-        ADDED_AND_ROWS,
-        ADDED_10_ROWS_2,
-        ADDED_10_ROWS_2,
-    )
-}
-
-#[test]
-fn answers_over_a_merged_range(rt: HostRuntime) -> Result<(), Fail> {
-    let alloc = rt.alloc();
-    let timeline = timeline_merged(alloc, FIRST, FIRST);
-    expect(
-        &rt,
-        alloc,
-        timeline,
-        &[sealed(0, 2, 1)],
-        ADDED_AND_ROWS,
-        ADDED_10_ROWS_1,
-        ADDED_10_ROWS_2,
-    )
 }
 
 /// A snapshot that was pinned before its open range was sealed and its ranges were merged.
@@ -533,66 +399,6 @@ fn keeps_the_pinned_ranges(rt: HostRuntime) -> Result<(), Fail> {
         ADDED_10_ROWS_2,
         ADDED_10_ROWS_2,
     )
-}
-
-#[test]
-fn refuses_a_job_whose_ranges_were_merged(rt: HostRuntime) -> Result<(), Fail> {
-    let alloc = rt.alloc();
-    let mut timeline = timeline_sealed_after_each(alloc, NO_LIMIT, &[FIRST, FIRST])?;
-    let job = timeline.plan(DAY, 0, 2, Purpose::Merge)?;
-    let fragment = work(alloc, timeline.spec().schema(), &job)?;
-    assert_eq!(rt; merge(alloc, &mut timeline, 0, 2), Ok(0));
-    let refused = timeline.commit(&job, fragment);
-    assert_eq!(rt; refused, Err(TimelineError::Stale));
-    expect_ranges(&rt, &mut timeline, &[sealed(0, 2, 1)])?;
-    Ok(())
-}
-
-#[test]
-fn finds_the_ranges_of_a_job_where_they_stand_now(rt: HostRuntime) -> Result<(), Fail> {
-    let alloc = rt.alloc();
-    let events = [FIRST, FIRST, SECOND, SECOND];
-    let mut timeline = timeline_sealed_after_each(alloc, NO_LIMIT, &events)?;
-    let job = timeline.plan(DAY, 2, 4, Purpose::Merge)?;
-    let fragment = work(alloc, timeline.spec().schema(), &job)?;
-    assert_eq!(rt; merge(alloc, &mut timeline, 0, 2), Ok(0));
-    assert_eq!(rt; timeline.commit(&job, fragment), Ok(0));
-    let ranges = [sealed(0, 2, 1), sealed(2, 4, 1)];
-    expect_ranges(&rt, &mut timeline, &ranges)?;
-    Ok(())
-}
-
-#[test]
-fn refuses_places_without_a_range(rt: HostRuntime) -> Result<(), Fail> {
-    let alloc = rt.alloc();
-    let mut timeline = timeline_sealed_after_each(alloc, NO_LIMIT, &[FIRST])?;
-    let refused = Err(TimelineError::NoSuchRange);
-    assert_eq!(rt; merge(alloc, &mut timeline, 0, 2), refused);
-    assert_eq!(rt; merge(alloc, &mut timeline, 1, 1), refused);
-    Ok(())
-}
-
-#[test]
-fn refuses_to_seal_nothing(rt: HostRuntime) -> Result<(), Fail> {
-    let alloc = rt.alloc();
-    let mut timeline = timeline_sealed_after_each(alloc, NO_LIMIT, &[FIRST])?;
-    let refused = Err(TimelineError::NothingToSeal);
-    assert_eq!(rt; timeline.seal(DAY), refused);
-    assert_eq!(rt; timeline.seal(NEXT_DAY), refused);
-    expect_ranges(&rt, &mut timeline, &[sealed(0, 1, 1)])?;
-    Ok(())
-}
-
-#[test]
-fn refuses_more_commits_than_there_may_be(rt: HostRuntime) -> Result<(), Fail> {
-    let alloc = rt.alloc();
-    let tuning = r#"{"maxCommits":1}"#;
-    let mut timeline = timeline_sealed_after_each(alloc, tuning, &[FIRST])?;
-    assert_eq!(rt; merge(alloc, &mut timeline, 0, 1), Ok(0));
-    let refused = merge(alloc, &mut timeline, 0, 1);
-    assert_eq!(rt; refused, Err(TimelineError::CommitsFull));
-    expect_ranges(&rt, &mut timeline, &[sealed(0, 1, 1)])?;
-    Ok(())
 }
 
 #[test]
