@@ -10,7 +10,7 @@ use Rattle.dr_script.specs.declared.command_error.CommandError.TheVariants.{NoMe
 use Rattle.dr_script.specs.declared.reply.Reply.{Reply}
 use Rattle.dr_script.specs.declared.reply.Reply.TheVariants.{Fault}
 use Rattle.dr_lines.specs.Lines.{TakesLine, lines_of}
-use Rattle.dr_timeline.specs.Run.{CoreState}
+use Rattle.dr_timeline.specs.CoreState.{CoreState}
 use Rattle.dr_script.specs.Commands.{Answered, answered, refused_by}
 use Rattle.dr_script.specs.Script.{answers, answers_from, any_refused, first_step, script, step, text_of}
 use Rattle.std.specs.Fmt.{digits}

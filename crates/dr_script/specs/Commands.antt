@@ -22,9 +22,9 @@ use Rattle.dr_timeline.specs.declared.stats.Stats.{Stats}
 use Rattle.dr_timeline.specs.Noted.{noted, stats}
 use Rattle.dr_merge.specs.declared.purpose.Purpose.TheVariants.{Merge as MergePurpose}
 use Rattle.dr_timeline.specs.Refusal as timeline
-use Rattle.dr_timeline.specs.RawAnswer.{raw_answer}
-use Rattle.dr_timeline.specs.Run.{CoreState, with_timeline, with_job, with_pin}
-use Rattle.dr_timeline.specs.Segments.{pinned, rows_of}
+use Rattle.dr_cuts.specs.RawAnswer.{raw_answer}
+use Rattle.dr_timeline.specs.CoreState.{CoreState, with_timeline, with_job, with_pin}
+use Rattle.dr_cuts.specs.Segments.{pinned, rows_of}
 use Rattle.dr_timeline.specs.Stepping.{accept, seal, plan, commit}
 use Rattle.dr_script.specs.declared.command_error.CommandError.{CommandError}
 use Rattle.dr_script.specs.declared.request.Request.{Request}

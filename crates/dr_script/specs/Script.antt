@@ -6,7 +6,7 @@ use Rattle.dr_schema.specs.declared.schema.Schema.{Schema}
 use Rattle.dr_spec.specs.declared.spec_error.SpecError.{SpecError}
 use Rattle.dr_spec.specs.Refusal as spec
 use Rattle.dr_spec.specs.SpecOf.{spec_of}
-use Rattle.dr_timeline.specs.Run.{CoreState, empty_core}
+use Rattle.dr_timeline.specs.CoreState.{CoreState, empty_core}
 use Rattle.dr_lines.specs.declared.line_error.LineError.TheVariants.{LineTooLong}
 use Rattle.dr_lines.specs.Lines.{longest_line}
 use Rattle.dr_script.specs.declared.command_error.CommandError.TheVariants.{Line}

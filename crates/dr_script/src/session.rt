@@ -1,7 +1,7 @@
 ghost use Rattle.std.specs.Prelude.{◌≡◌, IfOk, OnErr};
 ghost use Rattle.dr_base.specs.Reading.{GivesUnless};
 ghost use Rattle.dr_timeline.specs.Refusal as timeline_refusal;
-ghost use Rattle.dr_timeline.specs.Run.{empty_core};
+ghost use Rattle.dr_timeline.specs.CoreState.{empty_core};
 ghost use Rattle.dr_timeline.specs.Stepping.{commit};
 ghost use Rattle.dr_script.specs.Commands.{add_event, ask_at, ask_now, audit_now, carried_out, chunk_named, commit_job, is_memory, merge_ranges, pin_snapshot, plan_merge, seal_chunk, tell_stats};
 ghost use Rattle.dr_script.specs.Replies.{seen};
@@ -35,7 +35,7 @@ pub struct Session {
 }
 
 impl Model for Session {
-    ghost use Rattle.dr_timeline.specs.Run.{CoreState, HaveSchema};
+    ghost use Rattle.dr_timeline.specs.CoreState.{CoreState, HaveSchema};
 
     ghost Value = { CoreState };
 

@@ -2,15 +2,16 @@ use Rattle.std.proofs.Common.{◌≡◌, ◌∙◌, sym, ap, refl, subst, map, t
 use Rattle.std.proofs.lemmas.Int.{to_z-of_z}
 use Rattle.std.proofs.lemmas.Result.{err_from_is_err_and}
 use Rattle.dr_schema.specs.declared.schema.Schema.{Schema}
-use Rattle.dr_timeline.specs.declared.chunk.Chunk.{Chunk}
-use Rattle.dr_timeline.specs.declared.place.Place.TheVariants.{At}
-use Rattle.dr_timeline.specs.declared.sealed_range.SealedRange.{SealedRange}
-use Rattle.dr_timeline.specs.State.{State, sealed_in}
+use Rattle.dr_chunks.specs.declared.chunk.Chunk.{Chunk}
+use Rattle.dr_chunks.specs.declared.place.Place.TheVariants.{At}
+use Rattle.dr_chunks.specs.declared.sealed_range.SealedRange.{SealedRange}
+use Rattle.dr_cuts.specs.State.{State, sealed_in}
 use Rattle.dr_timeline.specs.Steps.{StandsAt, least_version, joined_range, committed}
 use Rattle.dr_merge.specs.Joined.{joined_fragment}
-use Rattle.dr_timeline.specs.Held.{IsPlace, StandsIn, chunk_at, at_start, changed_at, with_range, range_of, ranges_of}
-use Rattle.dr_timeline.proofs.Places.{at_start-here, chunk_at-here, chunk_at-new, get_or-same}
-use Rattle.dr_timeline.proofs.Changes.{sealed_in-cuts}
+use Rattle.dr_chunks.specs.Held.{IsPlace, chunk_at, at_start, changed_at, with_range, range_of, ranges_of}
+use Rattle.dr_timeline.specs.Kept.{StandsIn}
+use Rattle.dr_chunks.proofs.Places.{at_start-here, chunk_at-here, chunk_at-new, get_or-same}
+use Rattle.dr_chunks.proofs.Changes.{sealed_in-cuts}
 use Rattle.dr_timeline.proofs.Standing.{seen, stands-at, stands-in, keeps-merged, state-merged, shown-part}
 use Rattle.dr_timeline.proofs.Placing.{commit-stale, commit-full, commit-ok}
 use Rattle.dr_timeline.proofs.Keeping.{rising-starts}
