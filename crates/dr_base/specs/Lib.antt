@@ -5,3 +5,4 @@ pub mod Fields
 pub mod Unlisted
 pub mod Json
 pub mod FaultLine
+pub mod Kept
