@@ -6,3 +6,4 @@ pub mod Fields
 pub mod Unlisted
 pub mod Json
 pub mod FaultLine
+pub mod Kept

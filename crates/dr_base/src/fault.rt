@@ -34,7 +34,7 @@ fn arg_text(alloc: Global, arg: Arg) -> Result<String, AllocError>
     ensures { IfOk result (λ text. string_bytes text ≡ arg_text arg) }
 {
     match arg {
-        Arg::Name(name) => Value::String(name.into_string()).to_string(alloc),
+        Arg::Name(name) => Value::String(String::from_str(alloc, name.as_str())?).to_string(alloc),
         Arg::Index(index) => index.to_string(alloc),
     }
 }

@@ -10,6 +10,7 @@ mod json;
 mod key;
 mod numbers;
 mod row;
+mod short_text;
 mod text;
 mod texts;
 mod unlisted;
@@ -28,6 +29,3 @@ pub use row::Row;
 pub use text::Text;
 pub use texts::Texts;
 pub use unlisted::first_unlisted;
-
-#[cfg(test)]
-mod tests;

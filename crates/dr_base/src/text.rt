@@ -3,22 +3,35 @@ ghost use Rattle.std.specs.Ordering.{nat_cmp};
 ghost use Rattle.std.specs.Cmp.{partial_equiv_from_equiv};
 ghost use Rattle.std.specs.Cmp.Lexicographic.{slice_cmp, nat_list_eq_equiv, nat_list_cmp_total, texts_ties, texts_po};
 
+use crate::short_text::ShortText;
 use std::alloc::{AllocError, Global};
 use std::cmp::Ordering;
 use std::fmt;
 use std::marker::Model;
+use std::sync::Arc;
 
 /// A text. A contract sees it as its bytes in UTF-8, and it is compared and ordered by them: a letter of more bytes comes
 /// after one of fewer, and so letters are in the order of their Unicode scalar values (unlike in UTF-16).
+///
+/// A text of at most 22 bytes lies in the value itself, and takes no memory. A longer one lies in memory that its copies
+/// share, so a copy takes none either. Either way the value has the size of a `String`.
 #[derive(Debug, Drop)]
-pub struct Text(String);
+pub struct Text(Kept);
+
+/// Where a text lies.
+#[derive(Debug, Drop)]
+enum Kept {
+    Short(ShortText),
+    Long(Arc<String>),
+}
 
 impl Model for Text {
-    ghost use Rattle.std.specs.Prelude.{ℕ, List, string_bytes};
+    ghost use Rattle.std.specs.Prelude.{ℕ, List};
+    ghost use Rattle.dr_base.specs.Kept.{kept};
 
     ghost Value = { List ℕ };
 
-    ghost view = { λ t. string_bytes t.0 };
+    ghost view = { λ t. kept t.0 };
 }
 
 impl Text {
@@ -26,35 +39,47 @@ impl Text {
     pub fn from_str(alloc: Global, text: &str) -> Result<Text, AllocError>
         ensures { IfOk result (λ t. t ≡ text.now) }
     {
-        Ok(Text(String::from_str(alloc, text)?))
+        match ShortText::of(text) {
+            Some(short) => Ok(Text(Kept::Short(short))),
+            None => Text::long(alloc, String::from_str(alloc, text)?),
+        }
     }
 
-    /// The text of a string, which takes no memory.
-    pub fn from_string(text: String) -> Text
-        ensures { result ≡ string_bytes text }
+    /// The text of a string. A string of at most 22 bytes is copied into the text and let go.
+    pub fn from_string(alloc: Global, text: String) -> Result<Text, AllocError>
+        ensures { IfOk result (λ t. t ≡ string_bytes text) }
     {
-        Text(text)
+        match ShortText::of(text.as_str()) {
+            Some(short) => Ok(Text(Kept::Short(short))),
+            None => Text::long(alloc, text),
+        }
     }
 
-    /// The string of the text, which takes no memory.
-    pub fn into_string(self) -> String
-        ensures { string_bytes result ≡ self }
+    // The text of a string, in memory that copies share.
+    fn long(alloc: Global, text: String) -> Result<Text, AllocError>
+        ensures { IfOk result (λ t. t ≡ string_bytes text) }
     {
-        self.0
+        Ok(Text(Kept::Long(Arc::new(alloc, text)?)))
     }
 
     /// The text as Rust's text.
     pub fn as_str(&self) -> &str
         ensures { result.now ≡ self.now }
     {
-        self.0.as_str()
+        match &self.0 {
+            Kept::Short(short) => short.as_str(),
+            Kept::Long(shared) => shared.as_str(),
+        }
     }
 
-    /// An equal text in memory of its own.
+    /// An equal text, which takes no memory. The only error is that a longer text has 2^63 copies.
     pub fn copy(&self) -> Result<Text, AllocError>
         ensures { IfOk result (λ t. t ≡ self.now) }
     {
-        Ok(Text(self.0.clone()?))
+        match &self.0 {
+            Kept::Short(short) => Ok(Text(Kept::Short(short.copy()))),
+            Kept::Long(shared) => Ok(Text(Kept::Long(Arc::try_clone(shared)?))),
+        }
     }
 }
 

@@ -33,7 +33,7 @@ pub fn scalar_text(alloc: Global, value: Option<Scalar<'_>>) -> Result<Text, All
         Some(Scalar::Bool(true)) => Text::from_str(alloc, "true"),
         Some(Scalar::Bool(false)) => Text::from_str(alloc, "false"),
         Some(Scalar::Text(text)) => Text::from_str(alloc, text),
-        Some(Scalar::Whole(number)) => Ok(Text::from_string(number.to_string(alloc)?)),
+        Some(Scalar::Whole(number)) => Text::from_string(alloc, number.to_string(alloc)?),
     }
 }
 
@@ -47,5 +47,5 @@ fn whole_text(alloc: Global, number: &Number) -> Result<Option<Text>, AllocError
     } else {
         return Ok(None);
     };
-    Ok(Some(Text::from_string(text)))
+    Ok(Some(Text::from_string(alloc, text)?))
 }

@@ -39,7 +39,8 @@ fn calendar_text(alloc: Global, instant: i64) -> Result<Text, AllocError>
 {
     let date = date_text(alloc, instant.div_euclid(DAY_MILLIS))?;
     let clock = clock_text(alloc, instant.rem_euclid(DAY_MILLIS) as u32)?;
-    Ok(Text::from_string(format!(in alloc; "{date}T{clock}Z")?))
+    let text = Text::from_string(alloc, format!(in alloc; "{date}T{clock}Z")?)?;
+    Ok(text)
 }
 
 fn date_text(alloc: Global, day: i64) -> Result<String, AllocError>

@@ -15,4 +15,4 @@ returns c =
     let millis_is : unsigned_abs c.rem_euclid.result ≡ millis_at c.args.instant = ap unsigned_abs rem_is in
     let date_is = simp day_is at (simp to_z-of_z at c.in_ok-date.ensures) in
     let clock_is = simp millis_is at (simp to_z-of_z at c.in_ok-clock.ensures) in
-    c.from_string.ensures ∙ (c.in_ok-format.ensures.ok ∙ calendar_text-pieces c.args.instant _ _ date_is clock_is)
+    c.in_ok-text.ensures ∙ (c.in_ok-format.ensures.ok ∙ calendar_text-pieces c.args.instant _ _ date_is clock_is)
