@@ -28,6 +28,3 @@ pub use row::Row;
 pub use text::Text;
 pub use texts::Texts;
 pub use unlisted::first_unlisted;
-
-#[cfg(test)]
-mod tests;

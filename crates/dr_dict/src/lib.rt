@@ -9,6 +9,3 @@ mod sorted_dict;
 pub use dict_error::DictError;
 pub use growing_dict::GrowingDict;
 pub use sorted_dict::{SortedDict, renumbering, sorted_is_unique};
-
-#[cfg(test)]
-mod tests;
