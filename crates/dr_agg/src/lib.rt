@@ -18,6 +18,3 @@ pub use laws::{
     rollup_of_two_pieces,
 };
 pub use rows::{add_row, roll_up, rollup_rows, sort_rows};
-
-#[cfg(test)]
-mod tests;

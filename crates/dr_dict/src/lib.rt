@@ -11,6 +11,3 @@ pub use dict_error::DictError;
 pub use growing_dict::GrowingDict;
 pub use sorted_dict::{SortedDict, renumbering, sorted_is_unique};
 pub use text_set::TextSet;
-
-#[cfg(test)]
-mod tests;

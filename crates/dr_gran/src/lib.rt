@@ -17,8 +17,3 @@ pub use laws::{
     each_time_lies_in_one_bucket, nested_buckets_lie_in_one_bucket,
     times_are_truncated_to_the_greatest_start, truncation_passes_through_what_nests,
 };
-
-#[cfg(test)]
-mod days;
-#[cfg(test)]
-mod tests;

@@ -13,6 +13,3 @@ pub use line_error::LineError;
 pub use line_reader::{LONGEST_LINE, LineReader};
 pub use line_writer::{LineWriter, write_out};
 pub use next_line::NextLine;
-
-#[cfg(test)]
-mod tests;

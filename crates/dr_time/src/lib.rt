@@ -23,8 +23,3 @@ pub use laws::{
 pub use printing::print_instant;
 pub use time_error::TimeError;
 pub use union::Union;
-
-#[cfg(test)]
-mod instants;
-#[cfg(test)]
-mod tests;

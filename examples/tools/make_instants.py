@@ -1,7 +1,8 @@
-"""Writes src/instants.rt: texts of instants in all their spellings, each with its milliseconds since 1970-01-01T00:00:00Z.
+"""Writes the script cases/instants_of_many_spellings with its output: a query from each of some 600 instants on, whose answer begins
+with that instant as it is printed.
 
-The numbers come from Python's datetime, whose calendar is the proleptic Gregorian one. The texts are drawn at random, always the
-same ones. Run it in the crate's folder: python3 tools/make_instants.py > src/instants.rt
+The instants come from Python's datetime, whose calendar is the proleptic Gregorian one. The texts are drawn at random, in all their
+spellings, always the same ones. Run it in the folder examples: python3 tools/make_instants.py
 """
 
 from datetime import datetime, timedelta
@@ -12,9 +13,14 @@ MILLI = timedelta(milliseconds=1)
 FIRST = (datetime.min - EPOCH) // MILLI
 LAST = (datetime.max - EPOCH) // MILLI
 
-HEAD = """/// Texts of instants, one a line, each behind its milliseconds since 1970-01-01T00:00:00Z. Written by tools/make_instants.py from
-/// Python's datetime.
-pub(crate) const INSTANTS: &str = "\\"""
+SPEC = '{"dataSchema":{"dataSource":"w","timestampSpec":{"column":"t","format":"iso"},"dimensionsSpec":{"dimensions":["page"]}}}'
+
+EVENT = '+ {"t":"9999-12-31T23:59:59.998Z"}'
+
+QUERY = 'query {"queryType":"timeseries","dataSource":"w","intervals":"%s/9999-12-31T23:59:59.999Z","granularity":"all",'
+QUERY += '"aggregations":[{"type":"count","name":"rows"}]}'
+
+ANSWER = '[{"result":{"rows":1},"timestamp":"%s"}]'
 
 
 def zone(random):
@@ -60,18 +66,28 @@ def row(random):
     if parts > 3:
         shift, ahead = zone(random)
         text += shift
-    instant = (time - EPOCH) // MILLI + millis - ahead * 60_000
-    return f"{instant} {text}" if FIRST <= instant <= LAST else None
+    instant = time + timedelta(milliseconds=millis - ahead * 60_000) if is_in_range(time, millis, ahead) else None
+    return (text, printed(instant)) if instant else None
+
+
+def is_in_range(time, millis, ahead):
+    """Whether the instant lies in the years 1 to 9999."""
+    return FIRST <= (time - EPOCH) // MILLI + millis - ahead * 60_000 <= LAST
+
+
+def printed(time):
+    """A time of UTC, to the millisecond."""
+    return f"{time.year:04}-{time:%m-%dT%H:%M:%S}.{time.microsecond // 1000:03}Z"
 
 
 def main():
     random = Random(1)
-    rows = [row(random) for _ in range(600)]
-    print(HEAD)
-    for line in rows:
-        if line is not None:
-            print(line)
-    print('";')
+    rows = [it for it in (row(random) for _ in range(600)) if it]
+    lines = [SPEC, EVENT] + [QUERY % text for text, _ in rows]
+    replies = ["spec ok", "accepted 0"] + [ANSWER % wanted for _, wanted in rows]
+    for ending, texts in (("script", lines), ("out", replies)):
+        with open(f"cases/instants_of_many_spellings.{ending}", "w", encoding="utf-8") as file:
+            file.write("\n".join(texts) + "\n")
 
 
 main()
