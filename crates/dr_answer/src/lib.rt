@@ -11,5 +11,3 @@ mod span;
 pub use answering::{MAX_GROUPS, answer};
 pub use span::span_onto;
 
-#[cfg(test)]
-mod tests;

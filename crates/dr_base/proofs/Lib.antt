@@ -1,3 +1,4 @@
 pub mod JsonTexts
 pub mod UnlistedKeys
 pub mod Equality
+pub mod ItemsInTurn

@@ -1,5 +1,6 @@
 pub mod Order
 pub mod Reading
+pub mod Each
 pub mod Refusal
 pub mod Fields
 pub mod Unlisted

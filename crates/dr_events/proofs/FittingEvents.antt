@@ -7,9 +7,9 @@ use Rattle.dr_base.specs.declared.event.Event.{Event}
 use Rattle.dr_base.specs.Reading.{◌>>=◌}
 use Rattle.dr_base.specs.Fields.{field}
 use Rattle.dr_time.specs.Instant.{IsInstant, first_instant, last_instant}
-use Rattle.dr_spec.specs.declared.metric.Metric.{Metric}
-use Rattle.dr_spec.specs.declared.schema.Schema.{Schema}
-use Rattle.dr_spec.specs.declared.time_format.TimeFormat.{TimeFormat}
+use Rattle.dr_schema.specs.declared.metric.Metric.{Metric}
+use Rattle.dr_schema.specs.declared.schema.Schema.{Schema}
+use Rattle.dr_schema.specs.declared.time_format.TimeFormat.{TimeFormat}
 use Rattle.dr_events.specs.declared.unparseable.Unparseable.TheVariants.{BadTimestamp, BadDimension, BadMetric}
 use Rattle.dr_events.specs.declared.unparseable.Unparseable.{Unparseable}
 use Rattle.dr_events.specs.Refusal.{Gives}
@@ -18,7 +18,7 @@ use Rattle.dr_events.specs.EventTime.{time_of, in_years, event_time}
 use Rattle.dr_events.specs.DimensionValue.{dimension_value}
 use Rattle.dr_events.specs.MetricInput.{metric_input}
 use Rattle.dr_events.specs.EventOf.{dims_of, inputs_of, event_in}
-use Rattle.dr_events.specs.Fits.{FitsSchema}
+use Rattle.dr_schema.specs.Fits.{FitsSchema}
 use Rattle.dr_events.proofs.EachColumn.{length-each_from, All-each_from}
 use Rattle.dr_events.proofs.WholeInputs.{FitsSigned-metric_input}
 use Rattle.dr_events.proofs.EventTimes.{inside}

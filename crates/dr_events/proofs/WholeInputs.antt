@@ -7,7 +7,7 @@ use Rattle.serde_json.specs.Data.{Num, unsigned, negative, float, Data, null, bo
 use Rattle.serde_json.specs.Find.{as_i64, as_integer}
 use Rattle.dr_agg.specs.declared.kind.Kind.TheVariants.{Count, LongSum, LongMin, LongMax}
 use Rattle.dr_agg.specs.declared.kind.Kind.{Kind}
-use Rattle.dr_spec.specs.declared.metric.Metric.{Metric}
+use Rattle.dr_schema.specs.declared.metric.Metric.{Metric}
 use Rattle.dr_events.specs.WholeNumber.{in_64_bits, signed_number}
 use Rattle.dr_events.specs.MetricInput.{text_input, number_input, input_by, input_field, metric_input}
 

@@ -6,8 +6,8 @@ use Rattle.dr_base.specs.declared.event.Event.{Event}
 use Rattle.dr_base.specs.Reading.{◌>>=◌, passed}
 use Rattle.dr_base.specs.Fields.{field}
 use Rattle.dr_base.specs.Json.{json_of}
-use Rattle.dr_spec.specs.declared.metric.Metric.{Metric}
-use Rattle.dr_spec.specs.declared.schema.Schema.{Schema}
+use Rattle.dr_schema.specs.declared.metric.Metric.{Metric}
+use Rattle.dr_schema.specs.declared.schema.Schema.{Schema}
 use Rattle.dr_events.specs.declared.unparseable.Unparseable.{Unparseable}
 use Rattle.dr_events.specs.declared.unparseable.Unparseable.TheVariants.{NotAnObject, BadDimension, BadMetric}
 use Rattle.dr_events.specs.Columns.{each}

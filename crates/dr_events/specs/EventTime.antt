@@ -7,8 +7,8 @@ use Rattle.std.specs.Char.{is_ascii_digit}
 use Rattle.serde_json.specs.Data.{Data, null, boolean, number, string, array, object}
 use Rattle.serde_json.specs.Find.{as_integer}
 use Rattle.dr_time.specs.Instant.{first_instant, last_instant, instant_of}
-use Rattle.dr_spec.specs.declared.time_format.TimeFormat.{TimeFormat}
-use Rattle.dr_spec.specs.declared.time_format.TimeFormat.TheVariants.{Iso, Millis, Posix, Auto}
+use Rattle.dr_schema.specs.declared.time_format.TimeFormat.{TimeFormat}
+use Rattle.dr_schema.specs.declared.time_format.TimeFormat.TheVariants.{Iso, Millis, Posix, Auto}
 use Rattle.dr_events.specs.declared.unparseable.Unparseable.{Unparseable}
 use Rattle.dr_events.specs.declared.unparseable.Unparseable.TheVariants.{NoTimestamp, BadTimestamp}
 use Rattle.dr_events.specs.Columns.{or_refused}

@@ -6,4 +6,3 @@ pub mod DimensionValue
 pub mod MetricInput
 pub mod FlatObject
 pub mod EventOf
-pub mod Fits

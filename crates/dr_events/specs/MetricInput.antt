@@ -5,7 +5,7 @@ use Rattle.serde_json.specs.Data.{Data, null, boolean, number, string, array, ob
 use Rattle.serde_json.specs.Find.{get, as_integer}
 use Rattle.dr_agg.specs.declared.kind.Kind.{Kind}
 use Rattle.dr_agg.specs.declared.kind.Kind.TheVariants.{Count, LongSum, LongMin, LongMax}
-use Rattle.dr_spec.specs.declared.metric.Metric.{Metric}
+use Rattle.dr_schema.specs.declared.metric.Metric.{Metric}
 use Rattle.dr_events.specs.WholeNumber.{in_64_bits, signed_number}
 
 -- the empty text is 0

@@ -1,7 +1,7 @@
 ghost use Rattle.std.specs.Prelude.{IfOk};
 ghost use Rattle.dr_events.specs.Refusal.{Gives};
 ghost use Rattle.dr_events.specs.EventOf.{event_of};
-ghost use Rattle.dr_events.specs.Fits.{FitsSchema};
+ghost use Rattle.dr_schema.specs.Fits.{FitsSchema};
 
 use crate::flat_event::{flat_event, flat_line};
 use crate::reading::{event_in, object};

@@ -12,7 +12,7 @@ ghost use Rattle.dr_events.specs.EventTime.{whole_time, auto_time, auto_text, be
 use crate::numbers::{plain_number, whole_number};
 use crate::scalar::Scalar;
 use crate::unparseable::Unparseable;
-use dr_spec::TimeFormat;
+use dr_schema::TimeFormat;
 use dr_time::parse_instant;
 use serde_json::Value;
 

@@ -12,7 +12,7 @@ use crate::metric::flat_input;
 use crate::scalar::Scalar;
 use crate::unparseable::Unparseable;
 use dr_base::{Event, Numbers, Text, Texts};
-use dr_spec::{Metric, Schema};
+use dr_schema::{Metric, Schema};
 use json::Scratch;
 use simdutf8::compat::from_utf8;
 use std::alloc::{AllocError, Global};
@@ -46,11 +46,11 @@ pub fn flat_event(
     ensures { Gives (λ e. e) result (event_in schema.now seat (object (put_all (λ k. k.now) members.now no_members))) }
 {
     let time = scalar_event_time(
-        schema.time_format,
-        member(members, schema.time_column.as_str()),
+        schema.time_format(),
+        member(members, schema.time_column().as_str()),
     )?;
-    let dims = flat_dimensions(alloc, schema.dimensions.as_slice(), members)?;
-    let inputs = flat_inputs(alloc, schema.metrics.as_slice(), members)?;
+    let dims = flat_dimensions(alloc, schema.dimensions().as_slice(), members)?;
+    let inputs = flat_inputs(alloc, schema.metrics().as_slice(), members)?;
     Ok(Event {
         seat,
         time,

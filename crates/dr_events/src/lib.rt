@@ -18,5 +18,3 @@ pub use event_reader::EventReader;
 pub use reading::read_event;
 pub use unparseable::Unparseable;
 
-#[cfg(test)]
-mod tests;

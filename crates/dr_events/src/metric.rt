@@ -8,7 +8,7 @@ use crate::flat_object::member;
 use crate::numbers::{signed_number, whole_number};
 use crate::scalar::Scalar;
 use dr_agg::Kind;
-use dr_spec::Metric;
+use dr_schema::Metric;
 use serde_json::Value;
 
 /// The input of a metric: 1 for a count, and for every other the number that its field stands for; none where that is bad.

@@ -2,7 +2,7 @@ ghost use Rattle.std.specs.Prelude.{IfOk};
 ghost use Rattle.serde_json.specs.View.{view};
 ghost use Rattle.dr_events.specs.Refusal.{Gives};
 ghost use Rattle.dr_events.specs.EventOf.{object_of, dims_of, inputs_of, event_in, event_of};
-ghost use Rattle.dr_events.specs.Fits.{FitsSchema};
+ghost use Rattle.dr_schema.specs.Fits.{FitsSchema};
 
 use crate::dimension::dimension_value;
 use crate::event_reader::EventReader;
@@ -10,7 +10,8 @@ use crate::event_time::event_time;
 use crate::metric::metric_input;
 use crate::unparseable::Unparseable;
 use dr_base::{BaseError, Event, Numbers, Text, Texts, field, parse_json};
-use dr_spec::{IngestSpec, Metric, Schema};
+use dr_schema::{Metric, Schema};
+use dr_spec::IngestSpec;
 use serde_json::Value;
 use std::alloc::Global;
 
@@ -41,11 +42,11 @@ pub fn event_in(
     ensures { Gives (λ e. e) result (event_in schema.now seat (view value.now)) }
 {
     let time = event_time(
-        schema.time_format,
-        field(value, schema.time_column.as_str()),
+        schema.time_format(),
+        field(value, schema.time_column().as_str()),
     )?;
-    let dims = dimensions(alloc, schema.dimensions.as_slice(), value)?;
-    let inputs = inputs(alloc, schema.metrics.as_slice(), value)?;
+    let dims = dimensions(alloc, schema.dimensions().as_slice(), value)?;
+    let inputs = inputs(alloc, schema.metrics().as_slice(), value)?;
     Ok(Event {
         seat,
         time,

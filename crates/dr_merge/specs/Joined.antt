@@ -1,8 +1,8 @@
 -- What the inputs of a job are joined to (Apache Druid documentation, ingestion: merging of persisted segments).
 use Rattle.std.specs.Prelude.{ℕ, ℤ, List, [], ◌∷◌, map, fold}
 use Rattle.dr_agg.specs.Rollup.{join}
-use Rattle.dr_spec.specs.Columns.{kinds_of}
-use Rattle.dr_spec.specs.declared.schema.Schema.{Schema}
+use Rattle.dr_schema.specs.Columns.{kinds_of}
+use Rattle.dr_schema.specs.declared.schema.Schema.{Schema}
 use Rattle.dr_merge.specs.declared.fragment.Fragment.{Fragment}
 use Rattle.dr_merge.specs.declared.job.Job.{Job}
 

@@ -9,7 +9,7 @@ use crate::shared_fragment::SharedFragment;
 use dr_agg::{Kind, roll_up};
 use dr_base::Row;
 use dr_rollup::columns_of;
-use dr_spec::Schema;
+use dr_schema::Schema;
 use std::alloc::{AllocError, Global};
 
 /// What the inputs of a job are joined to: the range from the first to the last, and the rows in the order of their keys,
@@ -19,7 +19,7 @@ pub fn work(alloc: Global, schema: &Schema, job: &Job) -> Result<Fragment, Alloc
     ensures { IfOk result (λ fragment. fragment ≡ joined_fragment schema.now job.now) }
 {
     let kinds = columns_of(alloc, schema)?;
-    let rows = join(alloc, schema.rollup, &kinds, job.inputs.as_slice())?;
+    let rows = join(alloc, schema.rollup(), &kinds, job.inputs.as_slice())?;
     Ok(Fragment {
         chunk: job.chunk,
         from: first_from(job.inputs.as_slice()),

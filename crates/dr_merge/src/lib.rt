@@ -20,5 +20,3 @@ pub use rows::Rows;
 pub use serials::Serials;
 pub use shared_fragment::SharedFragment;
 
-#[cfg(test)]
-mod tests;

@@ -1,4 +1,3 @@
 pub mod DistinctOutputs
-pub mod MembersRead
 pub mod PrintableIntervals
 pub mod MadeQueries

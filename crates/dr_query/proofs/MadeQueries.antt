@@ -6,10 +6,10 @@ use Rattle.dr_base.specs.Fields.{field, as_list, as_object, text_field}
 use Rattle.dr_base.specs.Reading.{◌>>=◌, passed}
 use Rattle.dr_agg.specs.declared.kind.Kind.{Kind}
 use Rattle.dr_agg.specs.declared.kind.Kind.TheVariants.{Count, LongSum}
-use Rattle.dr_spec.specs.Columns.{kinds_of}
-use Rattle.dr_spec.specs.Each.{each_from}
-use Rattle.dr_spec.specs.declared.metric.Metric.{Metric}
-use Rattle.dr_spec.specs.declared.schema.Schema.{Schema}
+use Rattle.dr_schema.specs.Columns.{kinds_of}
+use Rattle.dr_base.specs.Each.{each_from}
+use Rattle.dr_schema.specs.declared.metric.Metric.{Metric}
+use Rattle.dr_schema.specs.declared.schema.Schema.{Schema}
 use Rattle.dr_query.specs.declared.aggregation.Aggregation.{Aggregation}
 use Rattle.dr_query.specs.declared.column.Column.{Column}
 use Rattle.dr_query.specs.declared.query_error.QueryError.TheVariants.{Base, Unsupported}

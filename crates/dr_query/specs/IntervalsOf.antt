@@ -4,7 +4,7 @@ use Rattle.serde_json.specs.Data.{Data, null, boolean, number, string, array, ob
 use Rattle.dr_base.specs.declared.base_error.BaseError.TheVariants.{WrongKind}
 use Rattle.dr_base.specs.Fields.{as_text}
 use Rattle.dr_base.specs.Reading.{◌>>=◌, passed}
-use Rattle.dr_spec.specs.Each.{each}
+use Rattle.dr_base.specs.Each.{each}
 use Rattle.dr_time.specs.declared.interval.Interval.{Interval}
 use Rattle.dr_time.specs.Interval.{interval_of}
 use Rattle.dr_query.specs.declared.query_error.QueryError.{QueryError}

@@ -2,8 +2,8 @@
 use Rattle.std.specs.Prelude.{◌≡◌, List, Option, Some, None, slice_get}
 use Rattle.std.specs.List.{AllByRecursion}
 use Rattle.dr_agg.specs.declared.kind.Kind.{Kind}
-use Rattle.dr_spec.specs.Columns.{kinds_of}
-use Rattle.dr_spec.specs.declared.schema.Schema.{Schema}
+use Rattle.dr_schema.specs.Columns.{kinds_of}
+use Rattle.dr_schema.specs.declared.schema.Schema.{Schema}
 use Rattle.dr_query.specs.declared.column.Column.{Column}
 use Rattle.dr_query.specs.declared.query.Query.{Query}
 

@@ -5,7 +5,7 @@ use Rattle.serde_json.specs.Data.{Data, null, boolean, number, string, array, ob
 use Rattle.dr_base.specs.Fields.{as_text, as_object, text_field}
 use Rattle.dr_base.specs.Json.{json_of}
 use Rattle.dr_base.specs.Reading.{◌>>=◌, passed}
-use Rattle.dr_spec.specs.declared.schema.Schema.{Schema}
+use Rattle.dr_schema.specs.declared.schema.Schema.{Schema}
 use Rattle.dr_query.specs.declared.query.Query.{Query}
 use Rattle.dr_query.specs.declared.query_error.QueryError.{QueryError}
 use Rattle.dr_query.specs.declared.query_error.QueryError.TheVariants.{Base, UnknownQueryType, WrongDataSource, Unsupported}

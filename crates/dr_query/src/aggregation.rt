@@ -10,7 +10,7 @@ use crate::fields::no_unlisted;
 use crate::query_error::QueryError;
 use dr_agg::{Kind, matches};
 use dr_base::{Text, object, text_field};
-use dr_spec::{Metrics, Schema};
+use dr_schema::{Metrics, Schema};
 use serde_json::{Map, Value};
 use std::alloc::Global;
 
@@ -100,14 +100,14 @@ fn long_sum(
     Ok(Aggregation {
         name: Text::from_str(alloc, name)?,
         kind: Kind::LongSum,
-        column: column(&schema.metrics, read),
+        column: column(schema.metrics(), read),
     })
 }
 
 fn is_dimension(schema: &Schema, name: &str) -> bool
     ensures { result ≡ is_dimension schema.now name.now }
 {
-    name == "__time" || is_among(name, schema.dimensions.as_slice())
+    name == "__time" || is_among(name, schema.dimensions().as_slice())
 }
 
 fn is_among(name: &str, names: &[Text]) -> bool

@@ -1,17 +1,17 @@
 ghost use Rattle.std.specs.Prelude.{◌≡◌, ◌++◌, ◌∷◌, [], OnOk, OnErr, length};
 ghost use Rattle.std.specs.List.{list_all};
 ghost use Rattle.serde_json.specs.View.{view, items_view};
-ghost use Rattle.dr_spec.specs.Each.{each};
+ghost use Rattle.dr_base.specs.Each.{each};
 ghost use Rattle.dr_query.specs.AggregationsOf.{aggregation_of, aggregations_of};
 ghost use Rattle.dr_query.specs.Matching.{aggregation_matches};
 ghost use Rattle.dr_query.specs.Outputs.{output_names, AreDistinct, distinct_from};
 ghost use Rattle.dr_query.specs.Refusal.{Gives};
 
 use crate::aggregation::Aggregation;
-use crate::names::Names;
 use crate::query_error::QueryError;
 use dr_base::{field, list_value};
-use dr_spec::Schema;
+use dr_dict::TextSet;
+use dr_schema::Schema;
 use serde_json::Value;
 use std::alloc::{AllocError, Global};
 use std::marker::Model;
@@ -90,7 +90,7 @@ impl Aggregations {
         ensures distinct { OnOk result (AreDistinct (output_names self.now)) }
     {
         let all = self.as_slice();
-        let mut seen = Names::new(alloc);
+        let mut seen = TextSet::new(alloc);
         for aggregation in all {
             if !seen.add(&aggregation.name)? {
                 return Err(QueryError::DuplicateOutput(aggregation.name.copy()?));

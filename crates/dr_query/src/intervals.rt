@@ -1,7 +1,7 @@
 ghost use Rattle.std.specs.Prelude.{IfOk};
 ghost use Rattle.std.specs.List.{All};
 ghost use Rattle.serde_json.specs.View.{view, items_view};
-ghost use Rattle.dr_spec.specs.Each.{each};
+ghost use Rattle.dr_base.specs.Each.{each};
 ghost use Rattle.dr_query.specs.Refusal.{Gives};
 ghost use Rattle.dr_query.specs.IntervalsOf.{interval_in, intervals_of};
 ghost use Rattle.dr_query.specs.Timeseries.{IsPrintable};

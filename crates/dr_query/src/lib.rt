@@ -8,7 +8,6 @@ mod answer_error;
 mod column;
 mod fields;
 mod intervals;
-mod names;
 mod query;
 mod query_error;
 mod result_row;
@@ -21,5 +20,3 @@ pub use query::Query;
 pub use query_error::QueryError;
 pub use result_row::ResultRow;
 
-#[cfg(test)]
-mod tests;

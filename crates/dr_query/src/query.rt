@@ -3,7 +3,7 @@ use crate::fields::{data_source, granularity, no_other_field, query_type};
 use crate::intervals::intervals;
 use crate::query_error::QueryError;
 use dr_base::{object, parse_json};
-use dr_spec::Schema;
+use dr_schema::Schema;
 use dr_time::Union;
 use std::alloc::Global;
 use std::marker::Model;
@@ -66,7 +66,7 @@ impl Query {
         let value = parse_json(alloc, bytes)?;
         let members = object(alloc, &value, "query")?;
         query_type(alloc, &value)?;
-        data_source(alloc, &value, &schema.data_source)?;
+        data_source(alloc, &value, schema.data_source())?;
         let intervals = intervals(alloc, &value)?;
         granularity(alloc, &value)?;
         let aggregations = Aggregations::read(alloc, &value, schema)?;
@@ -75,7 +75,7 @@ impl Query {
         Ok(Query {
             intervals,
             aggregations,
-            rollup: schema.rollup,
+            rollup: schema.rollup(),
         })
     }
 

@@ -10,8 +10,8 @@ use Rattle.dr_agg.specs.declared.kind.Kind.{Kind}
 use Rattle.dr_agg.specs.Rollup.{add_row, rollup, rollup_onto}
 use Rattle.dr_agg.specs.Combination.{combine_columns}
 use Rattle.dr_agg.proofs.RollupLaws.{rollup_onto_push}
-use Rattle.dr_spec.specs.declared.schema.Schema.{Schema}
-use Rattle.dr_spec.specs.Columns.{kinds_of}
+use Rattle.dr_schema.specs.declared.schema.Schema.{Schema}
+use Rattle.dr_schema.specs.Columns.{kinds_of}
 use Rattle.dr_dict.specs.Dictionary.{Dictionary}
 use Rattle.dr_rollup.specs.declared.coded.Coded.{Coded}
 use Rattle.dr_rollup.specs.declared.entries.Entries.{Entries}

@@ -5,8 +5,8 @@ use Rattle.dr_base.specs.declared.row.Row.{Row}
 use Rattle.dr_agg.specs.declared.kind.Kind.{Kind}
 use Rattle.dr_agg.specs.Combination.{FitsColumns}
 use Rattle.dr_agg.specs.Rollup.{rollup}
-use Rattle.dr_spec.specs.declared.schema.Schema.{Schema}
-use Rattle.dr_spec.specs.Columns.{kinds_of}
+use Rattle.dr_schema.specs.declared.schema.Schema.{Schema}
+use Rattle.dr_schema.specs.Columns.{kinds_of}
 use Rattle.dr_dict.specs.Dictionary.{Dictionary}
 use Rattle.dr_rollup.specs.declared.coded.Coded.{Coded}
 use Rattle.dr_rollup.specs.declared.entries.Entries.{Entries}

@@ -7,8 +7,8 @@ use Rattle.dr_agg.specs.declared.kind.Kind.TheVariants.{Count, LongSum, LongMin,
 use Rattle.dr_agg.specs.Combination.{column}
 use Rattle.dr_agg.specs.Rollup.{rollup}
 use Rattle.dr_gran.specs.Truncation.{truncation}
-use Rattle.dr_spec.specs.Columns.{kinds_of}
-use Rattle.dr_spec.specs.declared.schema.Schema.{Schema}
+use Rattle.dr_schema.specs.Columns.{kinds_of}
+use Rattle.dr_schema.specs.declared.schema.Schema.{Schema}
 
 -- what an event adds to a column: 1 to a count, its input to every other
 abbrev pub contribution : Kind → ℤ → ℤ

@@ -16,5 +16,3 @@ pub use open_index::OpenIndex;
 pub use rollup_error::RollupError;
 pub use unrolled::{columns_of, unrolled_row};
 
-#[cfg(test)]
-mod tests;

@@ -11,7 +11,7 @@ use crate::entries::Entries;
 use crate::unrolled::row_time;
 use dr_base::{Event, Text};
 use dr_dict::GrowingDict;
-use dr_spec::Schema;
+use dr_schema::Schema;
 
 // The place of the row of an event; none where its key is new or rows stay apart. The key of the event is coded.
 pub fn locate(

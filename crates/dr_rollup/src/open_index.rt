@@ -1,6 +1,6 @@
 ghost use Rattle.std.specs.Prelude.{◌≡◌, ◌≤◌, ◌<◌, ◌↔◌, [], length, IfOk, OnOk, OnErr, IsErrOf};
 ghost use Rattle.std.specs.List.{AllByRecursion};
-ghost use Rattle.dr_events.specs.Fits.{FitsSchema};
+ghost use Rattle.dr_schema.specs.Fits.{FitsSchema};
 ghost use Rattle.dr_rollup.specs.OpenRows.{OpenRows, rows_with, with_rows, RollsUp};
 
 use crate::coded::Coded;
@@ -13,7 +13,7 @@ use crate::unrolled::{columns_of, unrolled_row};
 use dr_agg::{Kind, add_row};
 use dr_base::{Event, Row};
 use dr_dict::GrowingDict;
-use dr_spec::Schema;
+use dr_schema::Schema;
 use std::alloc::{AllocError, Global};
 use std::marker::Model;
 
@@ -45,20 +45,20 @@ impl Model for OpenIndex {
 }
 
 impl OpenIndex {
-    /// An index without rows, which may have as many as `limit`. Times are truncated to the query granularity of the schema;
-    /// with `all`, which no ingestion spec has there, they stay as they are. The only error is that memory ran out.
+    /// An index without rows, which may have as many as `limit`. Times are truncated to the query granularity of the schema,
+    /// which is shared. The only error is that memory ran out.
     pub fn new(alloc: Global, schema: &Schema, limit: usize) -> Result<OpenIndex, AllocError>
         requires { limit ≤ 1048576 }
         ensures { IfOk result (λ index. index ≡ record { schema = schema.now; limit = limit; rows = [] }) }
     {
-        let dimensions = schema.dimensions.len();
+        let dimensions = schema.dimensions().len();
         Ok(OpenIndex {
             schema: schema.copy()?,
             kinds: columns_of(alloc, schema)?,
             limit,
             dicts: empty_dicts(alloc, dimensions, limit)?,
             coded: Coded::zeros(alloc, dimensions)?,
-            entries: Entries::new(alloc, schema.rollup),
+            entries: Entries::new(alloc, schema.rollup()),
         })
     }
 
@@ -150,7 +150,7 @@ impl OpenIndex {
         let alloc = *self.kinds.allocator();
         let row = unrolled_row(alloc, &self.schema, &self.kinds, event)?;
         let mut rows = self.rows()?;
-        add_row(self.schema.rollup, &self.kinds, &mut rows, row)?;
+        add_row(self.schema.rollup(), &self.kinds, &mut rows, row)?;
         Ok(rows)
     }
 

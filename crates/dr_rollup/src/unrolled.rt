@@ -1,29 +1,21 @@
-ghost use Rattle.std.specs.Prelude.{◌≡◌, IfOk, length, false};
-ghost use Rattle.dr_gran.specs.Step.{is_all, step_of};
+ghost use Rattle.std.specs.Prelude.{◌≡◌, IfOk, length};
 ghost use Rattle.dr_gran.specs.Truncation.{truncation};
 ghost use Rattle.dr_time.specs.Instant.{IsInstant};
-ghost use Rattle.dr_spec.specs.Columns.{kinds_of};
+ghost use Rattle.dr_schema.specs.Columns.{kinds_of};
 ghost use Rattle.dr_agg.specs.Combination.{column, combine_columns, FitsColumns};
 ghost use Rattle.dr_rollup.specs.Unrolled.{unrolled, contribution, contributions};
 
 use dr_agg::Kind;
 use dr_base::{Event, Key, Numbers, Row};
-use dr_gran::Gran;
-use dr_spec::Schema;
+use dr_schema::Schema;
 use std::alloc::{AllocError, Global};
-
-/// 0001-01-01T00:00:00.000Z
-const FIRST_INSTANT: i64 = -62_135_596_800_000;
-
-/// 9999-12-31T23:59:59.999Z
-const LAST_INSTANT: i64 = 253_402_300_799_999;
 
 /// The kinds of the metric columns of a schema, in order. The only error is that memory ran out.
 pub fn columns_of(alloc: Global, schema: &Schema) -> Result<Vec<Kind>, AllocError>
     ensures { IfOk result (λ kinds. kinds.items ≡ kinds_of schema.now) }
 {
     schema
-        .metrics
+        .metrics()
         .as_slice()
         .iter()
         .map(|metric| metric.kind)
@@ -32,15 +24,16 @@ pub fn columns_of(alloc: Global, schema: &Schema) -> Result<Vec<Kind>, AllocErro
 
 /// The row of one event: its time truncated to the query granularity, its dimensions, and what it adds to each column: 1
 /// to a count, its input to every other (Apache Druid documentation, ingestion: rollup); where an input isn't there, it
-/// reads 0. So it is for the columns of the schema, and a time from 0001-01-01 to 9999-12-31. The only error is that
-/// memory ran out.
+/// reads 0. So it is for the columns of the schema. The time of the event lies from 0001-01-01 to 9999-12-31. The only
+/// error is that memory ran out. It takes time by the columns and by the bytes of the dimension values.
 pub fn unrolled_row(
     alloc: Global,
     schema: &Schema,
     kinds: &[Kind],
     event: &Event,
 ) -> Result<Row, AllocError>
-    ensures { kinds.now ≡ kinds_of schema.now → IsInstant event.now.time → IfOk result (λ row. row ≡ unrolled schema.now event.now) }
+    requires { IsInstant event.now.time }
+    ensures { kinds.now ≡ kinds_of schema.now → IfOk result (λ row. row ≡ unrolled schema.now event.now) }
 {
     Ok(Row {
         key: Key {
@@ -52,23 +45,12 @@ pub fn unrolled_row(
 }
 
 /// The start of the bucket of the query granularity in which a time from 0001-01-01 to 9999-12-31 lies, in milliseconds
-/// since 1970-01-01T00:00:00Z; an earlier time counts as the first of these, and a later one as the last.
+/// since 1970-01-01T00:00:00Z.
 pub fn row_time(schema: &Schema, time: i64) -> i64
-    ensures { IsInstant time → result ≡ truncation schema.now.query_granularity time }
+    requires { IsInstant time }
+    ensures { result ≡ truncation schema.now.query_granularity time }
 {
-    stepping(schema.query_granularity).truncate(time.clamp(FIRST_INSTANT, LAST_INSTANT))
-}
-
-/// A granularity that isn't `all`: that of a millisecond stands in the place of `all`, which no ingestion spec has as its
-/// query granularity.
-fn stepping(gran: Gran) -> Gran
-    ensures kind { is_all result ≡ false }
-    ensures same { step_of result ≡ step_of gran }
-{
-    match gran {
-        Gran::AllTime => Gran::Millisecond,
-        other => other,
-    }
+    schema.query_granularity().truncate(time)
 }
 
 /// What an event adds to each column, by its inputs.

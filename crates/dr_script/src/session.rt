@@ -200,7 +200,7 @@ impl Session {
     {
         let time = instant_in(instant)?;
         let schema = self.timeline.spec().schema();
-        Ok(schema.segment_granularity.truncate(time))
+        Ok(schema.segment_granularity().truncate(time))
     }
 }
 

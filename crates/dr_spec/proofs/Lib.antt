@@ -1,4 +1,3 @@
-pub mod ItemsInTurn
 pub mod DistinctNames
 pub mod WellFormedSchemas
 pub mod Steps

@@ -13,9 +13,9 @@ use Rattle.dr_base.specs.Fields.{field, as_list, as_int, as_object, text_field}
 use Rattle.dr_base.specs.Json.{json_of}
 use Rattle.dr_spec.specs.declared.spec_error.SpecError.{SpecError}
 use Rattle.dr_spec.specs.declared.spec_error.SpecError.TheVariants.{Base, Granularity, NotNested, DuplicateName, NoDimensions, TooManyColumns}
-use Rattle.dr_spec.specs.declared.limits.Limits.{Limits}
-use Rattle.dr_spec.specs.declared.metric.Metric.{Metric}
-use Rattle.dr_spec.specs.declared.schema.Schema.{Schema}
+use Rattle.dr_schema.specs.declared.limits.Limits.{Limits}
+use Rattle.dr_schema.specs.declared.metric.Metric.{Metric}
+use Rattle.dr_schema.specs.declared.schema.Schema.{Schema}
 use Rattle.dr_agg.specs.declared.kind.Kind.{Kind}
 use Rattle.dr_agg.specs.declared.kind.Kind.TheVariants.{Count, LongSum, LongMin, LongMax}
 use Rattle.dr_spec.specs.Sections.{section, field_in, items_of_field, not_empty, text_or, bool_or}
@@ -27,14 +27,15 @@ use Rattle.dr_gran.specs.Step.{is_all}
 use Rattle.dr_gran.specs.Nesting.{nests}
 use Rattle.dr_gran.specs.Reading.{gran_of}
 use Rattle.dr_spec.specs.declared.granularity_spec.GranularitySpec.{GranularitySpec}
-use Rattle.dr_spec.specs.GranularitySpec.{is_chunk_length, if_supported, segment_granularity_of, query_granularity_of, uniform, granularity_of, nested}
-use Rattle.dr_spec.specs.Each.{each, each_from}
+use Rattle.dr_spec.specs.GranularitySpec.{if_supported, segment_granularity_of, query_granularity_of, uniform, granularity_of, nested}
+use Rattle.dr_base.specs.Each.{each, each_from}
 use Rattle.dr_spec.specs.DimensionsSpec.{dimension_of, one_at_least, listed_names, dimensions_of}
 use Rattle.dr_spec.specs.MetricsSpec.{kind_of, metric_keys, some_text, input_of, metric_of, metrics_of}
-use Rattle.dr_spec.specs.Columns.{column_names, is_taken, distinct_after, distinct_names, few_columns}
+use Rattle.dr_schema.specs.Columns.{column_names}
+use Rattle.dr_spec.specs.Columns.{is_taken, distinct_after, distinct_names, few_columns}
 use Rattle.dr_spec.specs.TuningConfig.{in_range, limit, limit_in, limits_of}
 use Rattle.dr_spec.specs.SpecOf.{spec_of, inner_of, data_schema_of, source_of, no_transform, only_listed_keys}
-use Rattle.dr_spec.specs.WellFormed.{AreDistinct, HasItsField, AreInRange, IsWellFormed, is_count}
+use Rattle.dr_schema.specs.WellFormed.{AreDistinct, HasItsField, AreInRange, IsWellFormed, is_count, is_chunk_length}
 use Rattle.dr_spec.proofs.Steps.{through, Ok-passed}
 
 -- a test that refuses did not

@@ -1,19 +1,9 @@
--- The columns of a data source: `__time`, the dimensions and the metrics (Apache Druid documentation, schema model).
-use Rattle.std.specs.Prelude.{ℕ, List, [], ◌∷◌, ◌++◌, length, map, nat_lt, ◌||◌, Bool, bytes_eq, codes, Result, Ok, Err, if◌then◌else◌}
+-- Which columns a data source may have (Apache Druid documentation, schema model; how many is this project's own).
+use Rattle.std.specs.Prelude.{ℕ, List, [], ◌∷◌, ◌++◌, length, nat_lt, ◌||◌, Bool, bytes_eq, codes, Result, Ok, Err, if◌then◌else◌}
 use Rattle.std.specs.List.{list_any}
 use Rattle.dr_spec.specs.declared.spec_error.SpecError.{SpecError}
 use Rattle.dr_spec.specs.declared.spec_error.SpecError.TheVariants.{DuplicateName, TooManyColumns}
-use Rattle.dr_agg.specs.declared.kind.Kind.{Kind}
-use Rattle.dr_spec.specs.declared.metric.Metric.{Metric}
-use Rattle.dr_spec.specs.declared.schema.Schema.{Schema}
-
--- the names of the dimensions, and then of the metrics
-abbrev pub column_names : List (List ℕ) → List Metric → List (List ℕ)
-column_names dimensions metrics = dimensions ++ map (λ m. m.name) metrics
-
--- how the column of each metric is combined
-abbrev pub kinds_of : Schema → List Kind
-kinds_of schema = map (λ m. m.kind) schema.metrics
+use Rattle.dr_schema.specs.declared.metric.Metric.{Metric}
 
 -- the name stood before, or is that of the time
 abbrev pub is_taken : List ℕ → List (List ℕ) → Bool

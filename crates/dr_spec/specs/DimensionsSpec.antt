@@ -6,7 +6,7 @@ use Rattle.dr_base.specs.Reading.{◌>>=◌, passed}
 use Rattle.dr_base.specs.Fields.{as_list, text_field}
 use Rattle.dr_spec.specs.declared.spec_error.SpecError.{SpecError}
 use Rattle.dr_spec.specs.declared.spec_error.SpecError.TheVariants.{Base, UnsupportedDimension, NoDimensions}
-use Rattle.dr_spec.specs.Each.{each}
+use Rattle.dr_base.specs.Each.{each}
 use Rattle.dr_spec.specs.Sections.{section, field_in, text_or, not_empty}
 
 abbrev pub text_type : List ℕ → Result (Unit {0}) SpecError

@@ -6,6 +6,7 @@ use Rattle.dr_gran.specs.declared.gran.Gran.{Gran}
 use Rattle.dr_gran.specs.declared.gran.Gran.TheVariants.{AllTime, Millisecond, Day}
 use Rattle.dr_gran.specs.declared.gran_error.GranError.TheVariants.{UnsupportedGranularity}
 use Rattle.dr_gran.specs.Step.{is_all}
+use Rattle.dr_schema.specs.WellFormed.{is_chunk_length}
 use Rattle.dr_gran.specs.Nesting.{nests}
 use Rattle.dr_gran.specs.Reading.{gran_of}
 use Rattle.dr_base.specs.Reading.{◌>>=◌, passed}
@@ -32,12 +33,6 @@ written_name (number n) = []
 written_name (string s) = s
 written_name (array ds) = []
 written_name (object ms) = text_of (field (codes "type") (object ms))
-
--- a chunk is as long as a second up to a year
-abbrev pub is_chunk_length : Gran → Bool
-is_chunk_length AllTime = false
-is_chunk_length Millisecond = false
-is_chunk_length _ = true
 
 -- a granularity that is supported where it stands, or the refusal of its name
 abbrev pub if_supported : Bool → Gran → Data → Result Gran SpecError

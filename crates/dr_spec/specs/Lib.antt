@@ -1,7 +1,6 @@
 pub mod Refusal
 pub mod Sections
 pub mod Leniency
-pub mod Each
 pub mod TimestampSpec
 pub mod DimensionsSpec
 pub mod MetricsSpec
@@ -9,4 +8,3 @@ pub mod GranularitySpec
 pub mod TuningConfig
 pub mod Columns
 pub mod SpecOf
-pub mod WellFormed

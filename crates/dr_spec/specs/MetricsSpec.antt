@@ -7,10 +7,10 @@ use Rattle.dr_base.specs.Reading.{◌>>=◌, passed}
 use Rattle.dr_base.specs.Fields.{as_object, text_field}
 use Rattle.dr_spec.specs.declared.spec_error.SpecError.{SpecError}
 use Rattle.dr_spec.specs.declared.spec_error.SpecError.TheVariants.{Base, UnsupportedMetric}
-use Rattle.dr_spec.specs.declared.metric.Metric.{Metric}
+use Rattle.dr_schema.specs.declared.metric.Metric.{Metric}
 use Rattle.dr_spec.specs.Sections.{items_of_field, not_empty}
 use Rattle.dr_spec.specs.Leniency.{only_listed}
-use Rattle.dr_spec.specs.Each.{each}
+use Rattle.dr_base.specs.Each.{each}
 
 -- how the columns of a type are combined
 unfoldable pub kind_of : List ℕ → Result Kind SpecError

@@ -7,14 +7,15 @@ use Rattle.dr_base.specs.Json.{json_of}
 use Rattle.dr_base.specs.Unlisted.{is_empty_object}
 use Rattle.dr_spec.specs.declared.spec_error.SpecError.{SpecError}
 use Rattle.dr_spec.specs.declared.spec_error.SpecError.TheVariants.{Base, Unsupported}
-use Rattle.dr_spec.specs.declared.schema.Schema.{Schema}
+use Rattle.dr_schema.specs.declared.schema.Schema.{Schema}
 use Rattle.dr_spec.specs.Sections.{not_empty}
 use Rattle.dr_spec.specs.Leniency.{only_listed, only_listed_in}
 use Rattle.dr_spec.specs.TimestampSpec.{timestamp_of, timestamp_keys}
 use Rattle.dr_spec.specs.DimensionsSpec.{dimensions_of, dimensions_keys}
 use Rattle.dr_spec.specs.MetricsSpec.{metrics_of}
 use Rattle.dr_spec.specs.GranularitySpec.{granularity_of, nested, granularity_keys}
-use Rattle.dr_spec.specs.Columns.{column_names, distinct_names, few_columns}
+use Rattle.dr_schema.specs.Columns.{column_names}
+use Rattle.dr_spec.specs.Columns.{distinct_names, few_columns}
 use Rattle.dr_spec.specs.TuningConfig.{limits_of}
 
 abbrev pub under_spec : Data → Option Data → Result Data SpecError

@@ -4,8 +4,8 @@ use Rattle.serde_json.specs.Data.{Data}
 use Rattle.dr_base.specs.Reading.{◌>>=◌, passed}
 use Rattle.dr_spec.specs.declared.spec_error.SpecError.{SpecError}
 use Rattle.dr_spec.specs.declared.spec_error.SpecError.TheVariants.{Base, Unsupported}
-use Rattle.dr_spec.specs.declared.time_format.TimeFormat.{TimeFormat}
-use Rattle.dr_spec.specs.declared.time_format.TimeFormat.TheVariants.{Iso, Millis, Posix, Auto}
+use Rattle.dr_schema.specs.declared.time_format.TimeFormat.{TimeFormat}
+use Rattle.dr_schema.specs.declared.time_format.TimeFormat.TheVariants.{Iso, Millis, Posix, Auto}
 use Rattle.dr_spec.specs.declared.timestamp_spec.TimestampSpec.{TimestampSpec}
 use Rattle.dr_spec.specs.Sections.{section, text_or}
 

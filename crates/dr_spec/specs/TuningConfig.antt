@@ -6,7 +6,7 @@ use Rattle.dr_base.specs.declared.base_error.BaseError.{BaseError}
 use Rattle.dr_base.specs.declared.base_error.BaseError.TheVariants.{WrongKind}
 use Rattle.dr_base.specs.Reading.{◌>>=◌}
 use Rattle.dr_base.specs.Fields.{as_int}
-use Rattle.dr_spec.specs.declared.limits.Limits.{Limits}
+use Rattle.dr_schema.specs.declared.limits.Limits.{Limits}
 use Rattle.dr_spec.specs.Sections.{section, field_in}
 
 -- a number from 1 up to the greatest

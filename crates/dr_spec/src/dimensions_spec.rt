@@ -1,6 +1,6 @@
 ghost use Rattle.serde_json.specs.View.{view, items_view};
 ghost use Rattle.dr_spec.specs.Refusal.{Gives};
-ghost use Rattle.dr_spec.specs.Each.{each};
+ghost use Rattle.dr_base.specs.Each.{each};
 ghost use Rattle.dr_spec.specs.DimensionsSpec.{text_type, dimension_of, dimensions_of};
 
 use crate::sections::{field_in, not_empty, section, text_or};

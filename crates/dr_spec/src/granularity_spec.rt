@@ -1,8 +1,9 @@
 ghost use Rattle.std.specs.Prelude.{◌≡◌, option_map};
 ghost use Rattle.std.specs.Str.{str_eq_ignore_ascii_case};
 ghost use Rattle.serde_json.specs.View.{view};
+ghost use Rattle.dr_schema.specs.WellFormed.{is_chunk_length};
 ghost use Rattle.dr_spec.specs.Refusal.{Gives};
-ghost use Rattle.dr_spec.specs.GranularitySpec.{text_of, written_name, is_chunk_length, if_supported, segment_granularity_of, query_granularity_of, uniform, granularity_of, nested};
+ghost use Rattle.dr_spec.specs.GranularitySpec.{text_of, written_name, if_supported, segment_granularity_of, query_granularity_of, uniform, granularity_of, nested};
 
 use crate::sections::{bool_or, field_in, section, text_or};
 use crate::spec_error::SpecError;

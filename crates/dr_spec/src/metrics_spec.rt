@@ -1,15 +1,14 @@
 ghost use Rattle.serde_json.specs.View.{view, items_view};
 ghost use Rattle.dr_spec.specs.Refusal.{Gives};
-ghost use Rattle.dr_spec.specs.Each.{each};
+ghost use Rattle.dr_base.specs.Each.{each};
 ghost use Rattle.dr_spec.specs.MetricsSpec.{kind_of, input_of, metric_of, metrics_of};
 
 use crate::leniency::only_listed;
-use crate::metric::Metric;
-use crate::metrics::Metrics;
 use crate::sections::{items_of_field, not_empty};
 use crate::spec_error::SpecError;
 use dr_agg::Kind;
 use dr_base::{Text, object, text_field};
+use dr_schema::{Metric, Metrics};
 use serde_json::Value;
 use std::alloc::Global;
 

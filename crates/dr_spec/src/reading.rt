@@ -8,18 +8,18 @@ use crate::dimensions_spec::dimensions;
 use crate::granularity_spec::{granularity, nested};
 use crate::leniency::{only_listed, only_listed_in};
 use crate::metrics_spec::metrics;
-use crate::schema::Schema;
 use crate::sections::not_empty;
 use crate::spec_error::SpecError;
 use crate::timestamp_spec::timestamp;
 use crate::tuning_config::limits;
 use dr_base::{Text, field, object, parse_json, required, text_field};
+use dr_schema::SchemaFields;
 use serde_json::Value;
 use std::alloc::Global;
 
-/// The schema that the bytes spell, or the first refusal.
+/// The fields of the schema that the bytes spell, or the first refusal.
 #[tactic(auto, unfolding(crate::specs::SpecOf::spec_of))]
-pub fn read_schema(alloc: Global, bytes: &[u8]) -> Result<Schema, SpecError>
+pub fn read_schema(alloc: Global, bytes: &[u8]) -> Result<SchemaFields, SpecError>
     ensures { Gives (λ s. s) result (spec_of bytes.now) }
 {
     let text = parse_json(alloc, bytes)?;
@@ -36,7 +36,7 @@ pub fn read_schema(alloc: Global, bytes: &[u8]) -> Result<Schema, SpecError>
     few_columns(&dimensions, &metrics)?;
     only_listed_keys(alloc, value)?;
     let limits = limits(alloc, spec)?;
-    Ok(Schema {
+    Ok(SchemaFields {
         data_source: source,
         time_column: timestamp.column,
         time_format: timestamp.format,

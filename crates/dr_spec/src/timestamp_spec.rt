@@ -4,8 +4,8 @@ ghost use Rattle.dr_spec.specs.TimestampSpec.{format_of, timestamp_of};
 
 use crate::sections::{section, text_or};
 use crate::spec_error::SpecError;
-use crate::time_format::TimeFormat;
 use dr_base::Text;
+use dr_schema::TimeFormat;
 use serde_json::Value;
 use std::alloc::Global;
 

@@ -3,9 +3,9 @@ ghost use Rattle.serde_json.specs.View.{view};
 ghost use Rattle.dr_base.specs.Fields.{Gives};
 ghost use Rattle.dr_spec.specs.TuningConfig.{in_range, limit, limits_of};
 
-use crate::limits::Limits;
 use crate::sections::{field_in, section};
 use dr_base::{BaseError, int_value, wrong_kind};
+use dr_schema::Limits;
 use serde_json::Value;
 use std::alloc::Global;
 

@@ -7,7 +7,7 @@ use Rattle.std.specs.Ordering.{int_cmp, int_eq, match_ordering}
 use Rattle.std.proofs.lemmas.Bool.Decides.{nat_tests}
 use Rattle.std.proofs.lemmas.List.{drop_all, length-take, length-drop, take-append-drop, drop-drop}
 use Rattle.dr_base.specs.declared.event.Event.{Event}
-use Rattle.dr_spec.specs.declared.schema.Schema.{Schema}
+use Rattle.dr_schema.specs.declared.schema.Schema.{Schema}
 use Rattle.dr_merge.specs.declared.job.Job.{Job}
 use Rattle.dr_timeline.specs.Chunks.{chunk, chunk_list, chunks, with_value}
 use Rattle.dr_timeline.specs.AtKey.{item_at}

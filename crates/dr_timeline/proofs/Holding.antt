@@ -8,8 +8,8 @@ use Rattle.dr_base.specs.declared.event.Event.{Event}
 use Rattle.dr_base.specs.declared.row.Row.{Row}
 use Rattle.dr_agg.specs.Rollup.{add_row, rollup, rollup_onto, all_rows, join}
 use Rattle.dr_agg.proofs.RollupLaws.{rollup_onto_push, rollup-all_rows}
-use Rattle.dr_spec.specs.Columns.{kinds_of}
-use Rattle.dr_spec.specs.declared.schema.Schema.{Schema}
+use Rattle.dr_schema.specs.Columns.{kinds_of}
+use Rattle.dr_schema.specs.declared.schema.Schema.{Schema}
 use Rattle.dr_rollup.specs.OpenRows.{OpenRows, rows_with, with_rows}
 use Rattle.dr_timeline.specs.declared.chunk.Chunk.{Chunk}
 use Rattle.dr_merge.specs.declared.fragment.Fragment.{Fragment}

@@ -8,9 +8,9 @@ use Rattle.std.proofs.lemmas.Bool.Decides.{nat_tests}
 use Rattle.std.proofs.lemmas.List.{map-append, drop_all, length-drop, length_push}
 use Rattle.dr_base.specs.declared.event.Event.{Event}
 use Rattle.dr_agg.specs.Rollup.{rollup_onto}
-use Rattle.dr_events.specs.Fits.{FitsSchema}
-use Rattle.dr_spec.specs.WellFormed.{IsWellFormed}
-use Rattle.dr_spec.specs.declared.schema.Schema.{Schema}
+use Rattle.dr_schema.specs.Fits.{FitsSchema}
+use Rattle.dr_schema.specs.WellFormed.{IsWellFormed}
+use Rattle.dr_schema.specs.declared.schema.Schema.{Schema}
 use Rattle.dr_rollup.specs.OpenRows.{OpenRows}
 use Rattle.dr_timeline.specs.declared.chunk.Chunk.{Chunk}
 use Rattle.dr_rollup.specs.Unrolled.{rolled_up}

@@ -17,7 +17,7 @@ use Rattle.dr_agg.specs.Rollup.{joined}
 use Rattle.dr_agg.proofs.ColumnLaws.{combine_of-assoc, combine_of-comm}
 use Rattle.dr_agg.proofs.KeyOrder.{same_key}
 use Rattle.dr_agg.proofs.FoldLaws.{column-matched, zeros}
-use Rattle.dr_spec.specs.declared.schema.Schema.{Schema}
+use Rattle.dr_schema.specs.declared.schema.Schema.{Schema}
 use Rattle.dr_time.specs.Union.{union_holds}
 use Rattle.dr_query.specs.declared.aggregation.Aggregation.{Aggregation}
 use Rattle.dr_query.specs.declared.column.Column.{Column}
@@ -28,7 +28,7 @@ use Rattle.dr_query.specs.Groups.{wider, span_of_row, span, bucket, filled, in_b
 use Rattle.dr_query.specs.Answer.{answer, answer_of}
 use Rattle.dr_query.specs.Matching.{matches_optional, matches_in, aggregation_matches, is_matching}
 use Rattle.dr_rollup.specs.Unrolled.{unrolled, rolled_up}
-use Rattle.dr_spec.specs.Columns.{kinds_of}
+use Rattle.dr_schema.specs.Columns.{kinds_of}
 use Rattle.dr_timeline.specs.Chunks.{chunk, chunk_list, chunks}
 use Rattle.dr_timeline.specs.RawAnswer.{raw_answer}
 use Rattle.dr_timeline.specs.State.{Range, Cut, AreCuts, IsTiled, events_of, open_from}

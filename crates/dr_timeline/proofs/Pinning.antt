@@ -5,7 +5,7 @@ use Rattle.std.proofs.lemmas.List.{map-append, take_all, length-drop}
 use Rattle.dr_base.specs.declared.event.Event.{Event}
 use Rattle.dr_base.specs.declared.row.Row.{Row}
 use Rattle.dr_agg.specs.Rollup.{all_rows}
-use Rattle.dr_spec.specs.declared.schema.Schema.{Schema}
+use Rattle.dr_schema.specs.declared.schema.Schema.{Schema}
 use Rattle.dr_rollup.specs.OpenRows.{OpenRows}
 use Rattle.dr_timeline.specs.declared.chunk.Chunk.{Chunk}
 use Rattle.dr_merge.specs.declared.fragment.Fragment.{Fragment}

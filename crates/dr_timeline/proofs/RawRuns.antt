@@ -7,8 +7,8 @@ use Rattle.std.proofs.lemmas.Bool.Decides.{nat_tests}
 use Rattle.dr_base.specs.declared.event.Event.{Event}
 use Rattle.dr_base.specs.declared.row.Row.{Row}
 use Rattle.dr_agg.specs.Rollup.{rollup_onto}
-use Rattle.dr_spec.specs.declared.schema.Schema.{Schema}
-use Rattle.dr_spec.specs.WellFormed.{IsWellFormed}
+use Rattle.dr_schema.specs.declared.schema.Schema.{Schema}
+use Rattle.dr_schema.specs.WellFormed.{IsWellFormed}
 use Rattle.dr_query.specs.declared.query.Query.{Query}
 use Rattle.dr_query.specs.Answer.{answer}
 use Rattle.dr_query.specs.Matching.{is_matching}

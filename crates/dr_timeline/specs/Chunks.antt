@@ -3,7 +3,7 @@ use Rattle.std.specs.Prelude.{ℤ, List, [], ◌∷◌, filter}
 use Rattle.std.specs.Ordering.{int_cmp, int_eq, match_ordering}
 use Rattle.dr_base.specs.declared.event.Event.{Event}
 use Rattle.dr_gran.specs.Truncation.{truncation}
-use Rattle.dr_spec.specs.declared.schema.Schema.{Schema}
+use Rattle.dr_schema.specs.declared.schema.Schema.{Schema}
 
 -- the chunk of an event, by the start of its bucket; the event's time is not truncated to the query granularity
 abbrev pub chunk : Schema → Event → ℤ

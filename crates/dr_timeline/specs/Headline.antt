@@ -1,7 +1,7 @@
 -- What the answers of a run are, in terms of its steps and replies alone.
 use Rattle.std.specs.Prelude.{◌≡◌, ◌⊎◌, true, List, [], ◌∷◌, ◌++◌, Option, Some, None, slice_get}
 use Rattle.dr_base.specs.declared.event.Event.{Event}
-use Rattle.dr_spec.specs.declared.schema.Schema.{Schema}
+use Rattle.dr_schema.specs.declared.schema.Schema.{Schema}
 use Rattle.dr_query.specs.declared.query.Query.{Query}
 use Rattle.dr_query.specs.Matching.{is_matching}
 use Rattle.dr_timeline.specs.declared.step.Step.{Step}

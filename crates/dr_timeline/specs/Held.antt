@@ -5,9 +5,9 @@ use Rattle.std.specs.Ordering.{int_cmp}
 use Rattle.std.specs.declared.cmp.Ordering.TheVariants.{Less, Equal, Greater}
 use Rattle.dr_base.specs.declared.event.Event.{Event}
 use Rattle.dr_base.specs.declared.row.Row.{Row}
-use Rattle.dr_events.specs.Fits.{FitsSchema}
-use Rattle.dr_spec.specs.WellFormed.{IsWellFormed}
-use Rattle.dr_spec.specs.declared.schema.Schema.{Schema}
+use Rattle.dr_schema.specs.Fits.{FitsSchema}
+use Rattle.dr_schema.specs.WellFormed.{IsWellFormed}
+use Rattle.dr_schema.specs.declared.schema.Schema.{Schema}
 use Rattle.dr_timeline.specs.declared.chunk.Chunk.{Chunk}
 use Rattle.dr_merge.specs.declared.job.Job.{Job}
 use Rattle.dr_timeline.specs.declared.place.Place.{Place}

@@ -1,7 +1,7 @@
 -- The answer to a query over raw events, one by one.
 use Rattle.std.specs.Prelude.{ℕ, List, Result, map}
 use Rattle.dr_base.specs.declared.event.Event.{Event}
-use Rattle.dr_spec.specs.declared.schema.Schema.{Schema}
+use Rattle.dr_schema.specs.declared.schema.Schema.{Schema}
 use Rattle.dr_query.specs.declared.query.Query.{Query}
 use Rattle.dr_query.specs.declared.answer_error.AnswerError.{AnswerError}
 use Rattle.dr_query.specs.Answer.{answer}

@@ -1,8 +1,8 @@
 -- A run of the core: steps, one after another, with a reply to each.
 use Rattle.std.specs.Prelude.{◌≡◌, ◌⊎◌, ℕ, List, [], ◌∷◌, ◌++◌, length, Option, Some, None, Result, Ok, Err, slice_get}
 use Rattle.std.specs.List.{AllByRecursion}
-use Rattle.dr_events.specs.Fits.{FitsSchema}
-use Rattle.dr_spec.specs.declared.schema.Schema.{Schema}
+use Rattle.dr_schema.specs.Fits.{FitsSchema}
+use Rattle.dr_schema.specs.declared.schema.Schema.{Schema}
 use Rattle.dr_query.specs.declared.answer_error.AnswerError.{AnswerError}
 use Rattle.dr_query.specs.Answer.{answer}
 use Rattle.dr_query.specs.AnswerRefusal as no_answer

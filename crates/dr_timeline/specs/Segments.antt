@@ -3,7 +3,7 @@ use Rattle.std.specs.Prelude.{ℕ, ℤ, ◌-◌, nat_lt, true, false, List, [], 
 use Rattle.std.specs.List.{flat_map}
 use Rattle.dr_base.specs.declared.event.Event.{Event}
 use Rattle.dr_base.specs.declared.row.Row.{Row}
-use Rattle.dr_spec.specs.declared.schema.Schema.{Schema}
+use Rattle.dr_schema.specs.declared.schema.Schema.{Schema}
 use Rattle.dr_timeline.specs.declared.range_info.RangeInfo.{RangeInfo}
 use Rattle.dr_rollup.specs.Unrolled.{rolled_up}
 use Rattle.dr_timeline.specs.Chunks.{chunk_list}

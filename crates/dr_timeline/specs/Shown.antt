@@ -2,9 +2,9 @@
 use Rattle.std.specs.Prelude.{◌≡◌, List, map}
 use Rattle.std.specs.List.{AllByRecursion}
 use Rattle.dr_base.specs.declared.event.Event.{Event}
-use Rattle.dr_events.specs.Fits.{FitsSchema}
-use Rattle.dr_spec.specs.WellFormed.{IsWellFormed}
-use Rattle.dr_spec.specs.declared.schema.Schema.{Schema}
+use Rattle.dr_schema.specs.Fits.{FitsSchema}
+use Rattle.dr_schema.specs.WellFormed.{IsWellFormed}
+use Rattle.dr_schema.specs.declared.schema.Schema.{Schema}
 use Rattle.dr_merge.specs.declared.fragment.Fragment.{Fragment}
 use Rattle.dr_timeline.specs.declared.range_info.RangeInfo.{RangeInfo}
 use Rattle.dr_rollup.specs.Unrolled.{rolled_up}

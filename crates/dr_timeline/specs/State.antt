@@ -4,7 +4,7 @@ use Rattle.std.specs.Prelude.{◌≡◌, ℕ, ℤ, ◌-◌, ◌<◌, ◌≤◌, 
 use Rattle.std.specs.List.{AllByRecursion}
 use Rattle.std.specs.Ordering.{int_cmp, match_ordering}
 use Rattle.dr_base.specs.declared.event.Event.{Event}
-use Rattle.dr_spec.specs.declared.schema.Schema.{Schema}
+use Rattle.dr_schema.specs.declared.schema.Schema.{Schema}
 use Rattle.dr_timeline.specs.Chunks.{chunk_list, chunks}
 
 -- a sealed range [from, to) of a chunk's list, with the number of seals and commits before it, and its version, which is

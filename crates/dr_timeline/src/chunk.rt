@@ -1,5 +1,5 @@
 ghost use Rattle.std.specs.Prelude.{◌≡◌, ◌<◌, ◌≤◌, ◌++◌, IfOk, OnOk, OnErr};
-ghost use Rattle.dr_events.specs.Fits.{FitsSchema};
+ghost use Rattle.dr_schema.specs.Fits.{FitsSchema};
 ghost use Rattle.dr_timeline.specs.State.{open_from};
 ghost use Rattle.dr_timeline.specs.Held.{no_chunk, with_one, grown, is_full, seals_of, with_open_sealed, with_sealed_rows, has_open, open_info_of, open_fragment, ranges_of, infos_of_chunk, fragments_of_chunk};
 
@@ -9,7 +9,7 @@ use crate::sealed_range::SealedRange;
 use crate::sealed_ranges::SealedRanges;
 use dr_base::Event;
 use dr_merge::{Fragment, Fragments, SharedFragment};
-use dr_spec::Schema;
+use dr_schema::Schema;
 use std::alloc::{AllocError, Global};
 
 /// A chunk of events: the start of its bucket of the segment granularity, in milliseconds since the epoch, how many

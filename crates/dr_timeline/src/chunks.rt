@@ -2,8 +2,8 @@ ghost use Rattle.std.specs.Prelude.{◌≡◌, ◌+◌, ◌<◌, ◌≤◌, ◌+
 ghost use Rattle.std.specs.List.{AllByRecursion, flat_map};
 ghost use Rattle.std.specs.List.Sorted.{IsStrictlySortedBy};
 ghost use Rattle.std.specs.Ordering.{int_cmp};
-ghost use Rattle.dr_events.specs.Fits.{FitsSchema};
-ghost use Rattle.dr_spec.specs.WellFormed.{IsWellFormed};
+ghost use Rattle.dr_schema.specs.Fits.{FitsSchema};
+ghost use Rattle.dr_schema.specs.WellFormed.{IsWellFormed};
 ghost use Rattle.dr_timeline.specs.declared.chunk.Chunk.{Chunk};
 ghost use Rattle.dr_timeline.specs.Held.{grown, is_full, seals_of, at_start, chunk_at, changed_at, with_open_sealed, with_range, with_one, IsPlace, infos_of_chunk, fragments_of_chunk};
 
@@ -13,7 +13,7 @@ use crate::range_info::RangeInfo;
 use crate::sealed_range::SealedRange;
 use dr_base::Event;
 use dr_merge::Fragments;
-use dr_spec::Schema;
+use dr_schema::Schema;
 use std::alloc::{AllocError, Global};
 use std::marker::Model;
 

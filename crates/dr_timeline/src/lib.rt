@@ -14,8 +14,6 @@ mod place;
 mod planned;
 mod range_info;
 mod reply;
-#[cfg(test)]
-mod run_tests;
 mod sealed_range;
 mod sealed_ranges;
 mod snapshot;
@@ -23,8 +21,6 @@ mod span;
 mod stats;
 mod step;
 mod stream;
-#[cfg(test)]
-mod tests;
 mod timeline;
 mod timeline_error;
 mod unrolled;

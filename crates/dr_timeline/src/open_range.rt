@@ -1,12 +1,12 @@
 ghost use Rattle.std.specs.Prelude.{◌≡◌, ◌<◌, ◌≤◌, [], ◌↔◌, IsTrue, nat_lt, length, IfOk, OnOk, OnErr};
-ghost use Rattle.dr_events.specs.Fits.{FitsSchema};
+ghost use Rattle.dr_schema.specs.Fits.{FitsSchema};
 ghost use Rattle.dr_rollup.specs.OpenRows.{rows_with, with_rows};
 ghost use Rattle.dr_timeline.specs.Held.{index_of};
 
 use dr_base::Event;
 use dr_merge::{Fragment, Rows, SharedFragment};
 use dr_rollup::{OpenIndex, RollupError};
-use dr_spec::Schema;
+use dr_schema::Schema;
 use std::alloc::{AllocError, Global};
 use std::marker::Model;
 
@@ -38,7 +38,7 @@ impl OpenRange {
         ensures { IfOk result (λ range. range ≡ index_of schema.now []) }
     {
         Ok(OpenRange {
-            index: OpenIndex::new(alloc, schema, schema.limits.max_rows_in_memory)?,
+            index: OpenIndex::new(alloc, schema, schema.limits().max_rows_in_memory)?,
             given: None,
         })
     }

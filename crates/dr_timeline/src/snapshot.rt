@@ -17,7 +17,7 @@ use dr_answer::answer;
 use dr_base::Event;
 use dr_merge::Fragments;
 use dr_query::{AnswerError, Query};
-use dr_spec::Schema;
+use dr_schema::Schema;
 use std::marker::Model;
 
 /// The events that were accepted before a pin, in order, and the ranges that their chunks were cut into. No later step

@@ -8,8 +8,8 @@ ghost use Rattle.dr_base.specs.Reading.{GivesUnless};
 ghost use Rattle.dr_timeline.specs.Noted.{noted, stats};
 ghost use Rattle.dr_merge.specs.Joined.{joined_fragment};
 ghost use Rattle.dr_timeline.specs.Segments.{pinned};
-ghost use Rattle.dr_events.specs.Fits.{FitsSchema};
-ghost use Rattle.dr_spec.specs.WellFormed.{IsWellFormed};
+ghost use Rattle.dr_schema.specs.Fits.{FitsSchema};
+ghost use Rattle.dr_schema.specs.WellFormed.{IsWellFormed};
 
 use crate::chunks::Chunks;
 use crate::outcome::Outcome;
@@ -101,7 +101,7 @@ impl Timeline {
     {
         let schema = self.spec.schema();
         let number = self.stream.len();
-        if number >= schema.limits.max_retained {
+        if number >= schema.limits().max_retained {
             return Err(TimelineError::StreamFull);
         }
         let alloc = self.stream.allocator();
@@ -203,7 +203,7 @@ impl Timeline {
         let Some(place) = place_of_job(self.chunks.as_slice()[i].sealed.as_slice(), job) else {
             return Err(TimelineError::Stale);
         };
-        if self.commits >= self.spec.schema().limits.max_commits {
+        if self.commits >= self.spec.schema().limits().max_commits {
             return Err(TimelineError::CommitsFull);
         }
         let version = least_version(

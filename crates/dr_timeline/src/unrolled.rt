@@ -1,7 +1,6 @@
-ghost use Rattle.std.specs.Prelude.{◌≡◌, IfOk, map, false};
+ghost use Rattle.std.specs.Prelude.{◌≡◌, IfOk, map};
 ghost use Rattle.std.specs.List.{AllByRecursion};
-ghost use Rattle.dr_events.specs.Fits.{FitsSchema};
-ghost use Rattle.dr_gran.specs.Step.{is_all};
+ghost use Rattle.dr_schema.specs.Fits.{FitsSchema};
 ghost use Rattle.dr_time.specs.Instant.{IsInstant};
 ghost use Rattle.dr_rollup.specs.Unrolled.{unrolled};
 ghost use Rattle.dr_timeline.specs.Chunks.{chunk};
@@ -9,7 +8,7 @@ ghost use Rattle.dr_timeline.specs.Chunks.{chunk};
 use crate::stream::Stream;
 use dr_base::{Event, Row};
 use dr_rollup::{columns_of, unrolled_row};
-use dr_spec::Schema;
+use dr_schema::Schema;
 use std::alloc::{AllocError, Global};
 
 /// Events as rows of their own, in their order.
@@ -18,8 +17,7 @@ pub fn unrolled_rows(
     schema: &Schema,
     events: &Stream,
 ) -> Result<Vec<Row>, AllocError>
-    requires kind { is_all schema.now.query_granularity ≡ false }
-    requires events { AllByRecursion (FitsSchema schema.now) events.now.items }
+    requires { AllByRecursion (FitsSchema schema.now) events.now.items }
     ensures { IfOk result (λ rows. rows.items ≡ map (unrolled schema.now) events.now.items) }
 {
     let kinds = columns_of(alloc, schema)?;
@@ -32,9 +30,8 @@ pub fn unrolled_rows(
 
 /// The start of the chunk of an event, in milliseconds since the epoch.
 pub fn chunk_start(schema: &Schema, event: &Event) -> i64
-    requires kind { is_all schema.now.segment_granularity ≡ false }
-    requires time { IsInstant event.now.time }
+    requires { IsInstant event.now.time }
     ensures { result ≡ chunk schema.now event.now }
 {
-    schema.segment_granularity.truncate(event.time)
+    schema.segment_granularity().truncate(event.time)
 }

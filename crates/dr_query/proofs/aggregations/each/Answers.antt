@@ -1,14 +1,15 @@
 use Rattle.std.proofs.lemmas.Result.{err_from_is_err_and}
 use Rattle.serde_json.specs.View.{items_view}
 use Rattle.dr_query.specs.AggregationsOf.{aggregation_of}
-use Rattle.dr_spec.specs.Each.{each}
-use Rattle.dr_query.proofs.MembersRead.{each_from-goes_on, each_from-stops, each_from-ends}
+use Rattle.dr_base.specs.Each.{each}
+use Rattle.dr_query.specs.Refusal.{is_memory}
+use Rattle.dr_base.proofs.ItemsInTurn.{each_from-goes_on, each_from-stops, each_from-ends}
 use Rattle.dr_query.proofs.aggregations.each.Goals as goal
 
 pub returns-in_err-read : goal.returns-in_err-read
 returns-in_err-read c =
     let p = err_from_is_err_and c.from_residual.result c.from_residual.ensures.1 in
-    rw (p.1, p.2) (each_from-stops (aggregation_of c.args.schema.now) c.loop-value.aggregations c.args.values.now c.loop-value.value-index c.value-item.result c.in_err-read.field-0.0 (each (aggregation_of c.args.schema.now) (items_view c.args.values.now)) c.loop-value-test.true c.value-item.is c.loop-value.invariant c.in_err-read.ensures)
+    rw (p.1, p.2) (each_from-stops is_memory (aggregation_of c.args.schema.now) c.loop-value.aggregations c.args.values.now c.loop-value.value-index c.value-item.result c.in_err-read.field-0.0 (each (aggregation_of c.args.schema.now) (items_view c.args.values.now)) c.loop-value-test.true c.value-item.is c.loop-value.invariant c.in_err-read.ensures)
 
 pub returns : goal.returns
 returns c =

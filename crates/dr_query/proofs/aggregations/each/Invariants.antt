@@ -1,7 +1,7 @@
 use Rattle.std.proofs.Common.{◌≡◌, drop}
 use Rattle.serde_json.specs.View.{items_view}
 use Rattle.dr_query.specs.AggregationsOf.{aggregation_of}
-use Rattle.dr_spec.specs.Each.{each_from, each}
+use Rattle.dr_base.specs.Each.{each_from, each}
 use Rattle.dr_query.proofs.aggregations.each.Given as goal
 
 abbrev pub invariant-loop-value : goal.invariant-loop-value

@@ -2,15 +2,16 @@ use Rattle.std.proofs.lemmas.Result.{err_from_is_err_and}
 use Rattle.std.proofs.lemmas.List.Elements.{All-push}
 use Rattle.serde_json.specs.View.{items_view}
 use Rattle.dr_query.specs.IntervalsOf.{interval_in}
-use Rattle.dr_spec.specs.Each.{each}
+use Rattle.dr_base.specs.Each.{each}
 use Rattle.dr_query.specs.Timeseries.{IsPrintable}
-use Rattle.dr_query.proofs.MembersRead.{each_from-goes_on, each_from-stops, each_from-ends}
+use Rattle.dr_query.specs.Refusal.{is_memory}
+use Rattle.dr_base.proofs.ItemsInTurn.{each_from-goes_on, each_from-stops, each_from-ends}
 use Rattle.dr_query.proofs.intervals.each.Goals as goal
 
 pub returns-in_err-interval-clause-value : goal.returns-in_err-interval-clause-value
 returns-in_err-interval-clause-value c =
     let p = err_from_is_err_and c.from_residual.result c.from_residual.ensures.1 in
-    rw (p.1, p.2) (each_from-stops interval_in c.loop-value.intervals.items c.args.values.now c.loop-value.value-index c.value-item.result c.in_err-interval.field-0.0 (each interval_in (items_view c.args.values.now)) c.loop-value-test.true c.value-item.is c.loop-value.invariant.value c.in_err-interval.ensures.value)
+    rw (p.1, p.2) (each_from-stops is_memory interval_in c.loop-value.intervals.items c.args.values.now c.loop-value.value-index c.value-item.result c.in_err-interval.field-0.0 (each interval_in (items_view c.args.values.now)) c.loop-value-test.true c.value-item.is c.loop-value.invariant.value c.in_err-interval.ensures.value)
 
 pub returns-clause-value : goal.returns-clause-value
 returns-clause-value c =

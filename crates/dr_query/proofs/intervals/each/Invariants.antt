@@ -2,7 +2,7 @@ use Rattle.std.proofs.Common.{◌≡◌, drop}
 use Rattle.std.specs.List.{All}
 use Rattle.serde_json.specs.View.{items_view}
 use Rattle.dr_query.specs.IntervalsOf.{interval_in}
-use Rattle.dr_spec.specs.Each.{each_from, each}
+use Rattle.dr_base.specs.Each.{each_from, each}
 use Rattle.dr_query.specs.Timeseries.{IsPrintable}
 use Rattle.dr_query.proofs.intervals.each.Given as goal
 

@@ -1,6 +1,6 @@
 use Rattle.std.proofs.Common.{◌≡◌, drop}
 use Rattle.serde_json.specs.View.{items_view}
-use Rattle.dr_spec.specs.Each.{each, each_from}
+use Rattle.dr_base.specs.Each.{each, each_from}
 use Rattle.dr_spec.specs.DimensionsSpec.{dimension_of}
 use Rattle.dr_spec.proofs.dimensions_spec.names.Given as goal
 

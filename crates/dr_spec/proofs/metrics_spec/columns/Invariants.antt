@@ -1,6 +1,6 @@
 use Rattle.std.proofs.Common.{◌≡◌, drop}
 use Rattle.serde_json.specs.View.{items_view}
-use Rattle.dr_spec.specs.Each.{each, each_from}
+use Rattle.dr_base.specs.Each.{each, each_from}
 use Rattle.dr_spec.specs.MetricsSpec.{metric_of}
 use Rattle.dr_spec.proofs.metrics_spec.columns.Given as goal
 

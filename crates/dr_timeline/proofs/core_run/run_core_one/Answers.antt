@@ -1,6 +1,6 @@
 use Rattle.std.proofs.Common.{subst}
 use Rattle.std.proofs.lemmas.Result.{IfOk-weaker}
-use Rattle.dr_spec.specs.WellFormed.{IsWellFormed}
+use Rattle.dr_schema.specs.WellFormed.{IsWellFormed}
 use Rattle.dr_timeline.specs.Run.{CoreState, RunFrom}
 use Rattle.dr_timeline.specs.Headline.{AnswersAreRaw}
 use Rattle.dr_timeline.proofs.RawRuns.{answers-raw}

@@ -1,12 +1,24 @@
-use Rattle.std.proofs.Common.{◌∙◌, sym, ap, subst, ◌<◌, [], ◌∷◌, ◌++◌, length, map, take, List, arith}
+use Rattle.std.proofs.Common.{ℕ, Some, ◌≡◌, ◌∙◌, sym, ap, subst, ◌<◌, [], ◌∷◌, ◌++◌, length, map, take, List, arith}
 use Rattle.std.proofs.lemmas.List.{map-append}
 use Rattle.std.proofs.lemmas.Option.{get_or_from_slice_get}
+use Rattle.std.specs.Prelude.{slice_get}
+use Rattle.std.specs.List.{AllByRecursion}
 use Rattle.dr_base.specs.declared.event.Event.{Event}
-use Rattle.dr_events.specs.Fits.{FitsSchema}
+use Rattle.dr_schema.specs.declared.schema.Schema.{Schema}
+use Rattle.dr_schema.specs.Fits.{FitsSchema}
 use Rattle.dr_rollup.specs.Unrolled.{unrolled}
 use Rattle.dr_timeline.proofs.Blocks.{taken-more}
 use Rattle.dr_timeline.proofs.Each.{All-at}
 use Rattle.dr_timeline.proofs.unrolled.unrolled_rows.Goals as goal
+
+lies_in : (s : Schema) (es : List Event) (place : ℕ) (e : Event) → place < length es → slice_get es place ≡ Some e → AllByRecursion (FitsSchema s) es → FitsSchema s e
+lies_in s es place e lt at all = subst (FitsSchema s) (get_or_from_slice_get es place e e at) (All-at (FitsSchema s) es place e lt all)
+
+pub unrolled_row-requires : goal.unrolled_row-requires
+unrolled_row-requires c =
+    let test = c.loop-place-test.true in
+    let len = c.len-place-end.ensures in
+    (lies_in c.args.schema.now c.args.events.now.items c.loop-place.place c.at.result.now (omega (arith, test, len)) c.at.ensures c.requires).time
 
 pub loop-place-preserved : goal.loop-place-preserved
 loop-place-preserved c =
@@ -14,9 +26,7 @@ loop-place-preserved c =
     let test = c.loop-place-test.true in
     let len = c.len-place-end.ensures in
     let lt : c.loop-place.place < length es = omega (arith, test, len) in
-    let e : Event = c.at.result.now in
-    let fits : FitsSchema c.args.schema.now e = subst (FitsSchema c.args.schema.now) (get_or_from_slice_get es c.loop-place.place e e c.at.ensures) (All-at (FitsSchema c.args.schema.now) es c.loop-place.place e lt c.requires.events) in
-    let row = c.in_ok-unrolled_row.ensures (c.deref.ensures.value ∙ c.in_ok-kinds.ensures) fits.time in
+    let row = c.in_ok-unrolled_row.ensures (c.deref.ensures.value ∙ c.in_ok-kinds.ensures) in
     c.in_ok-push.ensures.items
     ∙ (λ i. c.loop-place.invariant i ++ row i ∷ [])
     ∙ sym (map-append (unrolled c.args.schema.now) (take c.loop-place.place es) (c.at.result.now ∷ []))

@@ -1,14 +1,13 @@
-use Rattle.std.proofs.Common.{◌≡◌, refl, Bool, true, false, not, [], Result, Ok}
-use Rattle.dr_query.specs.declared.query_error.QueryError.{QueryError}
+use Rattle.std.proofs.Common.{◌≡◌, refl, Bool, true, false, not, []}
 use Rattle.dr_query.specs.Outputs.{output_names, distinct_from}
 use Rattle.dr_query.proofs.DistinctOutputs.{distinct_from-goes_on, distinct_from-stops, distinct_from-ends, AreDistinct-from_distinct_from}
 use Rattle.dr_query.proofs.aggregations.Aggregations.distinct.Goals as goal
 
-stood : (stands is_new : Bool) → ◌≡◌ {A = Result Bool QueryError} (Ok (not stands)) (Ok is_new) → is_new ≡ false → stands ≡ true
+stood : (stands is_new : Bool) → is_new ≡ not stands → is_new ≡ false → stands ≡ true
 stood true is_new told none = refl
 stood false is_new told none = absurd (cc)
 
-did_not_stand : (stands is_new : Bool) → ◌≡◌ {A = Result Bool QueryError} (Ok (not stands)) (Ok is_new) → is_new ≡ true → stands ≡ false
+did_not_stand : (stands is_new : Bool) → is_new ≡ not stands → is_new ≡ true → stands ≡ false
 did_not_stand false is_new told some = refl
 did_not_stand true is_new told some = absurd (cc)
 

@@ -1,7 +1,7 @@
 use Rattle.std.proofs.Common.{◌≡◌, ◌∙◌, ◌<◌, sym, refl, ap, subst, arith, length, true≢false}
 use Rattle.std.specs.Result.{IsErrAnd, is_ok}
 use Rattle.dr_agg.specs.Rollup.{add_row}
-use Rattle.dr_spec.specs.Columns.{kinds_of}
+use Rattle.dr_schema.specs.Columns.{kinds_of}
 use Rattle.dr_rollup.specs.declared.rollup_error.RollupError.TheVariants.{NoMemory, IndexFull}
 use Rattle.dr_rollup.specs.Refusal.{number_of}
 use Rattle.dr_rollup.specs.Unrolled.{unrolled}

@@ -2,7 +2,7 @@ use Rattle.std.proofs.Common.{◌≡◌, Ok, Err, map, IfOk}
 use Rattle.std.specs.List.Sorted.{IsSortedBy, IsStableBy}
 use Rattle.std.specs.Ordering.{is_lt}
 use Rattle.dr_base.specs.Order.{key_cmp}
-use Rattle.dr_spec.specs.Columns.{kinds_of}
+use Rattle.dr_schema.specs.Columns.{kinds_of}
 use Rattle.dr_rollup.specs.Coding.{entries_of, row_of}
 use Rattle.dr_rollup.specs.Sound.{rows_of}
 use Rattle.dr_rollup.proofs.Rows.{sorted-rollup}

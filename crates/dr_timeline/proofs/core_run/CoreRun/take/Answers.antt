@@ -1,6 +1,6 @@
 use Rattle.std.proofs.Common.{◌∙◌, sym, subst, take}
 use Rattle.std.proofs.lemmas.List.{take_more}
-use Rattle.dr_spec.specs.declared.schema.Schema.{Schema}
+use Rattle.dr_schema.specs.declared.schema.Schema.{Schema}
 use Rattle.dr_timeline.proofs.Each.{All-at}
 use Rattle.dr_timeline.proofs.Running.{run_more, moves-schema}
 use Rattle.dr_timeline.specs.Run.{FitsStep}

@@ -1,6 +1,6 @@
 use Rattle.std.proofs.Common.{◌<◌, length, arith}
 use Rattle.std.proofs.lemmas.Bool.Decides.{nat_tests}
-use Rattle.dr_spec.specs.Columns.{kinds_of}
+use Rattle.dr_schema.specs.Columns.{kinds_of}
 use Rattle.dr_rollup.specs.Unrolled.{unrolled}
 use Rattle.dr_rollup.specs.OpenRows.{rows_with}
 use Rattle.dr_timeline.proofs.Lengths.{length-add_row}

@@ -1,8 +1,8 @@
 use Rattle.std.proofs.Common.{◌≡◌, ◌++◌, ◌∷◌, [], ◌∙◌, sym, ap, subst, ℕ, Ok, w64, FitsSigned, rules, arith, length, ◌<◌, ◌+◌, List}
 use Rattle.std.proofs.lemmas.Int.{to_z-of_z}
 use Rattle.dr_base.specs.declared.event.Event.{Event}
-use Rattle.dr_events.specs.Fits.{FitsSchema}
-use Rattle.dr_spec.specs.declared.schema.Schema.{Schema}
+use Rattle.dr_schema.specs.Fits.{FitsSchema}
+use Rattle.dr_schema.specs.declared.schema.Schema.{Schema}
 use Rattle.dr_timeline.specs.State.{State}
 use Rattle.dr_timeline.specs.Steps.{accepted}
 use Rattle.dr_timeline.proofs.Keeping.{keeps-grown, state-grown, chunks-fit, rising-starts}

@@ -10,7 +10,7 @@ pub struct Metrics(Vec<Metric>);
 
 impl Model for Metrics {
     ghost use Rattle.std.specs.Prelude.{List};
-    ghost use Rattle.dr_spec.specs.declared.metric.Metric.{Metric};
+    ghost use Rattle.dr_schema.specs.declared.metric.Metric.{Metric};
 
     ghost Value = { List Metric };
 

@@ -1,14 +1,15 @@
--- What holds of each schema that is read.
+-- What holds of each schema (Apache Druid documentation, ingestion spec; the limits are this project's own).
 use Rattle.std.specs.Prelude.{◌≡◌, ◌≢◌, ◌≤◌, ℕ, List, length, codes, All, AllPairs, Bool, true, false, is_none}
 use Rattle.dr_agg.specs.declared.kind.Kind.{Kind}
 use Rattle.dr_agg.specs.declared.kind.Kind.TheVariants.{Count, LongSum, LongMin, LongMax}
+use Rattle.dr_gran.specs.declared.gran.Gran.{Gran}
+use Rattle.dr_gran.specs.declared.gran.Gran.TheVariants.{AllTime, Millisecond}
 use Rattle.dr_gran.specs.Step.{is_all}
 use Rattle.dr_gran.specs.Nesting.{nests}
-use Rattle.dr_spec.specs.declared.limits.Limits.{Limits}
-use Rattle.dr_spec.specs.declared.metric.Metric.{Metric}
-use Rattle.dr_spec.specs.declared.schema.Schema.{Schema}
-use Rattle.dr_spec.specs.Columns.{column_names}
-use Rattle.dr_spec.specs.GranularitySpec.{is_chunk_length}
+use Rattle.dr_schema.specs.declared.limits.Limits.{Limits}
+use Rattle.dr_schema.specs.declared.metric.Metric.{Metric}
+use Rattle.dr_schema.specs.declared.schema_fields.SchemaFields.{SchemaFields}
+use Rattle.dr_schema.specs.Columns.{column_names}
 
 -- no name stands twice, and none is that of the time
 pub record AreDistinct (names : List (List ℕ)) : Type 0 where
@@ -25,6 +26,12 @@ is_count LongMax = false
 abbrev pub HasItsField : Metric → Type 0
 HasItsField m = is_none m.field ≡ is_count m.kind
 
+-- a chunk is as long as a second up to a year
+abbrev pub is_chunk_length : Gran → Bool
+is_chunk_length AllTime = false
+is_chunk_length Millisecond = false
+is_chunk_length _ = true
+
 -- each limit lies in its range
 pub record AreInRange (l : Limits) : Type 0 where
   pub some_rows : 1 ≤ l.max_rows_in_memory
@@ -38,7 +45,7 @@ pub record AreInRange (l : Limits) : Type 0 where
 
 -- the columns are distinct and not too many, each metric but a count reads a field, times are truncated within their chunk,
 -- and the limits are in their ranges
-pub record IsWellFormed (s : Schema) : Type 0 where
+pub record IsWellFormed (s : SchemaFields) : Type 0 where
   pub distinct : AreDistinct (column_names s.dimensions s.metrics)
   pub some_dimension : 1 ≤ length s.dimensions
   pub few_dimensions : length s.dimensions ≤ 64

@@ -1,0 +1,40 @@
+ghost use Rattle.std.specs.Prelude.{◌≡◌, ◌∷◌, ◌++◌, [], true, false, not, IfOk, OnErr, bytes_eq};
+ghost use Rattle.std.specs.List.{list_any};
+
+use dr_base::Text;
+use indexmap::IndexSet;
+use std::alloc::{AllocError, Global};
+use std::marker::Model;
+
+/// Distinct texts, each found by hashing. A contract sees the list of them, in the order in which they were added.
+#[derive(Drop)]
+pub struct TextSet(IndexSet<String>);
+
+impl Model for TextSet {
+    ghost use Rattle.std.specs.Prelude.{ℕ, List, map, string_bytes};
+
+    ghost Value = { List (List ℕ) };
+
+    ghost view = { λ s. map string_bytes s.0.keys };
+}
+
+impl TextSet {
+    /// No text. It takes no memory yet.
+    pub fn new(alloc: Global) -> TextSet
+        ensures { result ≡ [] }
+    {
+        TextSet(IndexSet::new(alloc))
+    }
+
+    /// Adds a text behind the others where it is new, and answers whether it is. The only error is that memory ran out, and
+    /// leaves the texts as they were. It takes expected time by the bytes of the text, however many there are.
+    pub fn add(&mut self, text: &Text) -> Result<bool, AllocError>
+        ensures is_new { IfOk result (λ is_new. is_new ≡ not (list_any (bytes_eq text.now) self.old)) }
+        ensures added { IfOk result (λ is_new. is_new ≡ true → self.new ≡ self.old ++ text.now ∷ []) }
+        ensures same { IfOk result (λ is_new. is_new ≡ false → self.new ≡ self.old) }
+        ensures err { OnErr result (self.new ≡ self.old) }
+    {
+        let copy = String::from_str(*self.0.allocator(), text.as_str())?;
+        Ok(self.0.insert(copy)?)
+    }
+}
