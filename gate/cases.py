@@ -1,0 +1,68 @@
+"""Scripts and other runs of the program, each with what it has to write.
+
+A case is a file NAME.script, which `druid-node run` gets as standard input, or a file NAME.args, whose lines are the arguments
+of the program. Beside it may lie NAME.out (wanted output; absent: none), NAME.err (wanted standard error; absent: none), NAME.status
+(absent: 0), NAME.stdin, and a folder NAME.files, whose files lie where the program runs.
+"""
+import os
+import shutil
+import subprocess
+import tempfile
+
+FOLDERS = ("examples", "examples/cases")
+
+# No case takes longer.
+SECONDS = 120
+
+
+class Case:
+    """A run of the program and what is wanted of it."""
+
+    def __init__(self, top, folder, name):
+        self.label, self.beside = f"{folder}/{name}", f"{top}/{folder}/{name}"
+        words = self.read("args")
+        self.words = ["run"] if words is None else words.decode().removesuffix("\n").split("\n") if words else []
+        self.given = self.read("script") or self.read("stdin") or b""
+        self.wanted = (int(self.read("status") or b"0"), self.read("out") or b"", self.read("err") or b"")
+
+    def read(self, ending):
+        try:
+            with open(f"{self.beside}.{ending}", "rb") as it:
+                return it.read()
+        except FileNotFoundError:
+            return None
+
+    def fault(self, program, more=()):
+        """What a run of this program does otherwise than is wanted, or nothing. More words follow the first."""
+        with tempfile.TemporaryDirectory(prefix="case-") as room:
+            if os.path.isdir(f"{self.beside}.files"):
+                shutil.copytree(f"{self.beside}.files", room, dirs_exist_ok=True)
+            words = [program, *self.words[:1], *more, *self.words[1:]]
+            how = {"cwd": room, "env": {"PATH": "/usr/bin:/bin", "LANG": "C.UTF-8"}, "capture_output": True}
+            try:
+                ran = subprocess.run(words, input=self.given, timeout=SECONDS, **how)
+            except subprocess.TimeoutExpired:
+                return f"it hadn't ended after {SECONDS} seconds"
+        for what, got, want in zip(("status", "output", "standard error"), (ran.returncode, ran.stdout, ran.stderr), self.wanted):
+            if got != want:
+                return f"its {what} is {told(got, want)}"
+        return None
+
+
+def told(got, want):
+    """The first line that differs."""
+    if isinstance(got, int):
+        return f"{got}, and not {want}"
+    mine, wanted = got.split(b"\n"), want.split(b"\n")
+    at = next((i for i, (a, b) in enumerate(zip(mine, wanted)) if a != b), min(len(mine), len(wanted)))
+    line = lambda lines: lines[at].decode(errors="replace")[:300] if at < len(lines) else "(nothing)"
+    return f"wrong at line {at + 1}: {line(mine)!r}, and not {line(wanted)!r}"
+
+
+def cases_of(top):
+    """The cases of a tree."""
+    found = []
+    for folder in FOLDERS:
+        names = {it.rpartition(".")[0] for it in os.listdir(f"{top}/{folder}") if it.endswith((".script", ".args"))}
+        found += [Case(top, folder, it) for it in sorted(names)]
+    return found

@@ -1,0 +1,192 @@
+"""A test of the gate itself: a small repository, and a toolchain that proves nothing and fails where it is told to.
+
+Each fault has to end the gate as failed, by the name of what failed; without a fault it passes.
+"""
+import os
+import shutil
+import subprocess
+import sys
+import tempfile
+from concurrent.futures import ThreadPoolExecutor
+
+HERE = os.path.dirname(os.path.realpath(__file__))
+
+RT = """#!/usr/bin/env python3
+import os, sys, time
+fault = os.environ.get("STUB_FAULT", "")
+program = "#!/bin/sh\\ncat\\n" if fault != "wrong output" else "#!/bin/sh\\necho wrong\\n"
+def make(path):
+    with open(path, "w") as it:
+        it.write(program)
+    os.chmod(path, 0o755)
+verb = sys.argv[1]
+if verb == "ci":
+    for crate in ("low", "dr_cli"):
+        os.makedirs(f"crates/{crate}/out", exist_ok=True)
+    print("== low\\nfn low::f: " + ("not proved" if fault == "proof" else "proved"))
+    print("rt: low " + ("NOT PROVED" if fault == "proof" else "proved"))
+    if fault == "proof":
+        print("rt: FAILED: low dr_cli\\n0 passed, 2 failed")
+        sys.exit(1)
+    if fault != "no program":
+        make("crates/dr_cli/out/dr_cli")
+        make("crates/dr_cli/out/dr_cli.by-rattle")
+    print("== dr_cli\\nrt: dr_cli proved")
+    if fault == "killed":
+        sys.exit(137)
+    if fault == "test":
+        print("rt: FAILED: low (tests)\\n1 passed, 1 failed")
+        sys.exit(1)
+    print("2 passed, 0 failed")
+elif verb in ("lib", "run"):
+    with open(os.environ["STUB_LOG"], "a") as it:
+        it.write(f"{verb} {os.path.basename(os.getcwd())}\\n")
+    time.sleep(0.2)
+    if fault == "build":
+        print("it is not proved")
+        sys.exit(1)
+    if verb == "run":
+        os.makedirs("out", exist_ok=True)
+        make("out/dr_cli")
+elif verb == "version":
+    print("stub")
+"""
+
+RATTLE = """#!/usr/bin/env python3
+import os, sys
+fault = os.environ.get("STUB_FAULT", "")
+with open("src/lib.rt") as it:
+    wrong = "wrong" in it.read()
+refused = wrong and fault != "edit" or fault == "control"
+if refused:
+    named = "f" if fault != "elsewhere" else "g"
+    if fault == "name":
+        print("./proofs/f/Answers.antt:1:1: error: c has no field x")
+    else:
+        print("note: src/lib.rt:2:5: it is not proved that what the function ensures holds")
+    print(f"fn low::{named}: not proved")
+else:
+    print("fn low::f: proved")
+print("only=1 proved=" + ("0" if refused else "1"))
+sys.exit(1 if refused else 0)
+"""
+
+FILES = {
+    "crates.txt": "low:\ndr_cli: low\n",
+    "crates/low/src/lib.rt": "fn f() -> u64 {\n    right()\n}\n",
+    "crates/low/specs/Lib.antt": "",
+    "crates/low/must-fail/f-is_wrong.edit": "file: src/lib.rt\nold: right\nnew: wrong\n",
+    "crates/dr_cli/src/main.rt": "fn main() {\n}\n",
+    "examples/first_query.script": "spec\n",
+    "examples/first_query.out": "spec\n",
+    "examples/cases/first_query.script": "other\n",
+    "examples/cases/first_query.out": "other\n",
+}
+
+# The fault, what is changed beside it, and what the gate has to name as failed.
+FAULTS = [
+    ("", {}, []),
+    ("proof", {}, ["low", "dr_cli", "examples", "low/must-fail/f-is_wrong.edit"]),
+    ("killed", {}, ["rt ci ended with status 137"]),
+    ("no program", {}, ["the program"]),
+    ("test", {}, ["low(tests)"]),
+    ("edit", {}, ["low/must-fail/f-is_wrong.edit"]),
+    ("control", {}, ["low/must-fail/f-is_wrong.edit"]),
+    ("elsewhere", {}, ["low/must-fail/f-is_wrong.edit"]),
+    ("name", {}, ["low/must-fail/f-is_wrong.edit"]),
+    ("wrong output", {}, ["examples/first_query", "examples/cases/first_query", "install"]),
+    ("", {"examples/cases/first_query.out": "another\n"}, ["examples/cases/first_query"]),
+    ("", {"examples/cases/first_query.status": "1\n"}, ["examples/cases/first_query"]),
+    ("", {"examples/cases/first_query.err": "told\n"}, ["examples/cases/first_query"]),
+    ("", {"crates/low/must-fail/f is wrong.edit": "file: src/lib.rt\nold: right\nnew: wrong\n"}, ["low/must-fail/f is wrong.edit"]),
+    ("", {"crates/low/must-fail/more/f.edit": "file: src/lib.rt\nold: right\nnew: wrong\n"}, ["low/must-fail/more/f.edit"]),
+    ("", {"crates/low/must-fail/gone.edit": "file: src/lib.rt\nold: left\nnew: wrong\n"}, ["low/must-fail/gone.edit"]),
+]
+
+
+def write(path, text, mode=0o644):
+    os.makedirs(os.path.dirname(path), exist_ok=True)
+    with open(path, "w", encoding="utf-8") as it:
+        it.write(text)
+    os.chmod(path, mode)
+
+
+class Stub:
+    """A repository of two crates, with the gate of this one and a toolchain of its own."""
+
+    def __init__(self, room, more):
+        self.top, kit = f"{room}/top", f"{room}/kit"
+        for name, text in {**FILES, **more}.items():
+            write(f"{self.top}/{name}", text)
+        for name in ("test", "edits", "druid-node", "install"):
+            shutil.copy(f"{HERE}/../{name}", self.top)
+        shutil.copytree(HERE, f"{self.top}/gate", ignore=shutil.ignore_patterns("__pycache__", "refused.txt"))
+        write(f"{kit}/bin/rt", RT, 0o755)
+        write(f"{kit}/bin/rattle", RATTLE, 0o755)
+        self.given = {**os.environ, "PATH": f"{kit}/bin:{os.environ['PATH']}", "GATE_OF_A_STUB": "1"}
+        self.log = self.given["STUB_LOG"] = f"{room}/log"
+
+    def run(self, fault, *words, **how):
+        given = {"cwd": self.top, "env": {**self.given, "STUB_FAULT": fault}, "capture_output": True, "text": True}
+        return subprocess.run(words, **{**given, "input": "", **how})
+
+
+def gate_tells(fault, more, wanted):
+    """What the gate says otherwise than is wanted, where it is run with a fault."""
+    with tempfile.TemporaryDirectory(prefix="stub-") as room:
+        ran = Stub(room, more).run(fault, "./test")
+    lines = ran.stdout.splitlines()
+    failed = [it[len("FAILED: ") :] for it in lines if it.startswith("FAILED: ")]
+    if sorted(failed) != sorted(wanted):
+        return f"it named {failed}, and not {wanted}:\n{ran.stdout}{ran.stderr}"
+    if (ran.returncode == 0) != (not wanted) or not lines[-1].endswith(f" passed, {len(wanted)} failed"):
+        return f"it ended with status {ran.returncode} and: {lines[-1]}"
+    return None
+
+
+def program_is_never_stale():
+    """What druid-node does otherwise than build a program where it is old, and run none where that fails."""
+    with tempfile.TemporaryDirectory(prefix="stub-") as room:
+        stub = Stub(room, {})
+        words = ("./druid-node", "run")
+        if (ran := stub.run("build", *words, input="first")).returncode == 0 or ran.stdout or "low is not proved" not in ran.stderr:
+            return f"a first build that fails: {ran}"
+        if (ran := stub.run("", *words, input="second")).stdout != "second" or "proving low, crate 1 of 2" not in ran.stderr:
+            return f"a first build: {ran}"
+        if (ran := stub.run("build", *words, input="third")).stdout != "third" or ran.stderr:
+            return f"a program that is current: {ran}"
+        os.utime(f"{stub.top}/crates/low/src/lib.rt")
+        for _ in range(2):
+            if (ran := stub.run("build", *words, input="fourth")).returncode == 0 or ran.stdout:
+                return f"a source changed, and the build fails: {ran}"
+        if (ran := stub.run("", "./install", f"{room}/prefix")).returncode or not os.access(f"{room}/prefix/bin/druid-node", os.X_OK):
+            return f"install: {ran}"
+    return None
+
+
+def first_runs_wait():
+    """What two first runs at once do otherwise than build the program once and both run it."""
+    with tempfile.TemporaryDirectory(prefix="stub-") as room:
+        stub = Stub(room, {})
+        with ThreadPoolExecutor(2) as pool:
+            ran = list(pool.map(lambda it: stub.run("", "./druid-node", "run", input=it), ("one", "two")))
+        with open(stub.log, encoding="utf-8") as it:
+            built = it.read().splitlines()
+    if [it.stdout for it in ran] != ["one", "two"] or built != ["lib low", "run dr_cli"]:
+        return f"{built}: {ran}"
+    return None
+
+
+def main():
+    with ThreadPoolExecutor(4) as pool:
+        told = pool.map(lambda it: gate_tells(*it), FAULTS)
+        faults = [(f"the gate with the fault {fault!r} and {list(more)}", why) for (fault, more, _), why in zip(FAULTS, told)]
+    faults += [("druid-node", program_is_never_stale()), ("two first runs", first_runs_wait())]
+    for name, why in faults:
+        if why:
+            print(f"{name}: {why}")
+    return not any(why for _, why in faults)
+
+
+if __name__ == "__main__":
+    sys.exit(0 if main() else 1)

@@ -1,0 +1,106 @@
+"""The repository as the gate sees it: its crates, what each stands on, and copies of it."""
+import hashlib
+import os
+import re
+import shutil
+import subprocess
+
+TOP = os.path.dirname(os.path.dirname(os.path.realpath(__file__)))
+KIT = os.path.dirname(os.path.dirname(os.path.realpath(shutil.which("rt") or "/opt/rattle/bin/rt")))
+
+# The program, and the crate that builds it.
+PROGRAM = "dr_cli"
+
+# The folders of wrong bodies: what the gate tries, and what ./edits tries besides.
+MUST_FAIL, FURTHER = "must-fail", "further-edits"
+
+
+class Tree:
+    """A folder with crates.txt and crates/."""
+
+    def __init__(self, top=TOP):
+        self.top = top
+        self.uses = {}
+        with open(f"{top}/crates.txt", encoding="utf-8") as file:
+            for line in file:
+                name, colon, words = line.partition("#")[0].partition(":")
+                if colon:
+                    self.uses[name.split()[0]] = words.split()
+
+    def crates(self):
+        """The crates, each after those that it stands on."""
+        found = []
+        for name in self.uses:
+            found += [it for it in [*self.below(name), name] if it not in found]
+        return found
+
+    def below(self, crate):
+        """The crates of this repository that a crate stands on, each once and after those below it."""
+        found = []
+        for name in self.uses[crate]:
+            if name in self.uses:
+                found += [it for it in [*self.below(name), name] if it not in found]
+        return found
+
+    def folder(self, crate):
+        return f"{self.top}/crates/{crate}"
+
+    def files(self, crate, *parts):
+        """The files below some folders of a crate, in the order of their paths."""
+        found = []
+        for part in parts:
+            for at, _, names in os.walk(f"{self.folder(crate)}/{part}"):
+                found += [os.path.relpath(f"{at}/{name}", self.folder(crate)) for name in names]
+        return sorted(found)
+
+    def text(self, crate, file):
+        with open(f"{self.folder(crate)}/{file}", encoding="utf-8") as it:
+            return it.read()
+
+    def lines(self, crate):
+        """How many lines a crate has: the weight of its proof."""
+        return sum(self.text(crate, it).count("\n") for it in self.files(crate, "src", "specs", "proofs"))
+
+    def digest(self, crate):
+        """A digest of all that a crate's own proof reads."""
+        return digest_of((it, self.text(crate, it)) for it in self.files(crate, "src", "specs", "proofs"))
+
+    def contracts(self, crate):
+        """A digest of what the crates above may use of a crate: its definitions, and its code without bodies."""
+        texts = [(it, self.text(crate, it)) for it in self.files(crate, "specs")]
+        texts += [(it, without_bodies(self.text(crate, it))) for it in self.files(crate, "src")]
+        return digest_of(texts)
+
+
+def digest_of(named):
+    """One digest of texts with their names."""
+    found = hashlib.sha256()
+    for name, text in named:
+        found.update(f"{name}\0{len(text)}\0{text}\0".encode())
+    return found.hexdigest()[:20]
+
+
+def without_bodies(text):
+    """Code as `rt fmt` lays it out, without the bodies of its functions."""
+    kept, ends = [], None
+    for line in text.split("\n"):
+        if ends is not None:
+            if line == ends:
+                ends = None
+            continue
+        kept.append(line)
+        # the brace of a body stands alone behind clauses, and at the end of the line where there are none
+        opens = re.fullmatch(r"(\s*)\{", line) or re.match(r"(\s*)(?:pub(?:\(\w+\))? )?(?:const )?fn .*[^{]\{$", line)
+        if opens and not line.rstrip().endswith("ensures {"):
+            ends = opens[1] + "}"
+    return "\n".join(kept)
+
+
+def copy_to(folder, *left_out):
+    """Copies the repository, without what earlier runs made, its history, and the folders of those names."""
+    words = ["tar", "-cf", "-", *[f"--exclude={it}" for it in ("./.git", "out", "__pycache__", *left_out)], "."]
+    os.makedirs(folder, exist_ok=True)
+    with subprocess.Popen(words, cwd=TOP, stdout=subprocess.PIPE) as packed:
+        subprocess.run(["tar", "-xf", "-"], cwd=folder, stdin=packed.stdout, check=True)
+    os.chmod(folder, 0o755)
+    return folder
