@@ -14,6 +14,3 @@ mod wording;
 mod words;
 
 pub use script::run_script;
-
-#[cfg(test)]
-mod tests;
