@@ -2,10 +2,10 @@ use Rattle.std.proofs.Common.{◌≡◌, ◌∙◌, sym, ap, subst, true, Ok, Er
 use Rattle.std.specs.Str.{all_ascii_digits}
 use Rattle.std.proofs.lemmas.Str.Parse.{parse_digits}
 use Rattle.dr_events.proofs.SignedTexts.{own}
-use Rattle.dr_script.specs.declared.command_error.CommandError.TheVariants.{BadCommand}
-use Rattle.dr_script.specs.Request.{number_in}
-use Rattle.dr_script.proofs.WordLemmas.{ReadsNumber, bounded, digits_utf8, no_number, same_digits}
-use Rattle.dr_script.proofs.words.number_in.Goals as goal
+use Rattle.dr_requests.specs.declared.command_error.CommandError.TheVariants.{BadCommand}
+use Rattle.dr_requests.specs.Request.{number_in}
+use Rattle.dr_requests.proofs.WordLemmas.{ReadsNumber, bounded, digits_utf8, no_number, same_digits}
+use Rattle.dr_requests.proofs.words.number_in.Goals as goal
 
 pub returns-then-not-are_digits : goal.returns-then-not-are_digits
 returns-then-not-are_digits c = λ _. no_number c.args.word.now (sym (same_digits c.args.word.now) ∙ sym c.are_digits.ensures ∙ c.if-not-are_digits.true)

@@ -17,7 +17,7 @@ use Rattle.dr_cuts.specs.State.{Tile, AreCuts, IsTiled, open_from}
 use Rattle.dr_chunks.specs.Ranges.{fragment_of}
 use Rattle.dr_cuts.specs.Segments.{sealed_info, open_info, infos_of_cut, infos, events_in, rows_over}
 use Rattle.dr_chunks.specs.Held.{range_of, ranges_of, cut_of, info_of, has_open, open_fragment, infos_of_chunk, fragments_of_chunk, Holds}
-use Rattle.dr_chunks.specs.Pieces.{rows_held}
+use Rattle.dr_timeline.specs.Pieces.{rows_held}
 use Rattle.dr_answer.specs.Pieces.{rows_in}
 
 -- the rows of a range

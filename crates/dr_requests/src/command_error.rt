@@ -1,7 +1,7 @@
-ghost use Rattle.std.specs.Prelude.{◌≡◌};
-ghost use Rattle.dr_script.specs.declared.command_error.CommandError.TheVariants.{NoMemory, Line};
-ghost use Rattle.dr_script.specs.Refusal.{number_of, name_of};
-ghost use Rattle.dr_script.specs.Commands.{refused_by};
+ghost use Rattle.std.specs.Prelude.{◌≡◌, None};
+ghost use Rattle.dr_requests.specs.declared.command_error.CommandError.TheVariants.{NoMemory, Line};
+ghost use Rattle.dr_requests.specs.Refusal.{number_of, name_of};
+ghost use Rattle.dr_base.specs.FaultLine.{fault_line};
 
 use dr_lines::LineError;
 use std::alloc::{AllocError, AllocFailed};
@@ -46,7 +46,7 @@ impl CommandError {
 
     /// The line of the refusal: `refused NUMBER NAME`.
     pub fn line(self) -> &'static str
-        ensures { result.now ≡ (refused_by self).line }
+        ensures { result.now ≡ fault_line (number_of self) (name_of self) None }
     {
         match self {
             CommandError::NoMemory => "refused 0 NoMemory",
@@ -58,7 +58,7 @@ impl CommandError {
 
 // The line of a refusal of the layer below.
 fn refused_line(error: LineError) -> &'static str
-    ensures { result.now ≡ (refused_by (Line error)).line }
+    ensures { result.now ≡ fault_line (number_of (Line error)) (name_of (Line error)) None }
 {
     match error {
         LineError::LineTooLong => "refused 98 LineTooLong",

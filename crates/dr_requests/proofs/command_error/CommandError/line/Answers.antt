@@ -1,6 +1,6 @@
 use Rattle.std.proofs.Common.{refl}
 use Rattle.std.specs.Fmt.{digits}
-use Rattle.dr_script.proofs.command_error.CommandError.line.Goals as goal
+use Rattle.dr_requests.proofs.command_error.CommandError.line.Goals as goal
 
 pub returns-in-NoMemory : goal.returns-in-NoMemory
 unfolding digits

@@ -17,9 +17,9 @@ use Rattle.dr_time.specs.Spelling.{IsRead}
 use Rattle.dr_time.proofs.ReadLemmas.{instant_of-read}
 use Rattle.dr_events.specs.WholeNumber.{spelled_behind}
 use Rattle.dr_events.proofs.SignedTexts.{own}
-use Rattle.dr_script.specs.declared.command_error.CommandError.TheVariants.{BadCommand}
-use Rattle.dr_script.specs.Commands.{instant_in}
-use Rattle.dr_script.specs.Request.{split_word, number_in, or_bad_command}
+use Rattle.dr_requests.specs.declared.command_error.CommandError.TheVariants.{BadCommand}
+use Rattle.dr_requests.specs.Request.{instant_in}
+use Rattle.dr_requests.specs.Request.{split_word, number_in, or_bad_command}
 
 -- ---- the first word
 

@@ -1,10 +1,10 @@
 ghost use Rattle.std.specs.Prelude.{◌≡◌, IfOk, option_copied};
 ghost use Rattle.dr_time.specs.Instant.{IsInstant};
-ghost use Rattle.dr_script.specs.Commands.{instant_in};
+ghost use Rattle.dr_requests.specs.Request.{instant_in};
 ghost use Rattle.std.specs.List.{list_all};
 ghost use Rattle.std.specs.Char.{is_ascii_digit};
-ghost use Rattle.dr_script.specs.Request.{number_in, one_word, some_word, split_word, two_parts};
-ghost use Rattle.dr_script.specs.Refusal.{Gives};
+ghost use Rattle.dr_requests.specs.Request.{number_in, one_word, some_word, split_word, two_parts};
+ghost use Rattle.dr_requests.specs.Refusal.{Gives};
 
 use crate::command_error::CommandError;
 use dr_time::{TimeError, parse_instant};

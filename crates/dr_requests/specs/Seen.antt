@@ -1,8 +1,8 @@
 -- What the values of the program say in the words of a script.
 use Rattle.std.specs.Prelude.{ℕ, List}
 use Rattle.std.specs.Borrow.{Bor}
-use Rattle.dr_script.specs.declared.request.Request.{Request}
-use Rattle.dr_script.specs.declared.request.Request.TheVariants.{Add, Seal, Merge, PlanMerge, Commit, Pin, Query, At, Audit, Stats}
+use Rattle.dr_requests.specs.declared.request.Request.{Request}
+use Rattle.dr_requests.specs.declared.request.Request.TheVariants.{Add, Seal, Merge, PlanMerge, Commit, Pin, Query, At, Audit, Stats}
 
 -- a request, with the bytes of its parts
 abbrev pub seen_request : Request (Bor (List ℕ)) → Request (List ℕ)

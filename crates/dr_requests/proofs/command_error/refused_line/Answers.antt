@@ -1,6 +1,6 @@
 use Rattle.std.proofs.Common.{refl}
 use Rattle.std.specs.Fmt.{digits}
-use Rattle.dr_script.proofs.command_error.refused_line.Goals as goal
+use Rattle.dr_requests.proofs.command_error.refused_line.Goals as goal
 
 pub returns-in-LineTooLong : goal.returns-in-LineTooLong
 unfolding digits

@@ -2,8 +2,8 @@ use Rattle.std.proofs.Common.{◌≡◌, ◌∙◌, sym, ap, subst, rules}
 use Rattle.std.specs.Prelude.{IfOk}
 use Rattle.std.specs.Str.{IsUtf8}
 use Rattle.dr_time.specs.Instant.{IsInstant, instant_of}
-use Rattle.dr_script.proofs.WordLemmas.{in_range, instant_spelled, instant_unspelled}
-use Rattle.dr_script.proofs.words.instant_in.Goals as goal
+use Rattle.dr_requests.proofs.WordLemmas.{in_range, instant_spelled, instant_unspelled}
+use Rattle.dr_requests.proofs.words.instant_in.Goals as goal
 
 pub returns-in-Ok : goal.returns-in-Ok
 returns-in-Ok c =

@@ -1,8 +1,8 @@
 -- The numbers and names of the refusals of this crate.
 use Rattle.std.specs.Prelude.{ℕ, List, Bool, true, false, Result, codes}
 use Rattle.dr_base.specs.Reading.{GivesUnless}
-use Rattle.dr_script.specs.declared.command_error.CommandError.{CommandError}
-use Rattle.dr_script.specs.declared.command_error.CommandError.TheVariants.{NoMemory, Line, BadCommand}
+use Rattle.dr_requests.specs.declared.command_error.CommandError.{CommandError}
+use Rattle.dr_requests.specs.declared.command_error.CommandError.TheVariants.{NoMemory, Line, BadCommand}
 use Rattle.dr_lines.specs.Refusal as line
 
 abbrev pub number_of : CommandError → ℕ

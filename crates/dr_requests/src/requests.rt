@@ -1,6 +1,6 @@
-ghost use Rattle.dr_script.specs.Request.{at_in, commit_in, merge_in, places_in, plan_in, request_alone, request_in, request_with, seal_in};
-ghost use Rattle.dr_script.specs.Seen.{seen_request};
-ghost use Rattle.dr_script.specs.Refusal.{Gives};
+ghost use Rattle.dr_requests.specs.Request.{at_in, commit_in, merge_in, places_in, plan_in, request_alone, request_in, request_with, seal_in};
+ghost use Rattle.dr_requests.specs.Seen.{seen_request};
+ghost use Rattle.dr_requests.specs.Refusal.{Gives};
 
 use crate::command_error::CommandError;
 use crate::request::Request;

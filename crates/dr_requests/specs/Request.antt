@@ -1,11 +1,15 @@
 -- What a line of a script asks for: words with one space between them, where a query or an event is the rest of the line.
-use Rattle.std.specs.Prelude.{ℕ, ◌^◌, nat_lt, nat_eq, ◌==◌, bytes_eq, List, [], ◌∷◌, length, Option, Some, None, Result, Ok, Err, codes, if◌then◌else◌}
+use Rattle.std.specs.Prelude.{ℕ, ℤ, ◌^◌, nat_lt, nat_eq, ◌==◌, bytes_eq, List, [], ◌∷◌, length, Option, Some, None, Result, Ok, Err, codes, if◌then◌else◌}
+use Rattle.std.specs.Str.{is_utf8}
 use Rattle.dr_base.specs.Reading.{◌>>=◌}
+use Rattle.dr_time.specs.declared.time_error.TimeError.{TimeError}
+use Rattle.dr_time.specs.declared.time_error.TimeError.TheVariants.{BadInstant}
+use Rattle.dr_time.specs.Instant.{instant_of}
 use Rattle.dr_events.specs.WholeNumber.{digits_number}
-use Rattle.dr_script.specs.declared.command_error.CommandError.{CommandError}
-use Rattle.dr_script.specs.declared.command_error.CommandError.TheVariants.{BadCommand}
-use Rattle.dr_script.specs.declared.request.Request.{Request}
-use Rattle.dr_script.specs.declared.request.Request.TheVariants.{Add, Seal, Merge, PlanMerge, Commit, Pin, Query, At, Audit, Stats}
+use Rattle.dr_requests.specs.declared.command_error.CommandError.{CommandError}
+use Rattle.dr_requests.specs.declared.command_error.CommandError.TheVariants.{BadCommand}
+use Rattle.dr_requests.specs.declared.request.Request.{Request}
+use Rattle.dr_requests.specs.declared.request.Request.TheVariants.{Add, Seal, Merge, PlanMerge, Commit, Pin, Query, At, Audit, Stats}
 
 -- what there is, and else no command
 abbrev pub or_bad_command : {A : Type 0} → Option A → Result A CommandError
@@ -48,6 +52,10 @@ abbrev pub number_in : List ℕ → Result ℕ CommandError
 number_in word = do
   n ← or_bad_command (digits_number word)
   or_bad_command (within_64_bits n)
+
+-- an instant, as ISO 8601 spells it; bytes that aren't UTF-8 spell none
+abbrev pub instant_in : List ℕ → Result ℤ TimeError
+instant_in word = if is_utf8 word then instant_of word else Err BadInstant
 
 -- `INSTANT LO HI`: sealed ranges of a chunk
 abbrev pub places_in : List ℕ → Result (List ℕ × ℕ × ℕ) CommandError

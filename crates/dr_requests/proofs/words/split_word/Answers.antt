@@ -1,7 +1,7 @@
 use Rattle.std.proofs.Common.{rules}
 use Rattle.std.proofs.lemmas.List.{take_rest}
-use Rattle.dr_script.proofs.WordLemmas.{split_first, split_none}
-use Rattle.dr_script.proofs.words.split_word.Goals as goal
+use Rattle.dr_requests.proofs.WordLemmas.{split_first, split_none}
+use Rattle.dr_requests.proofs.words.split_word.Goals as goal
 
 pub returns-in-Some : goal.returns-in-Some
 returns-in-Some c =
