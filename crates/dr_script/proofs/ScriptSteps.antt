@@ -6,11 +6,11 @@ use Rattle.std.proofs.lemmas.Grind.{flat_map-append}
 use Rattle.std.proofs.lemmas.List.Folds.{list_any-append}
 use Rattle.dr_lines.specs.declared.line_error.LineError.{LineError}
 use Rattle.dr_lines.specs.declared.line_error.LineError.TheVariants.{ReadFault}
-use Rattle.dr_script.specs.declared.command_error.CommandError.TheVariants.{NoMemory, Line}
+use Rattle.dr_requests.specs.declared.command_error.CommandError.TheVariants.{NoMemory, Line}
 use Rattle.dr_script.specs.declared.reply.Reply.{Reply}
 use Rattle.dr_script.specs.declared.reply.Reply.TheVariants.{Fault}
 use Rattle.dr_lines.specs.Lines.{TakesLine, lines_of}
-use Rattle.dr_timeline.specs.Run.{CoreState}
+use Rattle.dr_timeline.specs.CoreState.{CoreState}
 use Rattle.dr_script.specs.Commands.{Answered, answered, refused_by}
 use Rattle.dr_script.specs.Script.{answers, answers_from, any_refused, first_step, script, step, text_of}
 use Rattle.std.specs.Fmt.{digits}

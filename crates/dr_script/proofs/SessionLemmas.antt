@@ -7,9 +7,9 @@ use Rattle.dr_merge.specs.declared.job.Job.{Job}
 use Rattle.dr_timeline.specs.declared.timeline_error.TimelineError.{TimelineError}
 use Rattle.dr_timeline.specs.declared.timeline_error.TimelineError.TheVariants.{CommitsFull}
 use Rattle.dr_timeline.specs.Refusal.{is_memory}
-use Rattle.dr_timeline.specs.Run.{HaveSchema}
-use Rattle.dr_timeline.specs.Segments.{Pinned}
-use Rattle.dr_timeline.specs.State.{State}
+use Rattle.dr_timeline.specs.CoreState.{HaveSchema}
+use Rattle.dr_cuts.specs.Segments.{Pinned}
+use Rattle.dr_cuts.specs.State.{State}
 use Rattle.dr_timeline.specs.Standing.{place_of}
 use Rattle.dr_timeline.specs.Steps.{committed}
 use Rattle.dr_timeline.specs.Stepping.{commit_at, commit}

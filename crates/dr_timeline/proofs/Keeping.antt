@@ -12,19 +12,20 @@ use Rattle.dr_schema.specs.Fits.{FitsSchema}
 use Rattle.dr_schema.specs.WellFormed.{IsWellFormed}
 use Rattle.dr_schema.specs.declared.schema.Schema.{Schema}
 use Rattle.dr_rollup.specs.OpenRows.{OpenRows}
-use Rattle.dr_timeline.specs.declared.chunk.Chunk.{Chunk}
+use Rattle.dr_chunks.specs.declared.chunk.Chunk.{Chunk}
 use Rattle.dr_rollup.specs.Unrolled.{rolled_up}
-use Rattle.dr_timeline.specs.Chunks.{chunk, chunk_list, chunks, with_value}
-use Rattle.dr_timeline.specs.AtKey.{at_key}
-use Rattle.dr_timeline.specs.State.{State, Cut, Range, open_from, open_events, sealed_in}
-use Rattle.dr_timeline.specs.Steps.{at_chunk, open_cut, with_seal, open_in, with_event, sealed_at, accepted}
-use Rattle.dr_timeline.specs.Held.{range_of, ranges_of, cut_of, index_of, Holds, HasFewRows, open_count, Keeps, no_chunk, with_one, with_open_sealed, is_full, seals_of, sealed_if_full, grown, at_start, chunk_at, has_open, IsBelow, IsFirst}
-use Rattle.dr_timeline.proofs.Parts.{has, part-none, values_onto-push, rising-values, Covers-values_onto, int_eq-itself, is_eq-true}
-use Rattle.dr_timeline.proofs.Places.{chunk_at-new}
-use Rattle.dr_timeline.proofs.Each.{All-push, All-same}
-use Rattle.dr_timeline.proofs.Tiles.{end_from, end_from-append, tile-end}
-use Rattle.dr_timeline.proofs.Holding.{holds-other, holds-own, holds-sealed}
-use Rattle.dr_timeline.proofs.Changes.{cuts-at_start, sealed_in-cuts, starts-at_start, starts-here, total-at_start, All-chunk_at, All-at_start}
+use Rattle.dr_cuts.specs.Chunks.{chunk, chunk_list, chunks, with_value}
+use Rattle.dr_cuts.specs.AtKey.{at_key}
+use Rattle.dr_cuts.specs.State.{State, Cut, Range, open_from, open_events, sealed_in, at_chunk, open_cut}
+use Rattle.dr_timeline.specs.Steps.{with_seal, open_in, with_event, sealed_at, accepted}
+use Rattle.dr_chunks.specs.Held.{range_of, ranges_of, cut_of, index_of, Holds, HasFewRows, open_count, no_chunk, with_one, with_open_sealed, is_full, seals_of, sealed_if_full, grown, at_start, chunk_at, has_open, IsBelow, IsFirst}
+use Rattle.dr_timeline.specs.Kept.{Keeps}
+use Rattle.dr_cuts.proofs.Parts.{has, part-none, values_onto-push, rising-values, Covers-values_onto, int_eq-itself, is_eq-true}
+use Rattle.dr_chunks.proofs.Places.{chunk_at-new}
+use Rattle.dr_cuts.proofs.Each.{All-push, All-same}
+use Rattle.dr_cuts.proofs.Tiles.{end_from, end_from-append, tile-end}
+use Rattle.dr_chunks.proofs.Holding.{holds-other, holds-own, holds-sealed}
+use Rattle.dr_chunks.proofs.Changes.{cuts-at_start, sealed_in-cuts, starts-at_start, starts-here, total-at_start, All-chunk_at, All-at_start}
 
 -- ---- the chunk there
 

@@ -7,16 +7,16 @@ use Rattle.dr_base.specs.declared.row.Row.{Row}
 use Rattle.dr_agg.specs.Rollup.{all_rows}
 use Rattle.dr_schema.specs.declared.schema.Schema.{Schema}
 use Rattle.dr_rollup.specs.OpenRows.{OpenRows}
-use Rattle.dr_timeline.specs.declared.chunk.Chunk.{Chunk}
+use Rattle.dr_chunks.specs.declared.chunk.Chunk.{Chunk}
 use Rattle.dr_merge.specs.declared.fragment.Fragment.{Fragment}
-use Rattle.dr_timeline.specs.declared.range_info.RangeInfo.{RangeInfo}
-use Rattle.dr_timeline.specs.declared.sealed_range.SealedRange.{SealedRange}
+use Rattle.dr_cuts.specs.declared.range_info.RangeInfo.{RangeInfo}
+use Rattle.dr_chunks.specs.declared.sealed_range.SealedRange.{SealedRange}
 use Rattle.dr_rollup.specs.Unrolled.{rolled_up}
-use Rattle.dr_timeline.specs.Chunks.{chunk_list, chunks}
-use Rattle.dr_timeline.specs.State.{Tile, AreCuts, IsTiled, open_from}
-use Rattle.dr_timeline.specs.Steps.{fragment_of}
-use Rattle.dr_timeline.specs.Segments.{sealed_info, open_info, infos_of_cut, infos, events_in, rows_over}
-use Rattle.dr_timeline.specs.Held.{range_of, ranges_of, cut_of, info_of, has_open, open_fragment, infos_of_chunk, fragments_of_chunk, Holds}
+use Rattle.dr_cuts.specs.Chunks.{chunk_list, chunks}
+use Rattle.dr_cuts.specs.State.{Tile, AreCuts, IsTiled, open_from}
+use Rattle.dr_chunks.specs.Ranges.{fragment_of}
+use Rattle.dr_cuts.specs.Segments.{sealed_info, open_info, infos_of_cut, infos, events_in, rows_over}
+use Rattle.dr_chunks.specs.Held.{range_of, ranges_of, cut_of, info_of, has_open, open_fragment, infos_of_chunk, fragments_of_chunk, Holds}
 use Rattle.dr_timeline.specs.Pieces.{rows_held}
 use Rattle.dr_answer.specs.Pieces.{rows_in}
 

@@ -13,8 +13,9 @@ use Rattle.dr_merge.specs.declared.fragment.Fragment.{Fragment}
 use Rattle.dr_merge.specs.declared.job.Job.{Job}
 use Rattle.dr_merge.specs.declared.purpose.Purpose.{Purpose}
 use Rattle.dr_timeline.specs.declared.timeline_error.TimelineError.TheVariants.{NothingToSeal, NoSuchRange, Stale, CommitsFull}
-use Rattle.dr_timeline.specs.State.{State, sealed_in}
-use Rattle.dr_timeline.specs.Steps.{accepted, sealed_at, open_in, fragment_of, ranges_at, job_of, StandsAt, Commits}
+use Rattle.dr_cuts.specs.State.{State, sealed_in}
+use Rattle.dr_timeline.specs.Steps.{accepted, sealed_at, open_in, ranges_at, job_of, StandsAt, Commits}
+use Rattle.dr_chunks.specs.Ranges.{fragment_of}
 use Rattle.dr_timeline.specs.Standing.{same_row, same_fragment, stands_at, first_place, place_of}
 use Rattle.dr_timeline.specs.Stepping.{accept, seal, plan, commit}
 

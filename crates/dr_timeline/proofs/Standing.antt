@@ -6,17 +6,19 @@ use Rattle.std.specs.Ordering.{int_cmp}
 use Rattle.std.proofs.lemmas.List.{map-append, drop-map, take-map, length-map, length-take, length-drop, take-append-drop, drop-drop}
 use Rattle.dr_base.specs.declared.event.Event.{Event}
 use Rattle.dr_schema.specs.declared.schema.Schema.{Schema}
-use Rattle.dr_timeline.specs.declared.chunk.Chunk.{Chunk}
+use Rattle.dr_chunks.specs.declared.chunk.Chunk.{Chunk}
 use Rattle.dr_merge.specs.declared.job.Job.{Job}
-use Rattle.dr_timeline.specs.declared.sealed_range.SealedRange.{SealedRange}
-use Rattle.dr_timeline.specs.Chunks.{chunks}
-use Rattle.dr_timeline.specs.State.{State, Range, sealed_in, open_from}
+use Rattle.dr_chunks.specs.declared.sealed_range.SealedRange.{SealedRange}
+use Rattle.dr_cuts.specs.Chunks.{chunks}
+use Rattle.dr_cuts.specs.State.{State, Range, sealed_in, open_from}
 use Rattle.dr_merge.specs.Joined.{joined, joined_fragment}
-use Rattle.dr_timeline.specs.Steps.{fragment_of, ranges_at, StandsAt, joined_range, replaced, committed}
-use Rattle.dr_timeline.specs.Held.{range_of, ranges_of, cut_of, Holds, HasFewRows, Keeps, StandsIn, with_range, at_start, chunk_at, open_count, IsFirst}
-use Rattle.dr_timeline.proofs.Each.{All-left, All-right}
-use Rattle.dr_timeline.proofs.Holding.{holds-replaced}
-use Rattle.dr_timeline.proofs.Changes.{cuts-at_start, sealed_in-cuts, starts-here, total-at_start, All-at_start, All-chunk_at}
+use Rattle.dr_chunks.specs.Ranges.{fragment_of}
+use Rattle.dr_timeline.specs.Steps.{ranges_at, StandsAt, joined_range, replaced, committed}
+use Rattle.dr_chunks.specs.Held.{range_of, ranges_of, cut_of, Holds, HasFewRows, with_range, at_start, chunk_at, open_count, IsFirst}
+use Rattle.dr_timeline.specs.Kept.{Keeps, StandsIn}
+use Rattle.dr_cuts.proofs.Each.{All-left, All-right}
+use Rattle.dr_chunks.proofs.Holding.{holds-replaced}
+use Rattle.dr_chunks.proofs.Changes.{cuts-at_start, sealed_in-cuts, starts-here, total-at_start, All-at_start, All-chunk_at}
 use Rattle.dr_timeline.proofs.Keeping.{holds-chunk_at, rising-starts}
 
 -- what a contract sees of kept chunks

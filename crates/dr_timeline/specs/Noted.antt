@@ -3,7 +3,7 @@ use Rattle.std.specs.Prelude.{ℕ, ◌+◌, min, length}
 use Rattle.dr_timeline.specs.declared.outcome.Outcome.{Outcome}
 use Rattle.dr_timeline.specs.declared.outcome.Outcome.TheVariants.{Unparseable, ThrownAway}
 use Rattle.dr_timeline.specs.declared.stats.Stats.{Stats}
-use Rattle.dr_timeline.specs.State.{State}
+use Rattle.dr_cuts.specs.State.{State}
 
 -- a counter of 64 bits with one more; it stays at the greatest number
 abbrev pub one_more : ℕ → ℕ

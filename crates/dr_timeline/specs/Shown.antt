@@ -6,10 +6,10 @@ use Rattle.dr_schema.specs.Fits.{FitsSchema}
 use Rattle.dr_schema.specs.WellFormed.{IsWellFormed}
 use Rattle.dr_schema.specs.declared.schema.Schema.{Schema}
 use Rattle.dr_merge.specs.declared.fragment.Fragment.{Fragment}
-use Rattle.dr_timeline.specs.declared.range_info.RangeInfo.{RangeInfo}
+use Rattle.dr_cuts.specs.declared.range_info.RangeInfo.{RangeInfo}
 use Rattle.dr_rollup.specs.Unrolled.{rolled_up}
-use Rattle.dr_timeline.specs.Segments.{infos, events_in}
-use Rattle.dr_timeline.specs.State.{Cut, AreCuts}
+use Rattle.dr_cuts.specs.Segments.{infos, events_in}
+use Rattle.dr_cuts.specs.State.{Cut, AreCuts}
 
 -- the ranges are those of some cuts of the events, and the fragments have the rollup of each
 pub record Shows (schema : Schema) (es : List Event) (fragments : List Fragment) (ranges : List RangeInfo) : Type 0 where

@@ -5,8 +5,9 @@ use Rattle.std.specs.Cmp.Lexicographic.{pointwise}
 use Rattle.dr_base.specs.declared.row.Row.{Row}
 use Rattle.dr_merge.specs.declared.fragment.Fragment.{Fragment}
 use Rattle.dr_merge.specs.declared.job.Job.{Job}
-use Rattle.dr_timeline.specs.State.{State, sealed_in}
-use Rattle.dr_timeline.specs.Steps.{fragment_of, ranges_at}
+use Rattle.dr_cuts.specs.State.{State, sealed_in}
+use Rattle.dr_chunks.specs.Ranges.{fragment_of}
+use Rattle.dr_timeline.specs.Steps.{ranges_at}
 
 -- the rows are the same: key and metrics
 abbrev pub same_row : Row → Row → Bool

@@ -6,7 +6,7 @@ use Rattle.dr_merge.specs.declared.job.Job.{Job}
 use Rattle.dr_merge.specs.declared.purpose.Purpose.{Purpose}
 use Rattle.dr_timeline.specs.declared.timeline_error.TimelineError.{TimelineError}
 use Rattle.dr_timeline.specs.declared.timeline_error.TimelineError.TheVariants.{StreamFull, NothingToSeal, NoSuchRange, Stale, CommitsFull}
-use Rattle.dr_timeline.specs.State.{State, sealed_in}
+use Rattle.dr_cuts.specs.State.{State, sealed_in}
 use Rattle.dr_timeline.specs.Steps.{accepted, sealed_at, open_in, job_of, joined_range, committed}
 use Rattle.dr_timeline.specs.Standing.{place_of}
 

@@ -3,22 +3,13 @@
 use Rattle.std.specs.Prelude.{◌≡◌, ℕ, ℤ, ◌+◌, ◌-◌, ◌<◌, ◌≤◌, min, nat_le, List, [], ◌∷◌, ◌++◌, length, map, take, drop, fold, if◌then◌else◌}
 use Rattle.dr_base.specs.declared.event.Event.{Event}
 use Rattle.dr_schema.specs.declared.schema.Schema.{Schema}
-use Rattle.dr_merge.specs.declared.fragment.Fragment.{Fragment}
 use Rattle.dr_merge.specs.declared.job.Job.{Job}
 use Rattle.dr_merge.specs.declared.purpose.Purpose.{Purpose}
 use Rattle.dr_rollup.specs.Unrolled.{rolled_up}
-use Rattle.dr_timeline.specs.Chunks.{chunk, chunk_list}
-use Rattle.dr_timeline.specs.AtKey.{at_key}
-use Rattle.dr_timeline.specs.State.{Range, Cut, State, open_from, open_events, events_of, sealed_in}
+use Rattle.dr_cuts.specs.Chunks.{chunk, chunk_list}
+use Rattle.dr_cuts.specs.State.{Range, Cut, State, open_from, open_events, sealed_in, at_chunk}
+use Rattle.dr_chunks.specs.Ranges.{fragment_of}
 use Rattle.dr_merge.specs.Joined.{joined_fragment}
-
--- a chunk of which nothing is sealed
-abbrev pub open_cut : ℤ → Cut
-open_cut k = record { chunk = k; sealed = []; publications = 0 }
-
--- the cuts, with those of one chunk changed; the chunk may be new
-abbrev pub at_chunk : ℤ → (Cut → Cut) → List Cut → List Cut
-at_chunk k change cuts = at_key (λ c. c.chunk) (open_cut k) change k cuts
 
 -- the events of a chunk's open range
 abbrev pub open_in : State → ℤ → List Event
@@ -46,10 +37,6 @@ sealed_if_full k s = if nat_le s.schema.limits.max_rows_in_memory (length (rolle
 -- an event is accepted
 abbrev pub accepted : State → Event → State
 accepted s e = sealed_if_full (chunk s.schema e) (with_event s e)
-
--- a range of a chunk with its rows
-abbrev pub fragment_of : Schema → List Event → ℤ → Range → Fragment
-fragment_of schema es k range = record { chunk = k; from = range.from; to = range.to; rows = rolled_up schema (events_of (chunk_list schema es k) range) }
 
 -- so many sealed ranges of a chunk, from a place on
 abbrev pub ranges_at : State → ℤ → ℕ → ℕ → List Range

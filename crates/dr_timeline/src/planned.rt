@@ -1,9 +1,10 @@
 ghost use Rattle.std.specs.Prelude.{◌≡◌, ◌<◌, ◌↔◌, ℕ, IfOk, IfSome, IsTrue, IsNone, map};
 ghost use Rattle.dr_merge.specs.declared.job.Job.{Job};
-ghost use Rattle.dr_timeline.specs.Held.{range_of, StandsIn};
+ghost use Rattle.dr_chunks.specs.Held.{range_of};
+ghost use Rattle.dr_timeline.specs.Kept.{StandsIn};
 ghost use Rattle.dr_timeline.specs.Steps.{least_version as least_of};
 
-use crate::sealed_range::SealedRange;
+use dr_chunks::SealedRange;
 use dr_merge::{Fragments, Job, Purpose, Serials, SharedFragment};
 use std::alloc::{AllocError, Global};
 

@@ -6,12 +6,12 @@ ghost use Rattle.dr_query.specs.Groups.{span};
 ghost use Rattle.dr_query.specs.Matching.{is_matching};
 ghost use Rattle.dr_query.specs.MadeFor.{MadeFor};
 ghost use Rattle.dr_rollup.specs.Unrolled.{unrolled};
-ghost use Rattle.dr_timeline.specs.Segments.{rows_of};
-ghost use Rattle.dr_timeline.specs.RawAnswer.{raw_answer};
+ghost use Rattle.dr_cuts.specs.Segments.{rows_of};
+ghost use Rattle.dr_cuts.specs.RawAnswer.{raw_answer};
 
-use crate::range_info::RangeInfo;
+use dr_cuts::RangeInfo;
+use dr_chunks::Stream;
 use crate::span::span_of;
-use crate::stream::Stream;
 use crate::unrolled::unrolled_rows;
 use dr_answer::answer;
 use dr_base::Event;
@@ -31,7 +31,7 @@ pub struct Snapshot {
 }
 
 impl Model for Snapshot {
-    ghost use Rattle.dr_timeline.specs.Segments.{Pinned};
+    ghost use Rattle.dr_cuts.specs.Segments.{Pinned};
     ghost use Rattle.dr_timeline.specs.Shown.{Shows};
 
     ghost Value = { Pinned };

@@ -1,24 +1,21 @@
 ghost use Rattle.std.specs.Prelude.{◌≡◌, ◌<◌, ◌≤◌, ◌↔◌, ◌⊎◌, ℕ, true, [], length, map, OnOk, OnErr, IfOk, IfErr, IsErrOf};
 ghost use Rattle.dr_timeline.specs.declared.timeline_error.TimelineError.TheVariants.{NoMemory, StreamFull, NothingToSeal, NoSuchRange, Stale, CommitsFull};
-ghost use Rattle.dr_timeline.specs.State.{State, empty_state, sealed_in};
+ghost use Rattle.dr_cuts.specs.State.{State, empty_state, sealed_in};
 ghost use Rattle.dr_timeline.specs.Steps.{accepted, sealed_at, open_in, job_of, StandsAt, Commits};
 ghost use Rattle.dr_timeline.specs.Stepping.{accept, seal, plan, commit};
 ghost use Rattle.dr_timeline.specs.Refusal.{is_memory};
 ghost use Rattle.dr_base.specs.Reading.{GivesUnless};
 ghost use Rattle.dr_timeline.specs.Noted.{noted, stats};
 ghost use Rattle.dr_merge.specs.Joined.{joined_fragment};
-ghost use Rattle.dr_timeline.specs.Segments.{pinned};
+ghost use Rattle.dr_cuts.specs.Segments.{pinned};
 ghost use Rattle.dr_schema.specs.Fits.{FitsSchema};
 ghost use Rattle.dr_schema.specs.WellFormed.{IsWellFormed};
 
-use crate::chunks::Chunks;
+use dr_chunks::{Chunks, Place, SealedRange, Stream};
 use crate::outcome::Outcome;
-use crate::place::Place;
 use crate::planned::{job_over, least_version, place_of_job};
-use crate::sealed_range::SealedRange;
 use crate::snapshot::Snapshot;
 use crate::stats::Stats;
-use crate::stream::Stream;
 use crate::timeline_error::TimelineError;
 use crate::unrolled::chunk_start;
 use dr_base::Event;
@@ -43,8 +40,9 @@ pub struct Timeline {
 
 impl Model for Timeline {
     ghost use Rattle.std.specs.Prelude.{map, ◌+◌};
-    ghost use Rattle.dr_timeline.specs.State.{State};
-    ghost use Rattle.dr_timeline.specs.Held.{cut_of, Keeps};
+    ghost use Rattle.dr_cuts.specs.State.{State};
+    ghost use Rattle.dr_chunks.specs.Held.{cut_of};
+    ghost use Rattle.dr_timeline.specs.Kept.{Keeps};
 
     ghost Value = { State };
 
@@ -101,7 +99,8 @@ impl Timeline {
     {
         let schema = self.spec.schema();
         let number = self.stream.len();
-        if number >= schema.limits().max_retained {
+        let limits = schema.limits();
+        if number >= limits.max_retained {
             return Err(TimelineError::StreamFull);
         }
         let alloc = self.stream.allocator();
@@ -203,7 +202,8 @@ impl Timeline {
         let Some(place) = place_of_job(self.chunks.as_slice()[i].sealed.as_slice(), job) else {
             return Err(TimelineError::Stale);
         };
-        if self.commits >= self.spec.schema().limits().max_commits {
+        let limits = self.spec.schema().limits();
+        if self.commits >= limits.max_commits {
             return Err(TimelineError::CommitsFull);
         }
         let version = least_version(

@@ -3,9 +3,9 @@ ghost use Rattle.std.specs.List.{AllByRecursion};
 ghost use Rattle.dr_schema.specs.Fits.{FitsSchema};
 ghost use Rattle.dr_time.specs.Instant.{IsInstant};
 ghost use Rattle.dr_rollup.specs.Unrolled.{unrolled};
-ghost use Rattle.dr_timeline.specs.Chunks.{chunk};
+ghost use Rattle.dr_cuts.specs.Chunks.{chunk};
 
-use crate::stream::Stream;
+use dr_chunks::Stream;
 use dr_base::{Event, Row};
 use dr_rollup::{columns_of, unrolled_row};
 use dr_schema::Schema;

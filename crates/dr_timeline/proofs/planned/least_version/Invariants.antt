@@ -1,6 +1,6 @@
 use Rattle.std.proofs.Common.{◌≡◌, ◌+◌, drop, map, min}
 use Rattle.std.specs.List.{fold}
-use Rattle.dr_timeline.specs.Held.{range_of}
+use Rattle.dr_chunks.specs.Held.{range_of}
 use Rattle.dr_timeline.specs.Steps.{least_version}
 use Rattle.dr_timeline.proofs.planned.least_version.Given as goal
 

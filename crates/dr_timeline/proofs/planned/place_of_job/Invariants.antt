@@ -1,5 +1,5 @@
 use Rattle.std.proofs.Common.{ℕ, ◌<◌}
-use Rattle.dr_timeline.specs.Held.{StandsIn}
+use Rattle.dr_timeline.specs.Kept.{StandsIn}
 use Rattle.dr_timeline.proofs.planned.place_of_job.Given as goal
 
 abbrev pub invariant-loop-place : goal.invariant-loop-place

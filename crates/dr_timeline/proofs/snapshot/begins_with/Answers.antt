@@ -1,6 +1,6 @@
 use Rattle.std.proofs.Common.{◌≡◌, ◌∙◌, sym, refl, ap, ◌++◌, [], ◌∷◌, take, drop, length, ◌≤◌, ◌<◌, arith}
 use Rattle.std.proofs.lemmas.List.{take_all, take-append-drop}
-use Rattle.dr_timeline.proofs.Blocks.{taken-more}
+use Rattle.dr_chunks.proofs.Blocks.{taken-more}
 use Rattle.dr_timeline.proofs.snapshot.begins_with.Goals as goal
 
 pub loop-i-preserved : goal.loop-i-preserved

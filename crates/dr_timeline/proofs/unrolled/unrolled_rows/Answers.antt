@@ -7,8 +7,8 @@ use Rattle.dr_base.specs.declared.event.Event.{Event}
 use Rattle.dr_schema.specs.declared.schema.Schema.{Schema}
 use Rattle.dr_schema.specs.Fits.{FitsSchema}
 use Rattle.dr_rollup.specs.Unrolled.{unrolled}
-use Rattle.dr_timeline.proofs.Blocks.{taken-more}
-use Rattle.dr_timeline.proofs.Each.{All-at}
+use Rattle.dr_chunks.proofs.Blocks.{taken-more}
+use Rattle.dr_cuts.proofs.Each.{All-at}
 use Rattle.dr_timeline.proofs.unrolled.unrolled_rows.Goals as goal
 
 lies_in : (s : Schema) (es : List Event) (place : ℕ) (e : Event) → place < length es → slice_get es place ≡ Some e → AllByRecursion (FitsSchema s) es → FitsSchema s e

@@ -1,5 +1,5 @@
 use Rattle.std.proofs.Common.{refl, arith}
-use Rattle.dr_timeline.specs.Chunks.{values_onto}
+use Rattle.dr_cuts.specs.Chunks.{values_onto}
 use Rattle.dr_timeline.proofs.timeline.Timeline.new.Goals as goal
 
 pub invariant_of-result : goal.invariant_of-result

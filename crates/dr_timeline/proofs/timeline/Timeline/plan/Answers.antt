@@ -1,13 +1,13 @@
 use Rattle.std.proofs.Common.{◌≡◌, ◌∙◌, sym, ap, refl, Ok, map, take, drop, w64, arith, length, get_or, ◌-◌, ◌+◌, List}
 use Rattle.std.proofs.lemmas.Int.{to_z-of_z}
 use Rattle.std.proofs.lemmas.Result.{err_from_is_err_and}
-use Rattle.dr_timeline.specs.declared.chunk.Chunk.{Chunk}
-use Rattle.dr_timeline.specs.declared.sealed_range.SealedRange.{SealedRange}
-use Rattle.dr_timeline.specs.State.{State, sealed_in}
+use Rattle.dr_chunks.specs.declared.chunk.Chunk.{Chunk}
+use Rattle.dr_chunks.specs.declared.sealed_range.SealedRange.{SealedRange}
+use Rattle.dr_cuts.specs.State.{State, sealed_in}
 use Rattle.dr_timeline.specs.Steps.{job_of}
-use Rattle.dr_timeline.specs.Held.{chunk_at, ranges_of}
-use Rattle.dr_timeline.proofs.Places.{chunk_at-here, chunk_at-new}
-use Rattle.dr_timeline.proofs.Changes.{sealed_in-cuts}
+use Rattle.dr_chunks.specs.Held.{chunk_at, ranges_of}
+use Rattle.dr_chunks.proofs.Places.{chunk_at-here, chunk_at-new}
+use Rattle.dr_chunks.proofs.Changes.{sealed_in-cuts}
 use Rattle.dr_timeline.proofs.Standing.{seen, shown-length, shown-serials, shown-inputs}
 use Rattle.dr_timeline.proofs.Placing.{plan-ok, plan-none}
 use Rattle.dr_timeline.proofs.Keeping.{rising-starts}

@@ -1,12 +1,12 @@
 use Rattle.std.proofs.Common.{◌≡◌, ◌∙◌, sym, ap, refl, true, Ok, [], w64, rules, get_or, ◌+◌, List}
 use Rattle.std.proofs.lemmas.Int.{to_z-of_z}
 use Rattle.std.proofs.lemmas.Result.{err_from_is_err_and}
-use Rattle.dr_timeline.specs.declared.chunk.Chunk.{Chunk}
-use Rattle.dr_timeline.specs.declared.place.Place.TheVariants.{At}
-use Rattle.dr_timeline.specs.State.{State}
+use Rattle.dr_chunks.specs.declared.chunk.Chunk.{Chunk}
+use Rattle.dr_chunks.specs.declared.place.Place.TheVariants.{At}
+use Rattle.dr_cuts.specs.State.{State}
 use Rattle.dr_timeline.specs.Steps.{sealed_at, open_in}
-use Rattle.dr_timeline.specs.Held.{IsPlace, chunk_at, has_open, at_start, with_open_sealed}
-use Rattle.dr_timeline.proofs.Places.{at_start-here, chunk_at-here}
+use Rattle.dr_chunks.specs.Held.{IsPlace, chunk_at, has_open, at_start, with_open_sealed}
+use Rattle.dr_chunks.proofs.Places.{at_start-here, chunk_at-here}
 use Rattle.dr_timeline.proofs.Keeping.{keeps-sealed, state-sealed, open-new, open-empty, open-there, rising-starts}
 use Rattle.dr_timeline.proofs.Placing.{seal-ok, seal-none}
 use Rattle.dr_timeline.proofs.timeline.Timeline.seal.Goals as goal

@@ -1,0 +1,148 @@
+ghost use Rattle.std.specs.Prelude.{◌≡◌, ◌<◌, ◌≤◌, ◌++◌, IfOk, OnOk, OnErr};
+ghost use Rattle.dr_schema.specs.Fits.{FitsSchema};
+ghost use Rattle.dr_cuts.specs.State.{open_from};
+ghost use Rattle.dr_chunks.specs.Held.{no_chunk, with_one, grown, is_full, seals_of, with_open_sealed, with_sealed_rows, has_open, open_info_of, open_fragment, ranges_of, infos_of_chunk, fragments_of_chunk};
+
+use dr_cuts::RangeInfo;
+use crate::open_range::OpenRange;
+use crate::sealed_range::SealedRange;
+use crate::sealed_ranges::SealedRanges;
+use dr_base::Event;
+use dr_merge::{Fragment, Fragments, SharedFragment};
+use dr_schema::Schema;
+use std::alloc::{AllocError, Global};
+
+/// A chunk of events: the start of its bucket of the segment granularity, in milliseconds since the epoch, how many
+/// events it has, its sealed ranges in order, how many publications there were, and its open range.
+#[derive(Drop)]
+pub struct Chunk {
+    pub start: i64,
+    pub events: usize,
+    pub sealed: SealedRanges,
+    pub publications: u64,
+    pub open_range: OpenRange,
+}
+
+impl Chunk {
+    /// A chunk without events. The only error is that memory ran out.
+    pub fn new(alloc: Global, schema: &Schema, start: i64) -> Result<Chunk, AllocError>
+        requires { schema.now.limits.max_rows_in_memory ≤ 1048576 }
+        ensures { IfOk result (λ chunk. chunk ≡ no_chunk schema.now start) }
+    {
+        Ok(Chunk {
+            start,
+            events: 0,
+            sealed: SealedRanges::new(alloc),
+            publications: 0,
+            open_range: OpenRange::new(alloc, schema)?,
+        })
+    }
+
+    /// Whether the open range has an event.
+    pub fn has_open(&self) -> bool
+        ensures { result ≡ has_open self.now }
+    {
+        self.sealed.end() < self.events
+    }
+
+    /// The open range as a snapshot shows it.
+    pub fn open_info(&self) -> RangeInfo
+        ensures { result ≡ open_info_of self.now }
+    {
+        RangeInfo {
+            chunk: self.start,
+            from: self.sealed.end(),
+            to: self.events,
+            version: 0,
+            rows: self.open_range.len(),
+            sealed: false,
+        }
+    }
+
+    /// The open range with its rows. The only error is that memory ran out.
+    pub fn open_fragment(&mut self, alloc: Global) -> Result<SharedFragment, AllocError>
+        ensures fragment { IfOk result (λ fragment. fragment ≡ open_fragment self.old) }
+        ensures same { self.new ≡ self.old }
+    {
+        self.open_range
+            .fragment(alloc, self.start, self.sealed.end(), self.events)
+    }
+
+    /// Puts the ranges behind these, as a snapshot shows them and with their rows. The only error is that memory ran out.
+    pub fn pin(
+        &mut self,
+        alloc: Global,
+        fragments: &mut Fragments,
+        ranges: &mut Vec<RangeInfo>,
+    ) -> Result<(), AllocError>
+        ensures fragments { OnOk result (fragments.new ≡ fragments.old ++ fragments_of_chunk self.old) }
+        ensures ranges { OnOk result (ranges.new.items ≡ ranges.old.items ++ infos_of_chunk self.old) }
+        ensures same { self.new ≡ self.old }
+    {
+        self.sealed.pin(fragments, ranges)?;
+        if self.has_open() {
+            ranges.push(self.open_info())?;
+            fragments.push(self.open_fragment(alloc)?)?;
+        }
+        Ok(())
+    }
+
+    /// Adds an event to the open range, and seals it with this serial where it has as many rows as it may then. Answers
+    /// how many ranges were sealed by it, 0 or 1. An error leaves the chunk as it was.
+    pub fn grow(&mut self, alloc: Global, serial: u64, event: &Event) -> Result<u64, AllocError>
+        requires event { FitsSchema self.old.open_range.schema event.now }
+        requires room { self.old.events < 18446744073709551615 }
+        ensures ok { OnOk result (self.new ≡ grown serial event.now self.old) }
+        ensures seals { IfOk result (λ seals. seals ≡ seals_of (is_full (with_one event.now self.old))) }
+        ensures err { OnErr result (self.new ≡ self.old) }
+    {
+        if self.open_range.stays_open(event) {
+            self.open_range.add(event)?;
+            self.events += 1;
+            return Ok(0);
+        }
+        let fragment = Fragment {
+            chunk: self.start,
+            from: self.sealed.end(),
+            to: self.events + 1,
+            rows: self.open_range.rows_with(event)?,
+        };
+        self.seal_as(
+            serial,
+            self.events + 1,
+            SharedFragment::new(alloc, fragment)?,
+        )?;
+        Ok(1)
+    }
+
+    /// Seals the open range with this serial. An error leaves the chunk as it was.
+    pub fn seal(&mut self, alloc: Global, serial: u64) -> Result<(), AllocError>
+        ensures ok { OnOk result (self.new ≡ with_open_sealed serial self.old) }
+        ensures err { OnErr result (self.new ≡ self.old) }
+    {
+        let fragment = self.open_fragment(alloc)?;
+        self.seal_as(serial, self.events, fragment)
+    }
+
+    // Its open range, up to the end of so many events, becomes that sealed one.
+    fn seal_as(
+        &mut self,
+        serial: u64,
+        events: usize,
+        fragment: SharedFragment,
+    ) -> Result<(), AllocError>
+        requires { fragment ≡ record { chunk = self.old.start; from = open_from (ranges_of self.old); to = events; rows = fragment.rows } }
+        ensures ok { OnOk result (self.new ≡ with_sealed_rows serial events fragment.rows self.old) }
+        ensures err { OnErr result (self.new ≡ self.old) }
+    {
+        let fresh = self.open_range.fresh()?;
+        self.sealed.push(SealedRange {
+            serial,
+            version: 0,
+            fragment,
+        })?;
+        self.events = events;
+        self.open_range = fresh;
+        Ok(())
+    }
+}

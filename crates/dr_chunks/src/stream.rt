@@ -1,0 +1,144 @@
+ghost use Rattle.std.specs.Prelude.{◌≡◌, ◌<◌, ◌≤◌, ◌++◌, ◌∷◌, [], true, Some, length, slice_get, IfOk, OnOk, OnErr};
+
+use crate::block::Block;
+use dr_base::Event;
+use std::alloc::{AllocError, Global};
+use std::marker::Model;
+use std::mem::replace;
+
+/// How many events are shared together.
+const BLOCK: usize = 1024;
+
+/// Events in order, which are only added at the end. A contract sees the list of the events, and whether there is room for
+/// one more.
+///
+/// Full blocks of events are shared with the copies of a stream, so that a copy takes memory for less than a block of
+/// events. An event that stands in a full block is never moved.
+#[derive(Drop)]
+pub struct Stream {
+    blocks: Vec<Block>,
+    last: Vec<Event>,
+    count: usize,
+}
+
+impl Model for Stream {
+    ghost use Rattle.dr_chunks.specs.Blocks.{EventList, in_blocks, has_room, AreBlocks};
+
+    ghost Value = { EventList };
+
+    ghost view = { λ s. record { items = in_blocks s.blocks.items s.last.items; room = has_room s.last.items s.last.cap } };
+
+    ghost invariant = { λ s. AreBlocks s.blocks.items s.last.items s.count };
+}
+
+impl Stream {
+    /// No event.
+    pub fn new(alloc: Global) -> Stream
+        ensures { result.items ≡ [] }
+    {
+        Stream {
+            blocks: Vec::new(alloc),
+            last: Vec::new(alloc),
+            count: 0,
+        }
+    }
+
+    /// The allocator that the stream was made with.
+    pub fn allocator(&self) -> Global {
+        *self.last.allocator()
+    }
+
+    /// How many events there are.
+    pub fn len(&self) -> usize
+        ensures { result ≡ length self.now.items }
+    {
+        self.count
+    }
+
+    /// The event at a place, from 0.
+    pub fn at(&self, place: usize) -> &Event
+        requires { place < length self.now.items }
+        ensures { slice_get self.now.items place ≡ Some result.now }
+    {
+        let block = place / BLOCK;
+        if block < self.blocks.len() {
+            return &self.blocks[block].as_slice()[place % BLOCK];
+        }
+        &self.last[place % BLOCK]
+    }
+
+    /// Makes room for one more event. An error leaves the events as they were.
+    pub fn reserve(&mut self) -> Result<(), AllocError>
+        ensures items { self.new.items ≡ self.old.items }
+        ensures room { OnOk result (self.new.room ≡ true) }
+    {
+        let len = self.last.len();
+        if len < BLOCK {
+            return self.last.reserve(BLOCK - len);
+        }
+        let alloc = self.allocator();
+        self.blocks.reserve(1)?;
+        let block = take_block(alloc, &mut self.last)?;
+        self.blocks.push(block).unwrap();
+        Ok(())
+    }
+
+    /// Adds an event at the end.
+    pub fn push(&mut self, event: Event)
+        requires room { self.old.room ≡ true }
+        requires few { length self.old.items < 18446744073709551615 }
+        ensures { self.new.items ≡ self.old.items ++ event ∷ [] }
+    {
+        self.last.push(event).unwrap();
+        self.count += 1;
+    }
+
+    /// The same events, of which less than a block is copied. The only error is that memory ran out.
+    pub fn share(&self) -> Result<Stream, AllocError>
+        ensures { IfOk result (λ stream. stream.items ≡ self.now.items) }
+    {
+        let alloc = self.allocator();
+        Ok(Stream {
+            blocks: share_all(alloc, &self.blocks)?,
+            last: copy_all(alloc, &self.last)?,
+            count: self.count,
+        })
+    }
+}
+
+// Takes the events as a block, and leaves room for the next one.
+fn take_block(alloc: Global, events: &mut Vec<Event>) -> Result<Block, AllocError>
+    ensures block { IfOk result (λ block. block ≡ events.old.items) }
+    ensures empty { OnOk result (events.new.items ≡ []) }
+    ensures room { OnOk result (1024 ≤ events.new.cap) }
+    ensures err { OnErr result (events.new.items ≡ events.old.items) }
+{
+    let next = Vec::with_capacity(alloc, BLOCK)?;
+    match Block::new(alloc, replace(events, next)) {
+        Ok(block) => Ok(block),
+        Err(failed) => {
+            *events = failed.value;
+            Err(AllocError)
+        }
+    }
+}
+
+fn share_all(alloc: Global, blocks: &[Block]) -> Result<Vec<Block>, AllocError>
+    ensures { IfOk result (λ shares. shares.items ≡ blocks.now) }
+{
+    let mut shares = Vec::with_capacity(alloc, blocks.len())?;
+    for block in blocks {
+        shares.push(block.share()?)?;
+    }
+    Ok(shares)
+}
+
+fn copy_all(alloc: Global, events: &[Event]) -> Result<Vec<Event>, AllocError>
+    ensures { IfOk result (λ copies. copies.items ≡ events.now) }
+{
+    let mut copies = Vec::with_capacity(alloc, events.len())?;
+    for event in events {
+        copies.push(event.copy()?)?;
+    }
+    Ok(copies)
+}

@@ -1,0 +1,5 @@
+pub mod Each
+pub mod Totals
+pub mod Parts
+pub mod Tiles
+pub mod Matching

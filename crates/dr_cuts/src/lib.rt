@@ -1,0 +1,9 @@
+//! The chunks that events lie in, the ranges that the list of a chunk is cut into, and the rows of these: definitions alone.
+//! Its laws say what chunks events have, and that the answer to a matching query doesn't depend on the cuts.
+#![tactic(auto)]
+
+mod laws;
+mod range_info;
+
+pub use laws::{answers_over_cuts, chunks_of_events};
+pub use range_info::RangeInfo;

@@ -1,7 +1,0 @@
-use Rattle.std.specs.Ordering.{int_eq}
-use Rattle.dr_timeline.specs.Chunks.{chunk}
-use Rattle.dr_timeline.proofs.Parts.{rising-values, any-values}
-use Rattle.dr_timeline.proofs.laws.chunks_of_events.Goals as goal
-
-pub returns : goal.returns
-returns c = λ schema es. (rising-values (chunk schema) es, λ k. any-values (int_eq k) (chunk schema) es)

@@ -1,6 +1,0 @@
-use Rattle.std.proofs.Common.{◌≡◌, ◌++◌, take, map}
-use Rattle.dr_timeline.specs.Held.{info_of}
-use Rattle.dr_timeline.proofs.sealed_ranges.SealedRanges.pin.Given as goal
-
-abbrev pub invariant-loop-range : goal.invariant-loop-range
-invariant-loop-range l = (l.fragments ≡ l.initial.fragments ++ map (λ s. s.fragment) (take l.range-index l.self)) × (l.ranges.items ≡ l.initial.ranges.items ++ map info_of (take l.range-index l.self))
