@@ -4,4 +4,3 @@ pub mod Lengths
 pub mod Blocks
 pub mod Holding
 pub mod Changes
-pub mod Pinning

@@ -1,4 +1,3 @@
 pub mod Blocks
 pub mod Held
-pub mod Pieces
 pub mod Ranges

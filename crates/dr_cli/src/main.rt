@@ -46,6 +46,3 @@ fn asked_for<R: Env + AllocGlobal>(rt: &R) -> Result<Command, CliError> {
         .collect(rt.alloc())?;
     command_of(rt.alloc(), words.as_slice())
 }
-
-#[cfg(test)]
-mod tests;

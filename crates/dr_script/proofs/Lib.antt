@@ -1,3 +1,2 @@
 pub mod ScriptSteps
-pub mod WordLemmas
 pub mod SessionLemmas

@@ -6,7 +6,7 @@ use Rattle.std.proofs.lemmas.Grind.{flat_map-append}
 use Rattle.std.proofs.lemmas.List.Folds.{list_any-append}
 use Rattle.dr_lines.specs.declared.line_error.LineError.{LineError}
 use Rattle.dr_lines.specs.declared.line_error.LineError.TheVariants.{ReadFault}
-use Rattle.dr_script.specs.declared.command_error.CommandError.TheVariants.{NoMemory, Line}
+use Rattle.dr_requests.specs.declared.command_error.CommandError.TheVariants.{NoMemory, Line}
 use Rattle.dr_script.specs.declared.reply.Reply.{Reply}
 use Rattle.dr_script.specs.declared.reply.Reply.TheVariants.{Fault}
 use Rattle.dr_lines.specs.Lines.{TakesLine, lines_of}

@@ -1,12 +1,8 @@
 -- What each command of a script does: what is written for it, and the state after it, or its refusal, which changes nothing.
 use Rattle.std.specs.Prelude.{ℕ, ℤ, Bool, true, false, List, ◌++◌, length, Option, None, Result, Ok, Err, codes, decimal, slice_get, if◌then◌else◌}
-use Rattle.std.specs.Str.{is_utf8}
 use Rattle.dr_base.specs.FaultLine.{fault_line, arg_part}
 use Rattle.dr_base.specs.Reading.{◌>>=◌, passed}
 use Rattle.dr_base.specs.declared.fault.Arg.{Arg}
-use Rattle.dr_time.specs.declared.time_error.TimeError.{TimeError}
-use Rattle.dr_time.specs.declared.time_error.TimeError.TheVariants.{BadInstant}
-use Rattle.dr_time.specs.Instant.{instant_of}
 use Rattle.dr_time.specs.Refusal as time
 use Rattle.dr_gran.specs.Truncation.{truncation}
 use Rattle.dr_base.specs.declared.event.Event.{Event}
@@ -26,14 +22,14 @@ use Rattle.dr_cuts.specs.RawAnswer.{raw_answer}
 use Rattle.dr_timeline.specs.CoreState.{CoreState, with_timeline, with_job, with_pin}
 use Rattle.dr_cuts.specs.Segments.{pinned, rows_of}
 use Rattle.dr_timeline.specs.Stepping.{accept, seal, plan, commit}
-use Rattle.dr_script.specs.declared.command_error.CommandError.{CommandError}
-use Rattle.dr_script.specs.declared.request.Request.{Request}
-use Rattle.dr_script.specs.declared.request.Request.TheVariants as line
+use Rattle.dr_requests.specs.declared.command_error.CommandError.{CommandError}
+use Rattle.dr_requests.specs.declared.request.Request.{Request}
+use Rattle.dr_requests.specs.declared.request.Request.TheVariants as line
 use Rattle.dr_script.specs.declared.script_error.ScriptError.{ScriptError}
 use Rattle.dr_script.specs.declared.script_error.ScriptError.TheVariants.{Command, Time, Timeline, Query as BadQuery, Answer}
-use Rattle.dr_script.specs.Refusal.{number_of, name_of}
-use Rattle.dr_script.specs.Refusal as command
-use Rattle.dr_script.specs.Request.{or_bad_command}
+use Rattle.dr_requests.specs.Refusal.{number_of, name_of}
+use Rattle.dr_requests.specs.Refusal as command
+use Rattle.dr_requests.specs.Request.{or_bad_command, instant_in}
 
 -- what is written for a line, and whether it refuses the line
 pub record Answered : Type 0 where
@@ -88,10 +84,6 @@ add_read (Err e) c = Ok (unparseable e, with_timeline (noted NotParsed c.timelin
 -- `+ EVENT`
 abbrev pub add_event : List ℕ → CoreState → Result (Answered × CoreState) ScriptError
 add_event text c = add_read (event_of c.timeline.schema 0 text) c
-
--- an instant, as ISO 8601 spells it; bytes that aren't UTF-8 spell none
-abbrev pub instant_in : List ℕ → Result ℤ TimeError
-instant_in word = if is_utf8 word then instant_of word else Err BadInstant
 
 -- the chunk in which an instant lies
 abbrev pub chunk_named : CoreState → List ℕ → Result ℤ ScriptError

@@ -5,7 +5,7 @@ use Rattle.dr_lines.specs.declared.line_error.LineError.{LineError}
 use Rattle.dr_lines.specs.declared.line_error.LineError.TheVariants.{ReadFault}
 use Rattle.dr_lines.specs.Lines.{lines_of, most_reads, TakesLine}
 use Rattle.dr_lines.specs.Written.{Writes}
-use Rattle.dr_script.specs.declared.command_error.CommandError.TheVariants.{NoMemory, Line}
+use Rattle.dr_requests.specs.declared.command_error.CommandError.TheVariants.{NoMemory, Line}
 use Rattle.dr_script.specs.declared.reply.Reply.{Reply}
 use Rattle.dr_script.specs.declared.reply.Reply.TheVariants.{SpecOk, Accepted, Sealed, Merged, Job, Committed, Pinned, Said, Refused, Fault}
 use Rattle.dr_timeline.specs.CoreState.{CoreState}

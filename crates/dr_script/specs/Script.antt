@@ -9,11 +9,11 @@ use Rattle.dr_spec.specs.SpecOf.{spec_of}
 use Rattle.dr_timeline.specs.CoreState.{CoreState, empty_core}
 use Rattle.dr_lines.specs.declared.line_error.LineError.TheVariants.{LineTooLong}
 use Rattle.dr_lines.specs.Lines.{longest_line}
-use Rattle.dr_script.specs.declared.command_error.CommandError.TheVariants.{Line}
+use Rattle.dr_requests.specs.declared.command_error.CommandError.TheVariants.{Line}
 use Rattle.dr_script.specs.declared.script_error.ScriptError.{ScriptError}
 use Rattle.dr_script.specs.declared.script_error.ScriptError.TheVariants.{Command}
 use Rattle.dr_script.specs.Commands.{Answered, answered, refused, refused_by, told, carried_out}
-use Rattle.dr_script.specs.Request.{request_in}
+use Rattle.dr_requests.specs.Request.{request_in}
 
 -- ---- the spec line
 

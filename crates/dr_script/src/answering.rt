@@ -1,14 +1,13 @@
 ghost use Rattle.std.specs.Prelude.{◌≡◌, ◌≤◌, length, true, OnErr};
 ghost use Rattle.dr_base.specs.Reading.{GivesUnless};
-ghost use Rattle.dr_script.specs.declared.command_error.CommandError.TheVariants.{NoMemory};
+ghost use Rattle.dr_requests.specs.declared.command_error.CommandError.TheVariants.{NoMemory};
 ghost use Rattle.dr_script.specs.Commands.{is_memory, refused, refused_by, told};
 ghost use Rattle.dr_lines.specs.Lines.{longest_line};
 ghost use Rattle.dr_script.specs.Replies.{IsAnswer, Moves, Opens, seen};
 ghost use Rattle.dr_script.specs.Script.{line_done};
 
-use crate::command_error::CommandError;
+use dr_requests::{CommandError, request_in};
 use crate::reply::Reply;
-use crate::requests::request_in;
 use crate::script_error::ScriptError;
 use crate::session::Session;
 use dr_base::{Arg, fault_line};

@@ -3,17 +3,10 @@
 #![tactic(auto)]
 
 mod answering;
-mod command_error;
 mod reply;
-mod request;
-mod requests;
 mod script;
 mod script_error;
 mod session;
 mod wording;
-mod words;
 
 pub use script::run_script;
-
-#[cfg(test)]
-mod tests;

@@ -5,14 +5,12 @@ ghost use Rattle.dr_timeline.specs.CoreState.{empty_core};
 ghost use Rattle.dr_timeline.specs.Stepping.{commit};
 ghost use Rattle.dr_script.specs.Commands.{add_event, ask_at, ask_now, audit_now, carried_out, chunk_named, commit_job, is_memory, merge_ranges, pin_snapshot, plan_merge, seal_chunk, tell_stats};
 ghost use Rattle.dr_script.specs.Replies.{seen};
-ghost use Rattle.dr_script.specs.Seen.{seen_request};
+ghost use Rattle.dr_requests.specs.Seen.{seen_request};
 
-use crate::command_error::CommandError;
+use dr_requests::{CommandError, Request, instant_in};
 use crate::reply::Reply;
-use crate::request::Request;
 use crate::script_error::ScriptError;
 use crate::wording::{stats_line, unparseable_line};
-use crate::words::instant_in;
 use dr_events::{EventReader, Unparseable};
 use dr_merge::{Job, Purpose, work};
 use dr_query::Query;

@@ -1,3 +1,4 @@
+pub mod Pinning
 pub mod Keeping
 pub mod Standing
 pub mod Placing

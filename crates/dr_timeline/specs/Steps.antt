@@ -3,13 +3,12 @@
 use Rattle.std.specs.Prelude.{◌≡◌, ℕ, ℤ, ◌+◌, ◌-◌, ◌<◌, ◌≤◌, min, nat_le, List, [], ◌∷◌, ◌++◌, length, map, take, drop, fold, if◌then◌else◌}
 use Rattle.dr_base.specs.declared.event.Event.{Event}
 use Rattle.dr_schema.specs.declared.schema.Schema.{Schema}
-use Rattle.dr_merge.specs.declared.fragment.Fragment.{Fragment}
 use Rattle.dr_merge.specs.declared.job.Job.{Job}
 use Rattle.dr_merge.specs.declared.purpose.Purpose.{Purpose}
 use Rattle.dr_rollup.specs.Unrolled.{rolled_up}
 use Rattle.dr_cuts.specs.Chunks.{chunk, chunk_list}
-use Rattle.dr_cuts.specs.AtKey.{at_key}
-use Rattle.dr_cuts.specs.State.{Range, Cut, State, open_from, open_events, events_of, sealed_in}
+use Rattle.dr_cuts.specs.State.{Range, Cut, State, open_from, open_events, sealed_in, at_chunk}
+use Rattle.dr_chunks.specs.Ranges.{fragment_of}
 use Rattle.dr_merge.specs.Joined.{joined_fragment}
 
 -- the events of a chunk's open range

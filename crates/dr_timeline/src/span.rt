@@ -1,6 +1,6 @@
 ghost use Rattle.std.specs.Prelude.{◌≡◌};
 ghost use Rattle.dr_query.specs.Groups.{span};
-ghost use Rattle.dr_chunks.specs.Pieces.{rows_held};
+ghost use Rattle.dr_timeline.specs.Pieces.{rows_held};
 
 use dr_answer::span_onto;
 use dr_merge::SharedFragment;

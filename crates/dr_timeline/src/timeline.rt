@@ -99,7 +99,8 @@ impl Timeline {
     {
         let schema = self.spec.schema();
         let number = self.stream.len();
-        if number >= schema.limits().max_retained {
+        let limits = schema.limits();
+        if number >= limits.max_retained {
             return Err(TimelineError::StreamFull);
         }
         let alloc = self.stream.allocator();
@@ -201,7 +202,8 @@ impl Timeline {
         let Some(place) = place_of_job(self.chunks.as_slice()[i].sealed.as_slice(), job) else {
             return Err(TimelineError::Stale);
         };
-        if self.commits >= self.spec.schema().limits().max_commits {
+        let limits = self.spec.schema().limits();
+        if self.commits >= limits.max_commits {
             return Err(TimelineError::CommitsFull);
         }
         let version = least_version(

@@ -1,4 +1,4 @@
-use Rattle.dr_script.specs.declared.command_error.CommandError.TheVariants.{Line}
+use Rattle.dr_requests.specs.declared.command_error.CommandError.TheVariants.{Line}
 use Rattle.dr_lines.specs.declared.line_error.LineError.TheVariants.{ReadFault}
 use Rattle.dr_script.specs.declared.reply.Reply.TheVariants.{Fault}
 use Rattle.dr_script.proofs.ScriptSteps.{refuses, opened_then, read_well}

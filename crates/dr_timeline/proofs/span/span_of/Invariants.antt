@@ -1,7 +1,7 @@
 use Rattle.std.proofs.Common.{◌≡◌, drop, map}
 use Rattle.std.specs.List.{fold}
 use Rattle.dr_query.specs.Groups.{wider, span_of_row, span}
-use Rattle.dr_chunks.specs.Pieces.{rows_held}
+use Rattle.dr_timeline.specs.Pieces.{rows_held}
 use Rattle.dr_timeline.proofs.span.span_of.Given as goal
 
 abbrev pub invariant-loop-shared : goal.invariant-loop-shared

@@ -1,11 +1,11 @@
 use Rattle.std.proofs.Common.{◌≡◌, ◌∙◌, ap}
 use Rattle.dr_query.specs.Answer.{answer}
 use Rattle.dr_cuts.specs.Segments.{Pinned, rows_over, rows_of}
-use Rattle.dr_chunks.specs.Pieces.{rows_held}
+use Rattle.dr_timeline.specs.Pieces.{rows_held}
 use Rattle.dr_answer.specs.Pieces.{rows_in}
 use Rattle.dr_cuts.specs.RawAnswer.{raw_answer}
 use Rattle.dr_cuts.proofs.Matching.{answer-cut_rows}
-use Rattle.dr_chunks.proofs.Pinning.{held-rows, lent-rows}
+use Rattle.dr_timeline.proofs.Pinning.{held-rows, lent-rows}
 use Rattle.dr_timeline.proofs.snapshot.Snapshot.answer_one.Goals as goal
 
 pub returns-clause-own_rows : goal.returns-clause-own_rows

@@ -1,10 +1,10 @@
 use Rattle.std.proofs.Common.{◌∙◌, ap, map}
 use Rattle.dr_query.specs.Groups.{span}
 use Rattle.dr_cuts.specs.Segments.{Pinned, rows_over}
-use Rattle.dr_chunks.specs.Pieces.{rows_held}
+use Rattle.dr_timeline.specs.Pieces.{rows_held}
 use Rattle.dr_rollup.specs.Unrolled.{unrolled}
 use Rattle.dr_cuts.proofs.Matching.{span-cut_rows}
-use Rattle.dr_chunks.proofs.Pinning.{held-rows}
+use Rattle.dr_timeline.proofs.Pinning.{held-rows}
 use Rattle.dr_timeline.proofs.snapshot.Snapshot.span.Goals as goal
 
 pub returns : goal.returns

@@ -2,6 +2,7 @@ use Rattle.std.proofs.Common.{◌≡◌, ◌∙◌, sym, ap, refl, subst, map, t
 use Rattle.std.proofs.lemmas.Int.{to_z-of_z}
 use Rattle.std.proofs.lemmas.Result.{err_from_is_err_and}
 use Rattle.dr_schema.specs.declared.schema.Schema.{Schema}
+use Rattle.dr_schema.specs.declared.limits.Limits.{Limits}
 use Rattle.dr_chunks.specs.declared.chunk.Chunk.{Chunk}
 use Rattle.dr_chunks.specs.declared.place.Place.TheVariants.{At}
 use Rattle.dr_chunks.specs.declared.sealed_range.SealedRange.{SealedRange}
@@ -95,20 +96,21 @@ first c e below at_e = c.in-Some.ensures.first e below (stands_there (chunk_of c
 
 -- ---- as many commits as the spec allows
 
-pub returns-then-self-schema-clause-stale : goal.returns-then-self-schema-clause-stale
-returns-then-self-schema-clause-stale c = (λ h. cc, λ h. absurd (h c.in-Some.place (stands (goal.at.returns-then-self-schema-clause-stale c).In-Some)))
+pub returns-then-self-limits-clause-stale : goal.returns-then-self-limits-clause-stale
+returns-then-self-limits-clause-stale c = (λ h. cc, λ h. absurd (h c.in-Some.place (stands (goal.at.returns-then-self-limits-clause-stale c).In-Some)))
 
-pub returns-then-self-schema-clause-full : goal.returns-then-self-schema-clause-full
-returns-then-self-schema-clause-full c =
-    let full : c.self.inside.spec.limits.max_commits ≤ c.self.inside.commits = subst (λ (schema : Schema). schema.limits.max_commits ≤ c.self.inside.commits) c.schema.ensures.value c.if-self-schema.true in (
-      λ h. ((c.in-Some.place, stands (goal.at.returns-then-self-schema-clause-full c).In-Some), subst (λ (s : State). s.schema.limits.max_commits ≤ s.commits) c.self.view_is full),
+pub returns-then-self-limits-clause-full : goal.returns-then-self-limits-clause-full
+returns-then-self-limits-clause-full c =
+    let most : c.limits-limits.result.max_commits ≡ c.self.inside.spec.limits.max_commits = ap (λ (l : Limits). l.max_commits) c.limits-limits.ensures ∙ ap (λ (x : Schema). x.limits.max_commits) c.schema.ensures.value in
+    let full : c.self.inside.spec.limits.max_commits ≤ c.self.inside.commits = omega (arith, most, c.if-self-limits.true) in (
+      λ h. ((c.in-Some.place, stands (goal.at.returns-then-self-limits-clause-full c).In-Some), subst (λ (s : State). s.schema.limits.max_commits ≤ s.commits) c.self.view_is full),
       λ h. refl,
     )
 
-pub returns-then-self-schema-clause-step : goal.returns-then-self-schema-clause-step
-returns-then-self-schema-clause-step c =
-    let some = (goal.at.returns-then-self-schema-clause-step c).In-Some in
-    λ _. commit-full c.args.self.now c.args.job.now c.in-Some.place (stands some) (first some) ((returns-then-self-schema-clause-full c).0 refl).1
+pub returns-then-self-limits-clause-step : goal.returns-then-self-limits-clause-step
+returns-then-self-limits-clause-step c =
+    let some = (goal.at.returns-then-self-limits-clause-step c).In-Some in
+    λ _. commit-full c.args.self.now c.args.job.now c.in-Some.place (stands some) (first some) ((returns-then-self-limits-clause-full c).0 refl).1
 
 -- ---- it is committed, where memory is found
 
@@ -121,7 +123,9 @@ pub returns-clause-stale : goal.returns-clause-stale
 returns-clause-stale c = (λ h. cc, λ h. absurd (h c.in-Some.place (stands (goal.at.returns-clause-stale c).In-Some)))
 
 room : (c : After-replace) → c.self.inside.commits < c.self.inside.spec.limits.max_commits
-room c = subst (λ (schema : Schema). c.self.inside.commits < schema.limits.max_commits) c.schema.ensures.value c.if-self-schema.false
+room c =
+    let most : c.limits-limits.result.max_commits ≡ c.self.inside.spec.limits.max_commits = ap (λ (l : Limits). l.max_commits) c.limits-limits.ensures ∙ ap (λ (x : Schema). x.limits.max_commits) c.schema.ensures.value in
+    omega (arith, most, c.if-self-limits.false)
 
 -- the new range
 abbrev joined_there : After-replace → SealedRange

@@ -3,7 +3,7 @@ use Rattle.std.specs.List.{flat_map}
 use Rattle.dr_base.specs.declared.event.Event.{Event}
 use Rattle.dr_chunks.specs.Held.{cut_of, infos_of_chunk, fragments_of_chunk}
 use Rattle.dr_cuts.specs.Segments.{infos, pinned}
-use Rattle.dr_chunks.proofs.Pinning.{rows_of_range, infos-chunks, rows-chunks, are-cuts}
+use Rattle.dr_timeline.proofs.Pinning.{rows_of_range, infos-chunks, rows-chunks, are-cuts}
 use Rattle.dr_timeline.proofs.timeline.Timeline.pin.Goals as goal
 
 pub invariant_of-result : goal.invariant_of-result

@@ -1,0 +1,114 @@
+ghost use Rattle.dr_requests.specs.Request.{at_in, commit_in, merge_in, places_in, plan_in, request_alone, request_in, request_with, seal_in};
+ghost use Rattle.dr_requests.specs.Seen.{seen_request};
+ghost use Rattle.dr_requests.specs.Refusal.{Gives};
+
+use crate::command_error::CommandError;
+use crate::request::Request;
+use crate::words::{number_in, one_word, split_word, two_parts};
+
+/// A line of a script as what it asks for. Refusals: 101 `BadCommand` where it fits no command.
+pub fn request_in(line: &[u8]) -> Result<Request<&[u8]>, CommandError>
+    ensures { Gives seen_request result (request_in line.now) }
+{
+    match split_word(line) {
+        (word, None) => request_alone(word),
+        (word, Some(rest)) => request_with(word, rest),
+    }
+}
+
+// A line of one word.
+fn request_alone(word: &[u8]) -> Result<Request<&[u8]>, CommandError>
+    ensures { Gives seen_request result (request_alone word.now) }
+{
+    if word == b"+".as_slice() {
+        return Ok(Request::Add(b""));
+    }
+    if word == b"pin".as_slice() {
+        return Ok(Request::Pin);
+    }
+    if word == b"stats".as_slice() {
+        return Ok(Request::Stats);
+    }
+    Err(CommandError::BadCommand)
+}
+
+// A line of a word and what is behind it.
+fn request_with<'a>(word: &[u8], rest: &'a [u8]) -> Result<Request<&'a [u8]>, CommandError>
+    ensures { Gives seen_request result (request_with word.now rest.now) }
+{
+    if word == b"+".as_slice() {
+        return Ok(Request::Add(rest));
+    }
+    if word == b"query".as_slice() {
+        return Ok(Request::Query(rest));
+    }
+    if word == b"audit".as_slice() {
+        return Ok(Request::Audit(rest));
+    }
+    if word == b"at".as_slice() {
+        return at_in(rest);
+    }
+    if word == b"seal".as_slice() {
+        return seal_in(rest);
+    }
+    if word == b"merge".as_slice() {
+        return merge_in(rest);
+    }
+    if word == b"plan".as_slice() {
+        return plan_in(rest);
+    }
+    if word == b"commit".as_slice() {
+        return commit_in(rest);
+    }
+    Err(CommandError::BadCommand)
+}
+
+// `INSTANT`.
+fn seal_in(text: &[u8]) -> Result<Request<&[u8]>, CommandError>
+    ensures { Gives seen_request result (seal_in text.now) }
+{
+    Ok(Request::Seal(one_word(text)?))
+}
+
+// `N`.
+fn commit_in<'a>(text: &[u8]) -> Result<Request<&'a [u8]>, CommandError>
+    ensures { Gives seen_request result (commit_in text.now) }
+{
+    Ok(Request::Commit(number_in(text)?))
+}
+
+// `N JSON`.
+fn at_in(text: &[u8]) -> Result<Request<&[u8]>, CommandError>
+    ensures { Gives seen_request result (at_in text.now) }
+{
+    let (number, query) = two_parts(text)?;
+    Ok(Request::At(number_in(number)?, query))
+}
+
+// `INSTANT LO HI`, for a merge at once.
+fn merge_in(text: &[u8]) -> Result<Request<&[u8]>, CommandError>
+    ensures { Gives seen_request result (merge_in text.now) }
+{
+    let (instant, lo, hi) = places_in(text)?;
+    Ok(Request::Merge(instant, lo, hi))
+}
+
+// `merge INSTANT LO HI`, for a merge later.
+fn plan_in(text: &[u8]) -> Result<Request<&[u8]>, CommandError>
+    ensures { Gives seen_request result (plan_in text.now) }
+{
+    let (purpose, range) = two_parts(text)?;
+    if purpose != b"merge".as_slice() {
+        return Err(CommandError::BadCommand);
+    }
+    let (instant, lo, hi) = places_in(range)?;
+    Ok(Request::PlanMerge(instant, lo, hi))
+}
+
+fn places_in(text: &[u8]) -> Result<(&[u8], u64, u64), CommandError>
+    ensures { Gives (λ places. (places.0.now, places.1, places.2)) result (places_in text.now) }
+{
+    let (instant, places) = two_parts(text)?;
+    let (lo, hi) = two_parts(places)?;
+    Ok((instant, number_in(lo)?, number_in(hi)?))
+}

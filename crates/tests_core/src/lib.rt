@@ -1,0 +1,5 @@
+//! Tests of `run_core_one` of `dr_core`, over lists of steps that no script of `examples/` has.
+#![tactic(auto)]
+
+#[cfg(test)]
+mod runs;
