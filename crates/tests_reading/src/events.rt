@@ -13,6 +13,28 @@ fn read(alloc: Global, line: &[u8]) -> Result<Event, Fail> {
     Ok(read_event(alloc, &spec, 255, line)?)
 }
 
+// The names of copied columns, each with the field that it reads.
+fn columns(alloc: Global) -> Result<String, Fail> {
+    let spec = IngestSpec::parse(alloc, SPEC)?;
+    let metrics = spec.schema().metrics().copy()?;
+    let mut names = String::new(alloc);
+    for metric in metrics.as_slice() {
+        names.push_str(metric.name.as_str())?;
+        names.push('|')?;
+        if let Some(field) = &metric.field {
+            names.push_str(field.as_str())?;
+        }
+    }
+    Ok(names)
+}
+
+#[test]
+fn copies_columns(rt: HostRuntime) -> Result<(), Fail> {
+    let names = columns(rt.alloc())?;
+    assert!(rt; names.as_str() == "n|added|a");
+    Ok(())
+}
+
 #[test]
 fn reads_an_event_with_its_seat(rt: HostRuntime) -> Result<(), Fail> {
     let event = read(rt.alloc(), br#"{"t":"2024-01-01","a":-2,"page":"A"}"#)?;
