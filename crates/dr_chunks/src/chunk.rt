@@ -3,11 +3,11 @@ ghost use Rattle.dr_schema.specs.Fits.{FitsSchema};
 ghost use Rattle.dr_cuts.specs.State.{open_from};
 ghost use Rattle.dr_chunks.specs.Held.{no_chunk, with_one, grown, is_full, seals_of, with_open_sealed, with_sealed_rows, has_open, open_info_of, open_fragment, ranges_of, infos_of_chunk, fragments_of_chunk};
 
-use dr_cuts::RangeInfo;
 use crate::open_range::OpenRange;
 use crate::sealed_range::SealedRange;
 use crate::sealed_ranges::SealedRanges;
 use dr_base::Event;
+use dr_cuts::RangeInfo;
 use dr_merge::{Fragment, Fragments, SharedFragment};
 use dr_schema::Schema;
 use std::alloc::{AllocError, Global};

@@ -7,11 +7,11 @@ ghost use Rattle.dr_schema.specs.WellFormed.{IsWellFormed};
 ghost use Rattle.dr_chunks.specs.declared.chunk.Chunk.{Chunk};
 ghost use Rattle.dr_chunks.specs.Held.{grown, is_full, seals_of, at_start, chunk_at, changed_at, with_open_sealed, with_range, with_one, IsPlace, infos_of_chunk, fragments_of_chunk};
 
-use dr_cuts::RangeInfo;
 use crate::chunk::Chunk;
 use crate::place::Place;
 use crate::sealed_range::SealedRange;
 use dr_base::Event;
+use dr_cuts::RangeInfo;
 use dr_merge::Fragments;
 use dr_schema::Schema;
 use std::alloc::{AllocError, Global};

@@ -2,8 +2,8 @@ ghost use Rattle.std.specs.Prelude.{◌≡◌, ◌+◌, ◌≤◌, ◌<◌, ◌+
 ghost use Rattle.dr_chunks.specs.Held.{range_of, info_of};
 ghost use Rattle.dr_cuts.specs.State.{open_from};
 
-use dr_cuts::RangeInfo;
 use crate::sealed_range::SealedRange;
+use dr_cuts::RangeInfo;
 use dr_merge::Fragments;
 use std::alloc::{AllocError, Global};
 use std::marker::Model;

@@ -12,7 +12,6 @@ ghost use Rattle.dr_query.specs.AnswerRefusal as no_answer;
 ghost use Rattle.dr_timeline.specs.Refusal.{number_of};
 ghost use Rattle.dr_core.specs.Headline.{AnswersAreRaw};
 
-use dr_timeline::{Snapshot, Timeline, TimelineError};
 use crate::bytes::Bytes;
 use crate::reply::Reply;
 use crate::step::Step;
@@ -20,6 +19,7 @@ use dr_base::Event;
 use dr_merge::{Job, Purpose, work};
 use dr_query::{AnswerError, Query};
 use dr_spec::IngestSpec;
+use dr_timeline::{Snapshot, Timeline, TimelineError};
 use std::alloc::{AllocError, Global};
 use std::marker::Model;
 

@@ -17,4 +17,3 @@ mod unparseable;
 pub use event_reader::EventReader;
 pub use reading::read_event;
 pub use unparseable::Unparseable;
-

@@ -19,4 +19,3 @@ pub use purpose::Purpose;
 pub use rows::Rows;
 pub use serials::Serials;
 pub use shared_fragment::SharedFragment;
-

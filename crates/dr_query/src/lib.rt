@@ -19,4 +19,3 @@ pub use column::Column;
 pub use query::Query;
 pub use query_error::QueryError;
 pub use result_row::ResultRow;
-

@@ -15,4 +15,3 @@ mod unrolled;
 pub use open_index::OpenIndex;
 pub use rollup_error::RollupError;
 pub use unrolled::{columns_of, unrolled_row};
-

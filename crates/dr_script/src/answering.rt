@@ -6,11 +6,11 @@ ghost use Rattle.dr_lines.specs.Lines.{longest_line};
 ghost use Rattle.dr_script.specs.Replies.{IsAnswer, Moves, Opens, seen};
 ghost use Rattle.dr_script.specs.Script.{line_done};
 
-use dr_requests::{CommandError, request_in};
 use crate::reply::Reply;
 use crate::script_error::ScriptError;
 use crate::session::Session;
 use dr_base::{Arg, fault_line};
+use dr_requests::{CommandError, request_in};
 use dr_spec::IngestSpec;
 use std::alloc::Global;
 

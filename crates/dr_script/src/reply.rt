@@ -3,8 +3,8 @@ ghost use Rattle.dr_lines.specs.Failures.{failures_of, inner_of, failures_after}
 ghost use Rattle.dr_lines.specs.Written.{Puts};
 ghost use Rattle.dr_script.specs.Replies.{seen};
 
-use dr_requests::CommandError;
 use dr_lines::{Counted, LineError, LineWriter};
+use dr_requests::CommandError;
 use itoa::Buffer;
 use std::io::Write;
 

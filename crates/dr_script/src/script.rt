@@ -6,11 +6,11 @@ ghost use Rattle.dr_lines.specs.Written.{Puts};
 ghost use Rattle.dr_script.specs.Script.{answers, script};
 ghost use Rattle.dr_script.specs.Replies.{AnsweredAll, OpensScript, ReadingFails, RunsScript, Turns};
 
-use dr_requests::CommandError;
 use crate::answering::{answer_line, open_session};
 use crate::reply::Reply;
 use crate::session::Session;
 use dr_lines::{Counted, LineError, LineReader, LineWriter, NextLine, write_out};
+use dr_requests::CommandError;
 use std::alloc::{AllocError, Global};
 use std::io::{Read, Write};
 

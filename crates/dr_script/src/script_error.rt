@@ -2,8 +2,8 @@ ghost use Rattle.std.specs.Prelude.{◌≡◌};
 ghost use Rattle.dr_requests.specs.declared.command_error.CommandError.TheVariants.{NoMemory};
 ghost use Rattle.dr_script.specs.declared.script_error.ScriptError.TheVariants as error;
 
-use dr_requests::CommandError;
 use dr_query::{AnswerError, QueryError};
+use dr_requests::CommandError;
 use dr_time::TimeError;
 use dr_timeline::TimelineError;
 use std::alloc::{AllocError, AllocFailed};

@@ -7,13 +7,13 @@ ghost use Rattle.dr_script.specs.Commands.{add_event, ask_at, ask_now, audit_now
 ghost use Rattle.dr_script.specs.Replies.{seen};
 ghost use Rattle.dr_requests.specs.Seen.{seen_request};
 
-use dr_requests::{CommandError, Request, instant_in};
 use crate::reply::Reply;
 use crate::script_error::ScriptError;
 use crate::wording::{stats_line, unparseable_line};
 use dr_events::{EventReader, Unparseable};
 use dr_merge::{Job, Purpose, work};
 use dr_query::Query;
+use dr_requests::{CommandError, Request, instant_in};
 use dr_spec::IngestSpec;
 use dr_timeline::{Outcome, Snapshot, Timeline, TimelineError};
 use std::alloc::{AllocError, Global};

@@ -16,4 +16,3 @@ mod tuning_config;
 
 pub use ingest_spec::IngestSpec;
 pub use spec_error::SpecError;
-

@@ -9,12 +9,12 @@ ghost use Rattle.dr_rollup.specs.Unrolled.{unrolled};
 ghost use Rattle.dr_cuts.specs.Segments.{rows_of};
 ghost use Rattle.dr_cuts.specs.RawAnswer.{raw_answer};
 
-use dr_cuts::RangeInfo;
-use dr_chunks::Stream;
 use crate::span::span_of;
 use crate::unrolled::unrolled_rows;
 use dr_answer::answer;
 use dr_base::Event;
+use dr_chunks::Stream;
+use dr_cuts::RangeInfo;
 use dr_merge::Fragments;
 use dr_query::{AnswerError, Query};
 use dr_schema::Schema;

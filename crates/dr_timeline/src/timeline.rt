@@ -11,7 +11,6 @@ ghost use Rattle.dr_cuts.specs.Segments.{pinned};
 ghost use Rattle.dr_schema.specs.Fits.{FitsSchema};
 ghost use Rattle.dr_schema.specs.WellFormed.{IsWellFormed};
 
-use dr_chunks::{Chunks, Place, SealedRange, Stream};
 use crate::outcome::Outcome;
 use crate::planned::{job_over, least_version, place_of_job};
 use crate::snapshot::Snapshot;
@@ -19,6 +18,7 @@ use crate::stats::Stats;
 use crate::timeline_error::TimelineError;
 use crate::unrolled::chunk_start;
 use dr_base::Event;
+use dr_chunks::{Chunks, Place, SealedRange, Stream};
 use dr_merge::{Fragment, Fragments, Job, Purpose, SharedFragment};
 use dr_spec::IngestSpec;
 use std::alloc::{AllocError, Global};

@@ -5,8 +5,8 @@ ghost use Rattle.dr_time.specs.Instant.{IsInstant};
 ghost use Rattle.dr_rollup.specs.Unrolled.{unrolled};
 ghost use Rattle.dr_cuts.specs.Chunks.{chunk};
 
-use dr_chunks::Stream;
 use dr_base::{Event, Row};
+use dr_chunks::Stream;
 use dr_rollup::{columns_of, unrolled_row};
 use dr_schema::Schema;
 use std::alloc::{AllocError, Global};

@@ -117,7 +117,10 @@ fn shows_events_across_blocks(rt: HostRuntime) -> Result<(), Fail> {
     assert_eq!(rt; time_at(&snapshot, 1023), Some(1_704_067_800_000));
     assert_eq!(rt; time_at(&snapshot, 1025), Some(1_704_070_200_000));
     assert_eq!(rt; time_at(&snapshot, 1026), None);
-    assert_eq!(rt; snapshot.span(), Some((1_704_067_800_000, 1_704_070_200_000)));
+    assert_eq!(rt;
+        snapshot.span(),
+        Some((1_704_067_800_000, 1_704_070_200_000))
+    );
     Ok(())
 }
 
