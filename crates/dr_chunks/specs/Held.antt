@@ -5,8 +5,6 @@ use Rattle.std.specs.Ordering.{int_cmp}
 use Rattle.std.specs.declared.cmp.Ordering.TheVariants.{Less, Equal, Greater}
 use Rattle.dr_base.specs.declared.event.Event.{Event}
 use Rattle.dr_base.specs.declared.row.Row.{Row}
-use Rattle.dr_schema.specs.Fits.{FitsSchema}
-use Rattle.dr_schema.specs.WellFormed.{IsWellFormed}
 use Rattle.dr_schema.specs.declared.schema.Schema.{Schema}
 use Rattle.dr_chunks.specs.declared.chunk.Chunk.{Chunk}
 use Rattle.dr_chunks.specs.declared.place.Place.{Place}
@@ -16,7 +14,7 @@ use Rattle.dr_cuts.specs.declared.range_info.RangeInfo.{RangeInfo}
 use Rattle.dr_chunks.specs.declared.sealed_range.SealedRange.{SealedRange}
 use Rattle.dr_rollup.specs.Unrolled.{rolled_up}
 use Rattle.dr_rollup.specs.OpenRows.{OpenRows, rows_with, with_rows}
-use Rattle.dr_cuts.specs.Chunks.{chunk_list, chunks}
+use Rattle.dr_cuts.specs.Chunks.{chunk_list}
 use Rattle.dr_cuts.specs.AtKey.{at_key, item_at}
 use Rattle.dr_cuts.specs.State.{Range, Cut, Tile, open_from, open_events}
 use Rattle.dr_chunks.specs.Ranges.{fragment_of}

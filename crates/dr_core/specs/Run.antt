@@ -1,13 +1,11 @@
 -- A run of the core: steps, one after another, with a reply to each.
-use Rattle.std.specs.Prelude.{◌≡◌, ◌⊎◌, ℕ, List, [], ◌∷◌, ◌++◌, length, Option, Some, None, Result, Ok, Err, slice_get}
-use Rattle.std.specs.List.{AllByRecursion}
+use Rattle.std.specs.Prelude.{◌≡◌, ◌⊎◌, ℕ, List, [], ◌∷◌, length, Option, Some, None, Result, Ok, Err, slice_get}
 use Rattle.dr_schema.specs.Fits.{FitsSchema}
 use Rattle.dr_schema.specs.declared.schema.Schema.{Schema}
 use Rattle.dr_query.specs.declared.answer_error.AnswerError.{AnswerError}
 use Rattle.dr_query.specs.Answer.{answer}
 use Rattle.dr_query.specs.AnswerRefusal as no_answer
 use Rattle.dr_query.specs.MadeFor.{MadeFor}
-use Rattle.dr_merge.specs.declared.job.Job.{Job}
 use Rattle.dr_core.specs.declared.step.Step.{Step}
 use Rattle.dr_core.specs.declared.step.Step.TheVariants.{Accept, Seal, Plan, Commit, Pin, Ask, Audit}
 use Rattle.dr_core.specs.declared.reply.Reply.{Reply}
@@ -16,10 +14,9 @@ use Rattle.dr_timeline.specs.declared.timeline_error.TimelineError.{TimelineErro
 use Rattle.dr_timeline.specs.declared.timeline_error.TimelineError.TheVariants.{NoMemory}
 use Rattle.dr_timeline.specs.Refusal.{number_of}
 use Rattle.dr_cuts.specs.RawAnswer.{raw_answer}
-use Rattle.dr_cuts.specs.State.{State, empty_state}
 use Rattle.dr_timeline.specs.CoreState.{CoreState, empty_core, with_timeline, with_job, with_pin}
 use Rattle.dr_timeline.specs.Stepping.{accept, seal, plan, commit}
-use Rattle.dr_cuts.specs.Segments.{Pinned, pinned, rows_of}
+use Rattle.dr_cuts.specs.Segments.{pinned, rows_of}
 
 -- a step may be taken over a schema: its event fits it, or its query was made for it
 abbrev pub FitsStep : Schema → Step → Type 0

@@ -1,5 +1,5 @@
 -- What each command of a script does: what is written for it, and the state after it, or its refusal, which changes nothing.
-use Rattle.std.specs.Prelude.{ℕ, ℤ, Bool, true, false, List, ◌++◌, length, Option, None, Result, Ok, Err, codes, decimal, slice_get, if◌then◌else◌}
+use Rattle.std.specs.Prelude.{ℕ, ℤ, Bool, true, false, List, ◌++◌, length, Option, None, Result, Ok, Err, codes, decimal, slice_get}
 use Rattle.dr_base.specs.FaultLine.{fault_line, arg_part}
 use Rattle.dr_base.specs.Reading.{◌>>=◌, passed}
 use Rattle.dr_base.specs.declared.fault.Arg.{Arg}

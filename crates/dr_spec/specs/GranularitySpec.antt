@@ -1,9 +1,9 @@
 -- The section `granularitySpec` (Apache Druid documentation, ingestion spec and query granularities).
-use Rattle.std.specs.Prelude.{ℕ, List, [], ◌∷◌, Bool, true, false, not, codes, Option, Some, None, Result, Ok, Err, if◌then◌else◌}
+use Rattle.std.specs.Prelude.{ℕ, List, [], ◌∷◌, Bool, true, not, codes, Option, Some, None, Result, Ok, Err, if◌then◌else◌}
 use Rattle.std.specs.Str.{str_eq_ignore_ascii_case}
 use Rattle.serde_json.specs.Data.{Data, null, boolean, number, string, array, object}
 use Rattle.dr_gran.specs.declared.gran.Gran.{Gran}
-use Rattle.dr_gran.specs.declared.gran.Gran.TheVariants.{AllTime, Millisecond, Day}
+use Rattle.dr_gran.specs.declared.gran.Gran.TheVariants.{Millisecond, Day}
 use Rattle.dr_gran.specs.declared.gran_error.GranError.TheVariants.{UnsupportedGranularity}
 use Rattle.dr_gran.specs.Step.{is_all}
 use Rattle.dr_schema.specs.WellFormed.{is_chunk_length}

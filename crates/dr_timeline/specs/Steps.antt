@@ -2,7 +2,6 @@
 -- they join to (Apache Druid documentation, ingestion: persists, merges, segment replacement).
 use Rattle.std.specs.Prelude.{◌≡◌, ℕ, ℤ, ◌+◌, ◌-◌, ◌<◌, ◌≤◌, min, nat_le, List, [], ◌∷◌, ◌++◌, length, map, take, drop, fold, if◌then◌else◌}
 use Rattle.dr_base.specs.declared.event.Event.{Event}
-use Rattle.dr_schema.specs.declared.schema.Schema.{Schema}
 use Rattle.dr_merge.specs.declared.job.Job.{Job}
 use Rattle.dr_merge.specs.declared.purpose.Purpose.{Purpose}
 use Rattle.dr_rollup.specs.Unrolled.{rolled_up}

@@ -36,10 +36,7 @@ const APART: [(i64, &str, &[i64]); 6] = [
 fn row(alloc: Global, time: i64, page: &str, columns: &[i64]) -> Result<Row, Fail> {
     let mut dims = Texts::new(alloc);
     dims.push(Text::from_str(alloc, page)?)?;
-    let mut metrics = Numbers::new(alloc);
-    for column in columns {
-        metrics.push(*column)?;
-    }
+    let metrics = Numbers::from_vec(columns.to_vec(alloc)?);
     let key = Key { time, dims };
     Ok(Row { key, metrics })
 }

@@ -1,5 +1,6 @@
 use dr_base::Event;
 use dr_events::read_event;
+use dr_schema::Metrics;
 use dr_spec::IngestSpec;
 use std::alloc::Global;
 use std::test::Fail;
@@ -13,25 +14,18 @@ fn read(alloc: Global, line: &[u8]) -> Result<Event, Fail> {
     Ok(read_event(alloc, &spec, 255, line)?)
 }
 
-// The names of copied columns, each with the field that it reads.
-fn columns(alloc: Global) -> Result<String, Fail> {
+fn columns(alloc: Global) -> Result<Metrics, Fail> {
     let spec = IngestSpec::parse(alloc, SPEC)?;
-    let metrics = spec.schema().metrics().copy()?;
-    let mut names = String::new(alloc);
-    for metric in metrics.as_slice() {
-        names.push_str(metric.name.as_str())?;
-        names.push('|')?;
-        if let Some(field) = &metric.field {
-            names.push_str(field.as_str())?;
-        }
-    }
-    Ok(names)
+    Ok(spec.schema().metrics().copy()?)
 }
 
 #[test]
 fn copies_columns(rt: HostRuntime) -> Result<(), Fail> {
-    let names = columns(rt.alloc())?;
-    assert!(rt; names.as_str() == "n|added|a");
+    let columns = columns(rt.alloc())?;
+    assert!(rt; columns.len() == 2);
+    for (column, name) in columns.as_slice().iter().zip(&["n", "added"]) {
+        assert!(rt; column.name.as_str() == *name);
+    }
     Ok(())
 }
 

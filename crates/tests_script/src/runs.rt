@@ -22,7 +22,7 @@ impl Read for FailingReader<'_> {
     }
 }
 
-// Takes the bytes in parts of at most five, and fails once it holds `room`.
+// Takes the bytes one by one, and fails once it holds `room`.
 #[derive(Drop)]
 struct FailingWriter {
     held: Vec<u8>,
@@ -31,11 +31,10 @@ struct FailingWriter {
 
 impl Write for FailingWriter {
     fn write(&mut self, buf: &[u8]) -> io::Result<usize> {
-        let left = self.room.saturating_sub(self.held.len());
-        if left == 0 {
+        if self.held.len() >= self.room {
             return Err(io::Error::from(ErrorKind::Other));
         }
-        let taken = buf.len().min(left).min(5);
+        let taken = buf.len().min(1);
         self.held.extend_from_slice(&buf[..taken])?;
         Ok(taken)
     }
