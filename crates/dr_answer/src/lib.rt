@@ -10,4 +10,3 @@ mod span;
 
 pub use answering::{MAX_GROUPS, answer};
 pub use span::span_onto;
-
