@@ -6,7 +6,7 @@ use std::cmp::Ordering;
 
 /// What rows are combined by: a time in milliseconds since the epoch, truncated or not, and the dimension values in
 /// the order of the spec. Keys are ordered by time, then by the dimensions in their order, each by its UTF-8 bytes.
-#[derive(Debug, Drop, PartialEq, Eq, PartialOrd, Ord)]
+#[derive(Debug, Drop, PartialEq, Eq, PartialOrd, Ord, Hash)]
 pub struct Key {
     pub time: i64,
     pub dims: Texts,

@@ -2,10 +2,15 @@ ghost use Rattle.std.specs.Prelude.{◌≡◌, ◌++◌, ◌∷◌, [], Some, re
 ghost use Rattle.std.specs.Ordering.{nat_cmp};
 ghost use Rattle.std.specs.Cmp.{partial_equiv_from_equiv, partial_order_from_agreeing_total};
 ghost use Rattle.std.specs.Cmp.Lexicographic.{pointwise, slice_cmp, lists_equiv, lists_total, lists_ties, lists_per, nat_list_eq_equiv, nat_list_cmp_total, texts_ties};
+ghost use Rattle.std.specs.Cmp.Lexicographic.{bytes_decides};
+ghost use Rattle.std.specs.Hash as fed;
+ghost use Rattle.std.specs.Hash.{items_Alike};
+ghost use Rattle.std.proofs.Common.{ap};
 
 use crate::text::Text;
 use std::alloc::{AllocError, Global};
 use std::cmp::Ordering;
+use std::hash::{Hash, Hasher};
 use std::marker::Model;
 
 /// Texts in order, as the dimension values of a row. A contract sees the list of the texts. Two lists are ordered by
@@ -127,5 +132,15 @@ impl Ord for Texts {
 
     fn cmp(&self, other: &Texts) -> Ordering {
         self.0.cmp(&other.0)
+    }
+}
+
+impl Hash for Texts {
+    ghost hash_input = { fed.slice fed.str };
+
+    ghost respects_eq = { (items_Alike (record { fed = λ a b same. ap fed.str ((bytes_decides a b).0 same) })).fed };
+
+    fn hash<H: Hasher>(&self, state: &mut H) {
+        self.0.hash(state);
     }
 }

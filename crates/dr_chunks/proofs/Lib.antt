@@ -1,6 +1,6 @@
 pub mod Places
-pub mod Searching
 pub mod Lengths
 pub mod Blocks
 pub mod Holding
 pub mod Changes
+pub mod Opening

@@ -14,10 +14,10 @@ in_blocks blocks last = flat_map (λ block. block) blocks ++ last
 
 -- one more event can be put behind the full blocks without memory
 abbrev pub has_room : List Event → ℕ → Bool
-has_room last cap = nat_lt (length last) cap && nat_lt (length last) 1024
+has_room last cap = nat_lt (length last) cap && nat_lt (length last) 256
 
 -- each block is full, and no more events than one block takes stand behind
 pub record AreBlocks (blocks : List (List Event)) (last : List Event) (count : ℕ) : Type 0 where
-  pub full : AllByRecursion (λ block. length block ≡ 1024) blocks
-  pub short : length last ≤ 1024
+  pub full : AllByRecursion (λ block. length block ≡ 256) blocks
+  pub short : length last ≤ 256
   pub counted : count ≡ length (in_blocks blocks last)

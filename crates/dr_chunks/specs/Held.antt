@@ -1,14 +1,12 @@
 -- What a timeline keeps of its chunks: the rows of each range. No public contract cites this file.
-use Rattle.std.specs.Prelude.{◌≡◌, ℕ, ℤ, ◌+◌, ◌-◌, ◌<◌, ◌≤◌, Bool, nat_le, nat_lt, true, false, List, [], ◌∷◌, ◌++◌, length, map, take, drop, get_or, suc, if◌then◌else◌}
+use Rattle.std.specs.Prelude.{◌≡◌, ℕ, ℤ, ◌+◌, ◌-◌, ◌<◌, ◌≤◌, Bool, nat_le, nat_lt, true, false, Option, Some, None, List, [], ◌∷◌, ◌++◌, length, map, take, drop, if◌then◌else◌}
 use Rattle.std.specs.List.{AllByRecursion}
-use Rattle.std.specs.Ordering.{int_cmp}
-use Rattle.std.specs.declared.cmp.Ordering.TheVariants.{Less, Equal, Greater}
+use Rattle.std.specs.Ordering.{int_cmp, match_ordering}
+use Rattle.std.specs.declared.cmp.Ordering.TheVariants.{Less, Equal}
 use Rattle.dr_base.specs.declared.event.Event.{Event}
 use Rattle.dr_base.specs.declared.row.Row.{Row}
 use Rattle.dr_schema.specs.declared.schema.Schema.{Schema}
 use Rattle.dr_chunks.specs.declared.chunk.Chunk.{Chunk}
-use Rattle.dr_chunks.specs.declared.place.Place.{Place}
-use Rattle.dr_chunks.specs.declared.place.Place.TheVariants.{At, Before}
 use Rattle.dr_merge.specs.declared.fragment.Fragment.{Fragment}
 use Rattle.dr_cuts.specs.declared.range_info.RangeInfo.{RangeInfo}
 use Rattle.dr_chunks.specs.declared.sealed_range.SealedRange.{SealedRange}
@@ -18,6 +16,7 @@ use Rattle.dr_cuts.specs.Chunks.{chunk_list}
 use Rattle.dr_cuts.specs.AtKey.{at_key, item_at}
 use Rattle.dr_cuts.specs.State.{Range, Cut, Tile, open_from, open_events}
 use Rattle.dr_chunks.specs.Ranges.{fragment_of}
+pub use Rattle.dr_chunks.specs.Open.{index_of}
 
 -- what a contract sees of a sealed range, of those of a chunk, and of a chunk
 abbrev pub range_of : SealedRange → Range
@@ -28,10 +27,6 @@ ranges_of c = map range_of c.sealed
 
 abbrev pub cut_of : Chunk → Cut
 cut_of c = record { chunk = c.start; sealed = ranges_of c; publications = c.publications }
-
--- the index of an open range with these rows
-abbrev pub index_of : Schema → List Row → OpenRows
-index_of schema rows = record { schema = schema; limit = schema.limits.max_rows_in_memory; rows = rows }
 
 -- the chunk holds the rows of its ranges
 pub record Holds (schema : Schema) (es : List Event) (c : Chunk) : Type 0 where
@@ -76,12 +71,12 @@ has_open c = nat_lt (open_from (ranges_of c)) c.events
 abbrev pub open_info_of : Chunk → RangeInfo
 open_info_of c = record { chunk = c.start; from = open_from (ranges_of c); to = c.events; version = 0; rows = length c.open_range.rows; sealed = false }
 
--- the ranges of a chunk as a snapshot shows them, and with their rows
+-- the ranges of a chunk as a snapshot shows them, and the rows of each
 abbrev pub infos_of_chunk : Chunk → List RangeInfo
 infos_of_chunk c = map info_of c.sealed ++ (if has_open c then open_info_of c ∷ [] else [])
 
-abbrev pub fragments_of_chunk : Chunk → List Fragment
-fragments_of_chunk c = map (λ s. s.fragment) c.sealed ++ (if has_open c then open_fragment c ∷ [] else [])
+abbrev pub rows_of_chunk : Chunk → List (List Row)
+rows_of_chunk c = map (λ s. s.fragment.rows) c.sealed ++ (if has_open c then c.open_range.rows ∷ [] else [])
 
 -- its open range, up to the end of so many events and with these rows, as a sealed one
 abbrev pub with_sealed_rows : ℕ → ℕ → List Row → Chunk → Chunk
@@ -115,10 +110,6 @@ grown serial e c = sealed_if_full serial (with_one e c)
 abbrev pub with_range : ℕ → ℕ → SealedRange → Chunk → Chunk
 with_range place count range c = record c { sealed = take place c.sealed ++ (range ∷ drop (place + count) c.sealed) }
 
--- the chunks with the one at a place changed
-abbrev pub changed_at : ℕ → (Chunk → Chunk) → Chunk → List Chunk → List Chunk
-changed_at place change d cs = take place cs ++ (change (get_or cs place d) ∷ drop (suc place) cs)
-
 -- the chunk that starts so, changed; it may be new
 abbrev pub at_start : Schema → (Chunk → Chunk) → ℤ → List Chunk → List Chunk
 at_start schema change k cs = at_key (λ c. c.start) (no_chunk schema k) change k cs
@@ -127,7 +118,12 @@ at_start schema change k cs = at_key (λ c. c.start) (no_chunk schema k) change 
 abbrev pub chunk_at : Schema → ℤ → List Chunk → Chunk
 chunk_at schema k cs = item_at (λ c. c.start) (no_chunk schema k) k cs
 
--- where a chunk stands among chunks that rise, or before which one it is new
+-- the chunk that starts so, where there is one
+abbrev pub chunk_in : ℤ → List Chunk → Option Chunk
+chunk_in k [] = None
+chunk_in k (c ∷ cs) = match_ordering (int_cmp k c.start) None (Some c) (chunk_in k cs)
+
+-- before that of a place, and at that place
 abbrev pub IsBelow : ℤ → List Chunk → Type 0
 IsBelow k [] = Unit {0}
 IsBelow k (c ∷ cs) = int_cmp k c.start ≡ Less
@@ -135,7 +131,3 @@ IsBelow k (c ∷ cs) = int_cmp k c.start ≡ Less
 abbrev pub IsFirst : ℤ → List Chunk → Type 0
 IsFirst k [] = ⊥
 IsFirst k (c ∷ cs) = int_cmp k c.start ≡ Equal
-
-abbrev pub IsPlace : List Chunk → ℤ → Place → Type 0
-IsPlace cs k (Before i) = (i ≤ length cs) × AllByRecursion (λ c. int_cmp k c.start ≡ Greater) (take i cs) × IsBelow k (drop i cs)
-IsPlace cs k (At i) = (i < length cs) × AllByRecursion (λ c. int_cmp k c.start ≡ Greater) (take i cs) × IsFirst k (drop i cs)

@@ -1,3 +1,5 @@
 pub mod Blocks
+pub mod Open
 pub mod Held
+pub mod Pinned
 pub mod Ranges

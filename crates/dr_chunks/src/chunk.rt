@@ -1,14 +1,18 @@
-ghost use Rattle.std.specs.Prelude.{◌≡◌, ◌<◌, ◌≤◌, ◌++◌, IfOk, OnOk, OnErr};
+ghost use Rattle.std.specs.Prelude.{◌≡◌, ◌+◌, ◌<◌, ◌++◌, ◌∷◌, [], IfOk, OnOk, OnErr};
 ghost use Rattle.dr_schema.specs.Fits.{FitsSchema};
+ghost use Rattle.dr_rollup.specs.OpenRows.{rows_with};
 ghost use Rattle.dr_cuts.specs.State.{open_from};
-ghost use Rattle.dr_chunks.specs.Held.{no_chunk, with_one, grown, is_full, seals_of, with_open_sealed, with_sealed_rows, has_open, open_info_of, open_fragment, ranges_of, infos_of_chunk, fragments_of_chunk};
+ghost use Rattle.dr_chunks.specs.Held.{no_chunk, with_one, grown, is_full, seals_of, with_open_sealed, with_sealed_rows, has_open, open_info_of, open_fragment, ranges_of, infos_of_chunk, rows_of_chunk};
 
 use crate::open_range::OpenRange;
+use crate::pinned_range::PinnedRange;
+use crate::pinned_ranges::PinnedRanges;
 use crate::sealed_range::SealedRange;
 use crate::sealed_ranges::SealedRanges;
 use dr_base::Event;
 use dr_cuts::RangeInfo;
-use dr_merge::{Fragment, Fragments, SharedFragment};
+use dr_merge::{Fragment, SharedFragment};
+use dr_rollup::RollupError;
 use dr_schema::Schema;
 use std::alloc::{AllocError, Global};
 
@@ -26,7 +30,6 @@ pub struct Chunk {
 impl Chunk {
     /// A chunk without events. The only error is that memory ran out.
     pub fn new(alloc: Global, schema: &Schema, start: i64) -> Result<Chunk, AllocError>
-        requires { schema.now.limits.max_rows_in_memory ≤ 1048576 }
         ensures { IfOk result (λ chunk. chunk ≡ no_chunk schema.now start) }
     {
         Ok(Chunk {
@@ -34,7 +37,7 @@ impl Chunk {
             events: 0,
             sealed: SealedRanges::new(alloc),
             publications: 0,
-            open_range: OpenRange::new(alloc, schema)?,
+            open_range: OpenRange::new(schema)?,
         })
     }
 
@@ -59,30 +62,33 @@ impl Chunk {
         }
     }
 
-    /// The open range with its rows. The only error is that memory ran out.
-    pub fn open_fragment(&mut self, alloc: Global) -> Result<SharedFragment, AllocError>
-        ensures fragment { IfOk result (λ fragment. fragment ≡ open_fragment self.old) }
-        ensures same { self.new ≡ self.old }
+    /// The open range with its rows, in memory of their own. The only error is that memory ran out.
+    pub fn open_fragment(&self, alloc: Global) -> Result<SharedFragment, AllocError>
+        ensures { IfOk result (λ fragment. fragment ≡ open_fragment self.now) }
     {
-        self.open_range
-            .fragment(alloc, self.start, self.sealed.end(), self.events)
+        let fragment = Fragment {
+            chunk: self.start,
+            from: self.sealed.end(),
+            to: self.events,
+            rows: self.open_range.rows(alloc)?,
+        };
+        Ok(SharedFragment::new(alloc, fragment)?)
     }
 
-    /// Puts the ranges behind these, as a snapshot shows them and with their rows. The only error is that memory ran out.
+    /// Puts the ranges behind these, as a snapshot shows them and with their rows. No row is copied. The only error is that
+    /// memory ran out.
     pub fn pin(
-        &mut self,
-        alloc: Global,
-        fragments: &mut Fragments,
+        &self,
+        pinned: &mut PinnedRanges,
         ranges: &mut Vec<RangeInfo>,
     ) -> Result<(), AllocError>
-        ensures fragments { OnOk result (fragments.new ≡ fragments.old ++ fragments_of_chunk self.old) }
-        ensures ranges { OnOk result (ranges.new.items ≡ ranges.old.items ++ infos_of_chunk self.old) }
-        ensures same { self.new ≡ self.old }
+        ensures pinned { OnOk result (pinned.new ≡ pinned.old ++ rows_of_chunk self.now) }
+        ensures ranges { OnOk result (ranges.new.items ≡ ranges.old.items ++ infos_of_chunk self.now) }
     {
-        self.sealed.pin(fragments, ranges)?;
+        self.sealed.pin(pinned, ranges)?;
         if self.has_open() {
             ranges.push(self.open_info())?;
-            fragments.push(self.open_fragment(alloc)?)?;
+            pinned.push(PinnedRange::Open(self.open_range.share()?))?;
         }
         Ok(())
     }
@@ -96,23 +102,34 @@ impl Chunk {
         ensures seals { IfOk result (λ seals. seals ≡ seals_of (is_full (with_one event.now self.old))) }
         ensures err { OnErr result (self.new ≡ self.old) }
     {
-        if self.open_range.stays_open(event) {
-            self.open_range.add(event)?;
-            self.events += 1;
-            return Ok(0);
+        match self.open_range.add(alloc, event) {
+            Ok(()) => {
+                self.events += 1;
+                Ok(0)
+            }
+            Err(RollupError::NoMemory) => Err(AllocError),
+            Err(RollupError::IndexFull) => {
+                self.seal_with(alloc, serial, event)?;
+                Ok(1)
+            }
         }
+    }
+
+    // Seals the open range with one more event with this serial. An error leaves the chunk as it was.
+    fn seal_with(&mut self, alloc: Global, serial: u64, event: &Event) -> Result<(), AllocError>
+        requires event { FitsSchema self.old.open_range.schema event.now }
+        requires room { self.old.events < 18446744073709551615 }
+        ensures ok { OnOk result (self.new ≡ with_sealed_rows serial (self.old.events + 1) (rows_with self.old.open_range event.now) self.old) }
+        ensures err { OnErr result (self.new ≡ self.old) }
+    {
         let fragment = Fragment {
             chunk: self.start,
             from: self.sealed.end(),
             to: self.events + 1,
-            rows: self.open_range.rows_with(event)?,
+            rows: self.open_range.rows_with(alloc, event)?,
         };
-        self.seal_as(
-            serial,
-            self.events + 1,
-            SharedFragment::new(alloc, fragment)?,
-        )?;
-        Ok(1)
+        let shared = SharedFragment::new(alloc, fragment)?;
+        self.seal_as(serial, self.events + 1, shared)
     }
 
     /// Seals the open range with this serial. An error leaves the chunk as it was.

@@ -1,45 +1,47 @@
-ghost use Rattle.std.specs.Prelude.{◌≡◌, ◌<◌, ◌≤◌, [], ◌↔◌, IsTrue, nat_lt, length, IfOk, OnOk, OnErr};
+ghost use Rattle.std.specs.Prelude.{◌≡◌, ◌<◌, ◌≤◌, [], length, IfOk, OnOk, OnErr, IsErrOf};
 ghost use Rattle.dr_schema.specs.Fits.{FitsSchema};
 ghost use Rattle.dr_rollup.specs.OpenRows.{rows_with, with_rows};
-ghost use Rattle.dr_chunks.specs.Held.{index_of};
+ghost use Rattle.dr_chunks.specs.Open.{index_of};
 
+use crate::shared_index::SharedIndex;
 use dr_base::Event;
-use dr_merge::{Fragment, Rows, SharedFragment};
-use dr_rollup::{OpenIndex, RollupError};
+use dr_merge::Rows;
+use dr_rollup::{OpenIndex, RollupError, unrolled_row};
 use dr_schema::Schema;
 use std::alloc::{AllocError, Global};
 use std::marker::Model;
 
-/// The open range of a chunk: its events are rolled up while they come, and its rows are decoded once for all that look at
-/// them before the next event. A contract sees the schema, how many rows there may be, and the rows in the order of their keys.
+/// The open range of a chunk: its events are rolled up while they come, in an index that snapshots share. Without events it
+/// holds a share of the schema alone. A contract sees the schema, how many rows there may be, and the rows in the order of
+/// their keys.
 #[derive(Drop)]
 pub struct OpenRange {
-    index: OpenIndex,
-    // The rows as they were given last, where no event came since.
-    given: Option<SharedFragment>,
+    schema: Schema,
+    // The rows, from the first event on. It takes one row less than there may be: with that row the range is sealed.
+    index: Option<SharedIndex>,
 }
 
 impl Model for OpenRange {
     ghost use Rattle.std.specs.Prelude.{◌≡◌, IfSome};
     ghost use Rattle.dr_rollup.specs.OpenRows.{OpenRows};
+    ghost use Rattle.dr_chunks.specs.Open.{index_of, rows_kept, kept};
 
     ghost Value = { OpenRows };
 
-    ghost view = { λ o. o.index };
+    ghost view = { λ o. index_of o.schema (rows_kept o.index) };
 
-    ghost invariant = { λ o. IfSome o.given (λ fragment. fragment.rows ≡ o.index.rows) };
+    ghost invariant = { λ o. IfSome o.index (λ index. index ≡ kept o.schema index.rows) };
 }
 
 impl OpenRange {
-    /// A range without events, which may have as many rows as the schema's `maxRowsInMemory`. The only error is that memory
-    /// ran out.
-    pub fn new(alloc: Global, schema: &Schema) -> Result<OpenRange, AllocError>
-        requires { schema.now.limits.max_rows_in_memory ≤ 1048576 }
+    /// A range without events, which may have as many rows as the schema's `maxRowsInMemory`. It takes no memory; the only
+    /// error is that the schema has 2^63 shares.
+    pub fn new(schema: &Schema) -> Result<OpenRange, AllocError>
         ensures { IfOk result (λ range. range ≡ index_of schema.now []) }
     {
         Ok(OpenRange {
-            index: OpenIndex::new(alloc, schema, schema.limits().max_rows_in_memory)?,
-            given: None,
+            schema: schema.copy()?,
+            index: None,
         })
     }
 
@@ -47,90 +49,84 @@ impl OpenRange {
     pub fn len(&self) -> usize
         ensures { result ≡ length self.now.rows }
     {
-        self.index.len()
-    }
-
-    /// Whether there are fewer rows than there may be with one more event.
-    pub fn stays_open(&mut self, event: &Event) -> bool
-        requires { FitsSchema self.old.schema event.now }
-        ensures open { result ≡ nat_lt (length (rows_with self.old event.now)) self.old.limit }
-        ensures same { self.new ≡ self.old }
-    {
-        let limit = self.index.limit();
-        if self.index.len() + 1 < limit {
-            return true;
+        match &self.index {
+            Some(shared) => shared.index().len(),
+            None => 0,
         }
-        self.index.len_with(event) < limit
     }
 
-    /// Adds an event, with which there may be as many rows as there are then. An error leaves the range as it was.
-    pub fn add(&mut self, event: &Event) -> Result<(), AllocError>
-        requires event { FitsSchema self.old.schema event.now }
-        requires room { length (rows_with self.old event.now) ≤ self.old.limit }
+    /// Adds an event, unless there are as many rows as there may be with it. An error leaves the range as it was. Refusals:
+    /// 41 `IndexFull` exactly where there are as many, unless memory runs out first.
+    pub fn add(&mut self, alloc: Global, event: &Event) -> Result<(), RollupError>
+        requires { FitsSchema self.old.schema event.now }
         ensures ok { OnOk result (self.new ≡ with_rows self.old (rows_with self.old event.now)) }
         ensures err { OnErr result (self.new ≡ self.old) }
+        ensures room { OnOk result (length (rows_with self.old event.now) < self.old.limit) }
+        ensures full { IsErrOf result RollupError.IndexFull → self.old.limit ≤ length (rows_with self.old event.now) }
     {
-        match self.index.add(event) {
-            Ok(()) => {
-                self.given = None;
-                Ok(())
-            }
-            Err(RollupError::NoMemory) => Err(AllocError),
-            Err(RollupError::IndexFull) => unreachable!(),
+        let limit = self.schema.fields().limits.max_rows_in_memory - 1;
+        if let Some(index) = &mut self.index {
+            return index.add(alloc, event);
+        }
+        let mut index = OpenIndex::new(alloc, &self.schema, limit)?;
+        index.add(event)?;
+        self.index = Some(SharedIndex::new(alloc, index)?);
+        Ok(())
+    }
+
+    /// The rows in memory of their own. The only error is that memory ran out. It takes the time that sorting them takes.
+    pub fn rows(&self, alloc: Global) -> Result<Rows, AllocError>
+        ensures { IfOk result (λ rows. rows ≡ self.now.rows) }
+    {
+        match &self.index {
+            Some(shared) => Ok(Rows::from_vec(shared.index().rows()?)),
+            None => Ok(Rows::from_vec(Vec::new(alloc))),
         }
     }
 
-    /// The rows with one more event, which isn't added. The only error is that memory ran out.
-    pub fn rows_with(&self, event: &Event) -> Result<Rows, AllocError>
+    /// The rows with one more event, which isn't added, in memory of their own. The only error is that memory ran out.
+    pub fn rows_with(&self, alloc: Global, event: &Event) -> Result<Rows, AllocError>
         requires { FitsSchema self.now.schema event.now }
         ensures { IfOk result (λ rows. rows ≡ rows_with self.now event.now) }
     {
-        Ok(Rows::from_vec(self.index.rows_with(event)?))
-    }
-
-    /// The rows as those of a range of a chunk's events. They are decoded once between two events. The only error is that
-    /// memory ran out.
-    pub fn fragment(
-        &mut self,
-        alloc: Global,
-        chunk: i64,
-        from: usize,
-        to: usize,
-    ) -> Result<SharedFragment, AllocError>
-        ensures fragment { IfOk result (λ fragment. fragment ≡ record { chunk = chunk; from = from; to = to; rows = self.old.rows }) }
-        ensures same { self.new ≡ self.old }
-    {
-        if let Some(given) = &self.given {
-            if is_over(given.fragment(), chunk, from, to) {
-                return given.share();
-            }
+        match &self.index {
+            Some(shared) => Ok(Rows::from_vec(shared.index().rows_with(event)?)),
+            None => one_row(alloc, &self.schema, event),
         }
-        let rows = Rows::from_vec(self.index.rows()?);
-        let fragment = Fragment {
-            chunk,
-            from,
-            to,
-            rows,
-        };
-        let fragment = SharedFragment::new(alloc, fragment)?;
-        self.given = Some(fragment.share()?);
-        Ok(fragment)
     }
 
-    /// A range without events of the same schema. The only error is that memory ran out.
+    /// The same range, with a share of its index, which copies no row. The only error is that there are 2^63 shares.
+    pub fn share(&self) -> Result<OpenRange, AllocError>
+        ensures { IfOk result (λ range. range ≡ self.now) }
+    {
+        let schema = self.schema.copy()?;
+        match &self.index {
+            Some(shared) => Ok(OpenRange {
+                schema,
+                index: Some(shared.share()?),
+            }),
+            None => Ok(OpenRange {
+                schema,
+                index: None,
+            }),
+        }
+    }
+
+    /// A range without events of the same schema. It takes no memory; the only error is that the schema has 2^63 shares.
     pub fn fresh(&self) -> Result<OpenRange, AllocError>
         ensures { IfOk result (λ range. range ≡ with_rows self.now []) }
     {
-        Ok(OpenRange {
-            index: self.index.fresh()?,
-            given: None,
-        })
+        OpenRange::new(&self.schema)
     }
 }
 
-// Whether the fragment is over that range of that chunk.
-fn is_over(fragment: &Fragment, chunk: i64, from: usize, to: usize) -> bool
-    ensures { IsTrue result ↔ ((fragment.now.chunk ≡ chunk) × (fragment.now.from ≡ from) × (fragment.now.to ≡ to)) }
+// The rows of one event.
+fn one_row(alloc: Global, schema: &Schema, event: &Event) -> Result<Rows, AllocError>
+    requires { FitsSchema schema.now event.now }
+    ensures { IfOk result (λ rows. rows ≡ rows_with (index_of schema.now []) event.now) }
 {
-    fragment.chunk == chunk && fragment.from == from && fragment.to == to
+    let row = unrolled_row(alloc, schema, event)?;
+    let mut rows = Vec::with_capacity(alloc, 1)?;
+    rows.push(row)?;
+    Ok(Rows::from_vec(rows))
 }

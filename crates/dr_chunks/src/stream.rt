@@ -7,7 +7,7 @@ use std::marker::Model;
 use std::mem::replace;
 
 /// How many events are shared together.
-const BLOCK: usize = 1024;
+const BLOCK: usize = 256;
 
 /// Events in order, which are only added at the end. A contract sees the list of the events, and whether there is room for
 /// one more.
@@ -110,7 +110,7 @@ impl Stream {
 fn take_block(alloc: Global, events: &mut Vec<Event>) -> Result<Block, AllocError>
     ensures block { IfOk result (λ block. block ≡ events.old.items) }
     ensures empty { OnOk result (events.new.items ≡ []) }
-    ensures room { OnOk result (1024 ≤ events.new.cap) }
+    ensures room { OnOk result (256 ≤ events.new.cap) }
     ensures err { OnErr result (events.new.items ≡ events.old.items) }
 {
     let next = Vec::with_capacity(alloc, BLOCK)?;

@@ -90,7 +90,7 @@ pub record IsRunSoFar (schema : Schema) (es : List Event) (ess : List (List Even
   pub pins : ArePins schema ess c.pins
 
 -- the events and the snapshots as they were
-stays : (schema : Schema) (es : List Event) (ess : List (List Event)) (c : CoreState) (a : List Event) (b : List (List Event)) → a ≡ [] → b ≡ [] → IsRunSoFar schema es ess c → IsRunSoFar schema (es ++ a) (ess ++ b) c
+pub stays : (schema : Schema) (es : List Event) (ess : List (List Event)) (c : CoreState) (a : List Event) (b : List (List Event)) → a ≡ [] → b ≡ [] → IsRunSoFar schema es ess c → IsRunSoFar schema (es ++ a) (ess ++ b) c
 stays schema es ess c a b none no_pin h =
     subst (λ (l : List Event). IsRunSoFar schema l (ess ++ b) c) (sym (append-nil es) ∙ ap (λ x. es ++ x) (sym none))
     (subst (λ (l : List (List Event)). IsRunSoFar schema es l c) (sym (append-nil ess) ∙ ap (λ x. ess ++ x) (sym no_pin)) h)
@@ -114,7 +114,7 @@ none-pinned es (Ask j q) n = refl
 none-pinned es (Audit j q) n = refl
 
 -- a step that changes the cuts alone
-recut : (schema : Schema) (es : List Event) (ess : List (List Event)) (old : CoreState) (t : State) → t.schema ≡ old.timeline.schema → t.stream ≡ old.timeline.stream → AreCuts t.schema t.stream t.cuts
+pub recut : (schema : Schema) (es : List Event) (ess : List (List Event)) (old : CoreState) (t : State) → t.schema ≡ old.timeline.schema → t.stream ≡ old.timeline.stream → AreCuts t.schema t.stream t.cuts
     → IsRunSoFar schema es ess old → IsRunSoFar schema (es ++ []) (ess ++ []) (with_timeline t old)
 recut schema es ess old t same_schema same_stream are h =
     stays schema es ess (with_timeline t old) [] [] refl refl (record { schema_is = same_schema ∙ h.schema_is; stream_is = same_stream ∙ h.stream_is; are_cuts = are; pins = h.pins })
@@ -128,7 +128,7 @@ Follows schema es ess s t = IsRunSoFar schema (es ++ accepted_by s t.0) (ess ++ 
 refused-run : (schema : Schema) (es : List Event) (ess : List (List Event)) (old : CoreState) (s : Step) (e : TimelineError) → IsRunSoFar schema es ess old → Follows schema es ess s (Refused (number_of e), old)
 refused-run schema es ess old s e h = stays schema es ess old (accepted_by s (Refused (number_of e))) (pinned_by es s (Refused (number_of e))) (none-accepted s (number_of e)) (none-pinned es s (number_of e)) h
 
-accept-run : (schema : Schema) (es : List Event) (ess : List (List Event)) (old : CoreState) (e : Event) → 1 ≤ schema.limits.max_rows_in_memory → IsRunSoFar schema es ess old → IsRunSoFar schema (es ++ e ∷ []) (ess ++ []) (with_timeline (accepted old.timeline e) old)
+pub accept-run : (schema : Schema) (es : List Event) (ess : List (List Event)) (old : CoreState) (e : Event) → 1 ≤ schema.limits.max_rows_in_memory → IsRunSoFar schema es ess old → IsRunSoFar schema (es ++ e ∷ []) (ess ++ []) (with_timeline (accepted old.timeline e) old)
 accept-run schema es ess old e least h =
     let t : State = old.timeline in
     let k : ℤ = chunk t.schema e in
@@ -146,37 +146,40 @@ accept-run schema es ess old e least h =
       pins = subst (λ (l : List (List Event)). ArePins schema l old.pins) (sym (append-nil ess)) h.pins;
     }
 
-seal-run : (schema : Schema) (es : List Event) (ess : List (List Event)) (old : CoreState) (k : ℤ) → nat_eq (length (open_in old.timeline k)) 0 ≡ false → IsRunSoFar schema es ess old → IsRunSoFar schema (es ++ []) (ess ++ []) (with_timeline (sealed_at k old.timeline) old)
+pub seal-run : (schema : Schema) (es : List Event) (ess : List (List Event)) (old : CoreState) (k : ℤ) → nat_eq (length (open_in old.timeline k)) 0 ≡ false → IsRunSoFar schema es ess old → IsRunSoFar schema (es ++ []) (ess ++ []) (with_timeline (sealed_at k old.timeline) old)
 seal-run schema es ess old k some h =
     recut schema es ess old (sealed_at k old.timeline) refl refl
     (cuts-after_seal old.timeline k old.timeline.serials h.are_cuts (λ none. let empty = ap (λ (l : List Event). nat_eq (length l) 0) none in cc)) h
 
-commit-run : (schema : Schema) (es : List Event) (ess : List (List Event)) (old : CoreState) (n : ℕ) (job : Job) (place : Option ℕ) → place_of old.timeline job ≡ place → IsRunSoFar schema es ess old
+pub commit-run : (schema : Schema) (es : List Event) (ess : List (List Event)) (old : CoreState) (n : ℕ) (job : Job) (place : Option ℕ) → place_of old.timeline job ≡ place → IsRunSoFar schema es ess old
     → Follows schema es ess (Commit n) (told (λ a. (Committed a.0, with_timeline a.1 old)) old (commit_at old.timeline job place))
 commit-run schema es ess old n job None is h = refused-run schema es ess old (Commit n) Stale h
 commit-run schema es ess old n job (Some place) is h =
     told-if (Follows schema es ess (Commit n)) (λ (a : ℕ × State). (Committed a.0, with_timeline a.1 old)) old _ CommitsFull _ (λ _. refused-run schema es ess old (Commit n) CommitsFull h)
     (λ _. recut schema es ess old (committed old.timeline job place) refl refl (cuts-after_merge old.timeline job place h.are_cuts (place_of-stands old.timeline job place is)) h)
 
-pin-run : (schema : Schema) (es : List Event) (ess : List (List Event)) (old : CoreState) → IsRunSoFar schema es ess old → IsRunSoFar schema (es ++ []) (ess ++ es ∷ []) (with_pin (pinned old.timeline) old)
-pin-run schema es ess old h =
-    let t : State = old.timeline in
-    let pin : IsPin schema es (pinned t) = record {
+-- what is pinned now
+pub pin-now : (schema : Schema) (es : List Event) (ess : List (List Event)) (c : CoreState) → IsRunSoFar schema es ess c → IsPin schema es (pinned c.timeline)
+pin-now schema es ess c h =
+    let t : State = c.timeline in
+    record {
       schema_is = h.schema_is;
       stream_is = h.stream_is;
       cuts = t.cuts;
       are_cuts = coe 0 1 (i. AreCuts (h.schema_is i) (h.stream_is i) t.cuts) h.are_cuts;
       ranges_are = λ i. infos (h.schema_is i) (h.stream_is i) t.cuts;
-    } in
-    record {
-      schema_is = h.schema_is;
-      stream_is = h.stream_is ∙ sym (append-nil es);
-      are_cuts = h.are_cuts;
-      pins = pins-push schema ess old.pins es (pinned t) h.pins pin;
     }
 
+pub pin-run : (schema : Schema) (es : List Event) (ess : List (List Event)) (old : CoreState) → IsRunSoFar schema es ess old → IsRunSoFar schema (es ++ []) (ess ++ es ∷ []) (with_pin (pinned old.timeline) old)
+pin-run schema es ess old h = record {
+  schema_is = h.schema_is;
+  stream_is = h.stream_is ∙ sym (append-nil es);
+  are_cuts = h.are_cuts;
+  pins = pins-push schema ess old.pins es (pinned old.timeline) h.pins (pin-now schema es ess old h);
+}
+
 -- nothing but the jobs changes
-as-before : (schema : Schema) (es : List Event) (ess : List (List Event)) (c : CoreState) → IsRunSoFar schema es ess c → IsRunSoFar schema (es ++ []) (ess ++ []) c
+pub as-before : (schema : Schema) (es : List Event) (ess : List (List Event)) (c : CoreState) → IsRunSoFar schema es ess c → IsRunSoFar schema (es ++ []) (ess ++ []) c
 as-before schema es ess c h = stays schema es ess c [] [] refl refl h
 
 taken-run : (schema : Schema) (es : List Event) (ess : List (List Event)) (old : CoreState) (s : Step) → 1 ≤ schema.limits.max_rows_in_memory → IsRunSoFar schema es ess old → Follows schema es ess s (taken old s)
@@ -203,7 +206,7 @@ moves-run schema es ess old new s r least (inr h) g = coe 0 1 (i. Follows schema
 -- ---- the answers
 
 -- the answer on a snapshot
-pin-raw : (schema : Schema) (es : List Event) (p : Pinned) (q : Query) → IsPin schema es p → MadeFor schema q → is_matching q ≡ true → answer q (rows_of p) ≡ raw_answer schema q es
+pub pin-raw : (schema : Schema) (es : List Event) (p : Pinned) (q : Query) → IsPin schema es p → MadeFor schema q → is_matching q ≡ true → answer q (rows_of p) ≡ raw_answer schema q es
 pin-raw schema es p q pin made matches =
     ap (answer q) (λ i. rows_over (pin.schema_is i) (pin.stream_is i) (pin.ranges_are i)) ∙ answer-cut_rows schema q es pin.cuts pin.are_cuts made matches
 

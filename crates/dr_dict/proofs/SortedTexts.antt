@@ -155,5 +155,5 @@ pub place-fits : (texts sorted : List (List ℕ)) → IsSortedOf texts sorted �
 place-fits texts sorted s few t place at = omega (arith, slice_get_within sorted place t at, length_permutation texts sorted s.moved, few)
 
 -- a list and its next member, each mapped
-pub map-take_more : {K X : Type 0} (f : K → X) (xs : List K) (i : ℕ) (k : K) → i < length xs → k ≡ get_or xs i k → map f (take (i + 1) xs) ≡ map f (take i xs) ++ f k ∷ []
-map-take_more f xs i k lt is = ap (map f) (take_more xs i k lt) ∙ map-append f (take i xs) (get_or xs i k ∷ []) ∙ ap (λ z. map f (take i xs) ++ f z ∷ []) (sym is)
+pub take-one_more : {X : Type 0} (xs : List X) (i : ℕ) (x : X) → i < length xs → x ≡ get_or xs i x → take (i + 1) xs ≡ take i xs ++ x ∷ []
+take-one_more xs i x lt is = take_more xs i x lt ∙ ap (λ z. take i xs ++ z ∷ []) (sym is)

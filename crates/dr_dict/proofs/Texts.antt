@@ -1,5 +1,5 @@
 -- Lists of distinct texts, and the place of one.
-use Rattle.std.proofs.Common.{◌≡◌, ◌∙◌, sym, refl, ap, ℕ, ◌+◌, ◌<◌, Bool, true, false, cond, not, nat_lt, ◌||◌, List, [], ◌∷◌, ◌++◌, map, length, take, None, Some, bytes_eq, arith, is_some, lt-ltb, le-ltb, true≢false, subst, if◌then◌else◌, suc, zero}
+use Rattle.std.proofs.Common.{◌≡◌, ◌∙◌, sym, refl, ap, ℕ, ◌+◌, ◌<◌, Bool, true, false, cond, not, nat_lt, ◌||◌, List, [], ◌∷◌, ◌++◌, map, length, take, get_or, None, Some, bytes_eq, arith, is_some, lt-ltb, le-ltb, true≢false, subst, if◌then◌else◌, suc, zero}
 use Rattle.std.specs.List.{position, position_or_len, list_any, AllByRecursion, IsDistinct}
 use Rattle.std.specs.Cmp.Lexicographic.{nat_list_eq_equiv}
 use Rattle.std.proofs.lemmas.Bool.{or_parts}
@@ -119,11 +119,29 @@ number-fresh ts t h = ap (λ l. number_in l t) (with_text-fresh ts t h) ∙ posi
 pub distinct-with_text : (ts : List (List ℕ)) (t : List ℕ) → IsDistinct bytes_eq ts → None ≡ number_in ts t → IsDistinct bytes_eq (with_text ts t)
 distinct-with_text ts t d h = subst (IsDistinct bytes_eq) (sym (with_text-fresh ts t h)) (distinct-push ts t d (any_fresh ts t h))
 
--- a key that a set takes in, as a text
-pub mapped-insert_key : {K : Type 0} (f : K → List ℕ) (ks : List K) (k : K) → map f (insert_key (λ a b. bytes_eq (f a) (f b)) ks k) ≡ with_text (map f ks) (f k)
-mapped-insert_key f ks k =
-    elim (list_any (λ b. bytes_eq (f k) (f b)) ks) as (λ b. list_any (λ b. bytes_eq (f k) (f b)) ks ≡ b → map f (if b then ks else ks ++ k ∷ []) ≡ with_text (map f ks) (f k)) [
-      | true ↦ λ h. ap (λ b. if b then map f ks else map f ks ++ f k ∷ []) (sym h ∙ list_any-map f (bytes_eq (f k)) ks)
-      | false ↦ λ h. map-append f ks (k ∷ []) ∙ ap (λ b. if b then map f ks else map f ks ++ f k ∷ []) (sym h ∙ list_any-map f (bytes_eq (f k)) ks)
-    ]
-    refl
+-- ---- a text at a place
+
+other_there : (u : List ℕ) (ts : List (List ℕ)) (i : ℕ) (t : List ℕ) → AllByRecursion (λ y. bytes_eq u y ≡ false) ts → i < length ts → t ≡ get_or ts i t → bytes_eq t u ≡ false
+other_there u [] i t all lt is = absurd (omega (arith, lt))
+other_there u (x ∷ ts) zero t all lt is = nat_list_eq_equiv.symm t u ∙ ap (bytes_eq u) is ∙ all.0
+other_there u (x ∷ ts) (suc i) t all lt is = other_there u ts i t all.1 (omega (arith, lt)) is
+
+-- distinct texts don't have it before
+pub distinct-before : (ts : List (List ℕ)) (i : ℕ) (t : List ℕ) → IsDistinct bytes_eq ts → i < length ts → t ≡ get_or ts i t → list_any (bytes_eq t) (take i ts) ≡ false
+unfolding IsDistinct
+distinct-before [] i t d lt is = absurd (omega (arith, lt))
+distinct-before (u ∷ ts) zero t d lt is = refl
+distinct-before (u ∷ ts) (suc i) t d lt is =
+    ap (λ b. b || list_any (bytes_eq t) (take i ts)) (other_there u ts i t d.0 (omega (arith, lt)) is) ∙ distinct-before ts i t d.1 (omega (arith, lt)) is
+
+-- the number of a text that is there, or that it gets
+pub number-added : (ts : List (List ℕ)) (t : List ℕ) → number_in (with_text ts t) t ≡ Some (position_or_len (bytes_eq t) ts)
+number-added ts t =
+    elim (list_any (bytes_eq t) ts) as (λ b. list_any (bytes_eq t) ts ≡ b → number_in (if b then ts else ts ++ t ∷ []) t ≡ Some (position_or_len (bytes_eq t) ts)) [
+      | true ↦ λ h. ap (λ b. cond b (Some (position_or_len (bytes_eq t) ts)) None) (lt-ltb _ _ (or_len-some (bytes_eq t) ts h))
+      | false ↦ λ h. position-last (bytes_eq t) ts t h (nat_list_eq_equiv.refl t) ∙ ap Some (sym (or_len-none (bytes_eq t) ts h))
+    ] refl
+
+pub distinct-added : (ts : List (List ℕ)) (t : List ℕ) → IsDistinct bytes_eq ts → IsDistinct bytes_eq (with_text ts t)
+distinct-added ts t d =
+    elim (list_any (bytes_eq t) ts) as (λ b. list_any (bytes_eq t) ts ≡ b → IsDistinct bytes_eq (if b then ts else ts ++ t ∷ [])) [ true ↦ λ h. d | false ↦ λ h. distinct-push ts t d h ] refl

@@ -1,31 +1,31 @@
-ghost use Rattle.std.specs.Prelude.{◌≡◌, ◌↔◌, ◌<◌, ◌≤◌, [], None, length, take, IfOk, OnOk, OnErr, IsErrOf, bytes_eq, slice_get, Some, map, string_bytes, option_map};
+ghost use Rattle.std.specs.Prelude.{◌≡◌, ◌↔◌, ◌<◌, ◌≤◌, [], None, length, take, IfOk, OnOk, OnErr, IsErrOf, bytes_eq, slice_get, Some, option_map};
 ghost use Rattle.std.specs.List.{IsDistinct};
 ghost use Rattle.dr_dict.specs.Dictionary.{number_in, with_text, with_texts};
 
 use crate::dict_error::DictError;
 use dr_base::Text;
 use indexmap::IndexSet;
-use std::alloc::Global;
+use std::alloc::{AllocError, Global};
 use std::marker::Model;
 
 /// Distinct texts, numbered from 0 in the order in which they were first added. A contract sees the list of the texts, and
 /// how many there may be.
 #[derive(Drop)]
 pub struct GrowingDict {
-    texts: IndexSet<String>,
+    texts: IndexSet<Text>,
     limit: usize,
 }
 
 impl Model for GrowingDict {
-    ghost use Rattle.std.specs.Prelude.{◌≤◌, map, length, string_bytes, bytes_eq};
+    ghost use Rattle.std.specs.Prelude.{◌≤◌, length, bytes_eq};
     ghost use Rattle.std.specs.List.{IsDistinct};
     ghost use Rattle.dr_dict.specs.Dictionary.{Dictionary};
 
     ghost Value = { Dictionary };
 
-    ghost view = { λ d. record { limit = d.limit; texts = map string_bytes d.texts.keys } };
+    ghost view = { λ d. record { limit = d.limit; texts = d.texts.keys } };
 
-    ghost invariant = { λ d. (length d.texts.keys ≤ d.limit) × (d.limit ≤ 16777216) × IsDistinct bytes_eq (map string_bytes d.texts.keys) };
+    ghost invariant = { λ d. (length d.texts.keys ≤ d.limit) × (d.limit ≤ 16777216) × IsDistinct bytes_eq d.texts.keys };
 }
 
 impl GrowingDict {
@@ -51,8 +51,8 @@ impl GrowingDict {
     }
 
     /// The texts by their numbers.
-    pub fn as_slice(&self) -> &[String]
-        ensures { map string_bytes result.now ≡ self.now.texts }
+    pub fn as_slice(&self) -> &[Text]
+        ensures { result.now ≡ self.now.texts }
     {
         self.texts.as_slice()
     }
@@ -66,7 +66,7 @@ impl GrowingDict {
     pub fn number_of(&self, text: &Text) -> Option<u32>
         ensures { result ≡ number_in self.now.texts text.now }
     {
-        let place = self.texts.get_index_of(text.as_str())?;
+        let place = self.texts.get_index_of(text)?;
         Some(place as u32)
     }
 
@@ -81,7 +81,8 @@ impl GrowingDict {
     }
 
     /// Adds a text where it is new, and answers its number. An error leaves the dictionary as it was. Refusals: 40
-    /// `DictFull` exactly where the text is new and there are as many texts as there may be.
+    /// `DictFull` exactly where the text is new and there are as many texts as there may be. It takes expected time by the
+    /// bytes of the text, which is hashed once; a text of more than 22 bytes is shared.
     pub fn add(&mut self, text: &Text) -> Result<u32, DictError>
         ensures number { IfOk result (λ n. number_in self.new.texts text.now ≡ Some n) }
         ensures ok { OnOk result (self.new ≡ with_texts self.old (with_text self.old.texts text.now)) }
@@ -89,15 +90,13 @@ impl GrowingDict {
         ensures full { IsErrOf result DictError.DictFull ↔ ((number_in self.old.texts text.now ≡ None) × (self.old.limit ≤ length self.old.texts)) }
         ensures distinct { IsDistinct bytes_eq self.new.texts }
     {
-        if let Some(number) = self.number_of(text) {
-            return Ok(number);
+        if self.texts.len() >= self.limit {
+            return match self.number_of(text) {
+                Some(number) => Ok(number),
+                None => Err(DictError::DictFull),
+            };
         }
-        let number = self.texts.len();
-        if number >= self.limit {
-            return Err(DictError::DictFull);
-        }
-        let copy = String::from_str(*self.texts.allocator(), text.as_str())?;
-        self.texts.insert(copy)?;
+        let (number, _) = self.texts.insert_full(text.copy()?)?;
         Ok(number as u32)
     }
 
@@ -107,4 +106,26 @@ impl GrowingDict {
     {
         self.texts.truncate(len);
     }
+
+    /// An equal dictionary in memory of its own, but for texts of more than 22 bytes, which are shared. The only error is
+    /// that memory ran out. It takes time by the texts.
+    pub fn copy(&self) -> Result<GrowingDict, AllocError>
+        ensures { IfOk result (λ dict. dict ≡ self.now) }
+    {
+        Ok(GrowingDict {
+            texts: copy_all(&self.texts)?,
+            limit: self.limit,
+        })
+    }
+}
+
+fn copy_all(texts: &IndexSet<Text>) -> Result<IndexSet<Text>, AllocError>
+    requires { IsDistinct bytes_eq texts.now.keys }
+    ensures { IfOk result (λ copies. copies.keys ≡ texts.now.keys) }
+{
+    let mut copies = IndexSet::with_capacity(*texts.allocator(), texts.len())?;
+    for text in texts.as_slice() {
+        copies.insert(text.copy()?)?;
+    }
+    Ok(copies)
 }

@@ -37,4 +37,11 @@ impl TextSet {
         let copy = String::from_str(*self.0.allocator(), text.as_str())?;
         Ok(self.0.insert(copy)?)
     }
+
+    /// Whether the text is among them. It takes no memory, and expected time by the bytes of the text, however many there are.
+    pub fn contains(&self, text: &str) -> bool
+        ensures { result ≡ list_any (bytes_eq text.now) self.now }
+    {
+        self.0.contains(text)
+    }
 }

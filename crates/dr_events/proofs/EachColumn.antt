@@ -1,5 +1,5 @@
 -- Columns that are read one after the other, as a loop does.
-use Rattle.std.proofs.Common.{◌≡◌, ◌∙◌, sym, refl, ap, ℕ, ◌+◌, ◌<◌, ◌≤◌, List, [], ◌∷◌, ◌++◌, length, drop, get_or, Option, Some, None, Result, Ok, Err, arith, subst}
+use Rattle.std.proofs.Common.{◌≡◌, ◌∙◌, sym, refl, ap, ℕ, zero, suc, ◌+◌, ◌<◌, ◌≤◌, List, [], ◌∷◌, ◌++◌, length, drop, get_or, Option, Some, None, Result, Ok, Err, arith, subst}
 use Rattle.std.specs.List.{All}
 use Rattle.std.proofs.lemmas.List.Elements.{All-push}
 use Rattle.std.proofs.lemmas.List.{drop_more, drop_all, length_push}
@@ -52,3 +52,9 @@ module _ {C A E : Type 0} (reading : C → Option A) (refusal : ℕ → E) where
         | Some x ↦ λ is h. All-each_from P f (values ++ x ∷ []) columns all (All-push P values x before (f c x is)) h
       ]
       refl e
+
+-- the default plays no part within a list
+pub get_or-any : {X : Type 0} (xs : List X) (i : ℕ) (d e : X) → i < length xs → get_or xs i d ≡ get_or xs i e
+get_or-any [] i d e lt = absurd (omega arith)
+get_or-any (x ∷ xs) zero d e lt = refl
+get_or-any (x ∷ xs) (suc i) d e lt = get_or-any xs i d e (omega arith)

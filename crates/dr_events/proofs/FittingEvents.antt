@@ -17,7 +17,7 @@ use Rattle.dr_events.specs.Columns.{or_refused}
 use Rattle.dr_events.specs.EventTime.{time_of, in_years, event_time}
 use Rattle.dr_events.specs.DimensionValue.{dimension_value}
 use Rattle.dr_events.specs.MetricInput.{metric_input}
-use Rattle.dr_events.specs.EventOf.{dims_of, inputs_of, event_in}
+use Rattle.dr_events.specs.EventOf.{object_of, dims_of, inputs_of, event_in, event_of}
 use Rattle.dr_schema.specs.Fits.{FitsSchema}
 use Rattle.dr_events.proofs.EachColumn.{length-each_from, All-each_from}
 use Rattle.dr_events.proofs.WholeInputs.{FitsSigned-metric_input}
@@ -76,6 +76,7 @@ FitsSchema-event_in s seat d e h =
     })))
 
 -- an event that is read fits the schema
-pub fits_if_read : (s : Schema) (seat : ℕ) (d : Data) (r : Result Event Unparseable) → Gives (λ e. e) r (event_in s seat d) → IfOk r (FitsSchema s)
-fits_if_read s seat d (Ok e) h = FitsSchema-event_in s seat d e h
-fits_if_read s seat d (Err f) h = tt
+pub fits_if_read : (s : Schema) (seat : ℕ) (bytes : List ℕ) (r : Result Event Unparseable) → Gives (λ e. e) r (event_of s seat bytes) → IfOk r (FitsSchema s)
+unfolding event_of
+fits_if_read s seat bytes (Ok e) h = after_step (object_of bytes) _ e h (λ d is h2. FitsSchema-event_in s seat d e h2)
+fits_if_read s seat bytes (Err f) h = tt

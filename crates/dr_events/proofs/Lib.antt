@@ -1,8 +1,10 @@
 pub mod EachColumn
 pub mod SignedTexts
 pub mod WholeInputs
-pub mod FlatMembers
 pub mod EventTimes
-pub mod Numerals
-pub mod FlatReadings
+pub mod Conversions
+pub mod LineObjects
+pub mod FoundNames
+pub mod MoreNames
+pub mod SeenFields
 pub mod FittingEvents

@@ -1,25 +1,19 @@
 -- Inputs are numbers of 64 bits with a sign.
-use Rattle.std.proofs.Common.{◌≡◌, ◌∙◌, sym, refl, subst, ℕ, ◌≤◌, ◌^◌, true, false, List, [], ◌∷◌, ℤ, pos, negsuc, Option, Some, None, arith, FitsSigned, w64}
-use Rattle.std.specs.Prelude.{nat_lt, IfSome, option_and_then, if◌then◌else◌}
+use Rattle.std.proofs.Common.{◌≡◌, refl, subst, ℕ, ◌≤◌, ◌^◌, true, false, List, [], ◌∷◌, ℤ, pos, negsuc, Option, Some, None, arith, FitsSigned, w64}
+use Rattle.std.specs.Prelude.{nat_lt, option_and_then, if◌then◌else◌}
 use Rattle.std.proofs.lemmas.Int.{ints}
 use borrow.Author.Tests.{ltb-true, lt-ltb}
-use Rattle.serde_json.specs.Data.{Num, unsigned, negative, float, Data, null, boolean, number, string, array, object}
-use Rattle.serde_json.specs.Find.{as_i64, as_integer}
+use Rattle.serde_json.specs.Data.{Data, null, boolean, number, string, array, object}
+use Rattle.serde_json.specs.Find.{as_integer}
 use Rattle.dr_agg.specs.declared.kind.Kind.TheVariants.{Count, LongSum, LongMin, LongMax}
 use Rattle.dr_agg.specs.declared.kind.Kind.{Kind}
 use Rattle.dr_schema.specs.declared.metric.Metric.{Metric}
 use Rattle.dr_events.specs.WholeNumber.{in_64_bits, signed_number}
 use Rattle.dr_events.specs.MetricInput.{text_input, number_input, input_by, input_field, metric_input}
 
-in_64_bits-fits : (z : ℤ) → FitsSigned w64 z → in_64_bits z ≡ Some z
+pub in_64_bits-fits : (z : ℤ) → FitsSigned w64 z → in_64_bits z ≡ Some z
 in_64_bits-fits (pos n) fits = rw (lt-ltb n (2 ^ 63) (omega (arith, ints))) refl
 in_64_bits-fits (negsuc n) fits = rw (lt-ltb n (2 ^ 63) (omega (arith, ints))) refl
-
--- what is read as a number of 64 bits with a sign
-pub whole_input_is : (n : Num) (r : Option ℤ) → r ≡ as_i64 n → IfSome r (FitsSigned w64) → r ≡ option_and_then in_64_bits (as_integer n)
-whole_input_is (unsigned n) r e fits = e
-whole_input_is (negative z) r e fits = e ∙ sym (in_64_bits-fits z (subst (λ (o : Option ℤ). IfSome o (FitsSigned w64)) e fits))
-whole_input_is (float x) r e fits = e
 
 pub FitsSigned-in_64_bits : (z t : ℤ) → in_64_bits z ≡ Some t → FitsSigned w64 t
 FitsSigned-in_64_bits (pos n) t h =

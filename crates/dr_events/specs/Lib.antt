@@ -4,5 +4,6 @@ pub mod WholeNumber
 pub mod EventTime
 pub mod DimensionValue
 pub mod MetricInput
-pub mod FlatObject
 pub mod EventOf
+pub mod Scalars
+pub mod Passed

@@ -1,5 +1,5 @@
 -- The numbers, names and arguments of the refusals of this crate.
-use Rattle.std.specs.Prelude.{ℕ, List, Bool, true, false, Option, Some, None, Result, codes}
+use Rattle.std.specs.Prelude.{◌≡◌, ℕ, List, Bool, true, false, Option, Some, None, Result, IfErr, codes}
 use Rattle.dr_base.specs.Reading.{GivesUnless}
 use Rattle.dr_base.specs.declared.fault.Arg.{Arg}
 use Rattle.dr_base.specs.declared.fault.Arg.TheVariants.{Index}
@@ -43,3 +43,7 @@ is_memory (BadMetric place) = false
 -- what a function returned, seen by view, is what the reading gives, unless memory ran out
 abbrev pub Gives : {X Y : Type 0} → (X → Y) → Result X Unparseable → Result Y Unparseable → Type 0
 Gives view result reading = GivesUnless is_memory view result reading
+
+-- a refusal is that one, and then that holds, unless memory ran out
+abbrev pub RefusesAs : {X : Type 0} → Unparseable → Result X Unparseable → Type 0 → Type 0
+RefusesAs refusal result P = IfErr result (λ e. is_memory e ≡ false → (e ≡ refusal) × P)

@@ -1,11 +1,10 @@
 ghost use Rattle.std.specs.Prelude.{◌≡◌, ◌&&◌, ℤ, Option, int_le, option_map, option_and_then};
-ghost use Rattle.serde_json.specs.View.{view};
 ghost use Rattle.std.specs.List.{list_all};
 ghost use Rattle.std.specs.Char.{is_ascii_digit};
 ghost use Rattle.dr_events.specs.Refusal.{Gives};
 ghost use Rattle.dr_time.specs.Instant.{first_instant, last_instant};
 ghost use Rattle.dr_events.specs.WholeNumber.{in_64_bits};
-ghost use Rattle.dr_events.specs.FlatObject.{data_of};
+ghost use Rattle.dr_events.specs.Scalars.{data_of};
 ghost use Rattle.dr_base.specs.Fields.{present};
 ghost use Rattle.dr_events.specs.EventTime.{whole_time, auto_time, auto_text, behind_minus, are_1_to_19_digits, of_seconds, in_years, time_of, event_time};
 
@@ -14,7 +13,6 @@ use crate::scalar::Scalar;
 use crate::unparseable::Unparseable;
 use dr_schema::TimeFormat;
 use dr_time::parse_instant;
-use serde_json::Value;
 
 /// 0001-01-01T00:00:00Z.
 const FIRST_TIME: i64 = -62_135_596_800_000;
@@ -23,28 +21,15 @@ const FIRST_TIME: i64 = -62_135_596_800_000;
 const LAST_TIME: i64 = 253_402_300_799_999;
 
 /// The time of an event in milliseconds since the epoch, by the value of its time column. Refusals: 31 `NoTimestamp` where
-/// that is absent, 32 `BadTimestamp` where it is no time in that format or lies outside the years 1 to 9999.
-pub fn event_time(format: TimeFormat, value: Option<&Value>) -> Result<i64, Unparseable>
-    ensures { Gives (λ t. t) result (event_time format (option_map (λ v. view v.now) value.entry)) }
-{
-    let Some(value) = value else {
-        return Err(Unparseable::NoTimestamp);
-    };
-    match time_of(format, value) {
-        Some(time) if is_in_years(time) => Ok(time),
-        _ => Err(Unparseable::BadTimestamp),
-    }
-}
-
-/// The same of a scalar.
-pub fn scalar_event_time(format: TimeFormat, value: Option<Scalar<'_>>) -> Result<i64, Unparseable>
-    ensures { Gives (λ t. t) result (event_time format (present (option_map data_of value.entry))) }
+/// that is absent or null, 32 `BadTimestamp` where it is no time in that format or lies outside the years 1 to 9999.
+pub fn event_time(format: TimeFormat, value: Option<Scalar<'_>>) -> Result<i64, Unparseable>
+    ensures { result ≡ event_time format (present (option_map data_of value.entry)) }
 {
     let value = match value {
         None | Some(Scalar::Null) => return Err(Unparseable::NoTimestamp),
         Some(value) => value,
     };
-    match scalar_time(format, value) {
+    match time_of(format, value) {
         Some(time) if is_in_years(time) => Ok(time),
         _ => Err(Unparseable::BadTimestamp),
     }
@@ -57,12 +42,12 @@ fn is_in_years(time: i64) -> bool
 }
 
 // A number beyond 64 bits lies outside the years too.
-fn time_of(format: TimeFormat, value: &Value) -> Option<i64>
-    ensures { option_and_then in_years result ≡ option_and_then in_years (time_of format (view value.now)) }
+fn time_of(format: TimeFormat, value: Scalar<'_>) -> Option<i64>
+    ensures { option_and_then in_years result ≡ option_and_then in_years (time_of format (data_of value.entry)) }
 {
     match format {
         TimeFormat::Iso => match value {
-            Value::String(text) => parse_instant(text.as_str()).ok(),
+            Scalar::Text(text) => parse_instant(text).ok(),
             _ => None,
         },
         TimeFormat::Millis => whole_time(value),
@@ -71,22 +56,8 @@ fn time_of(format: TimeFormat, value: &Value) -> Option<i64>
     }
 }
 
-fn scalar_time(format: TimeFormat, value: Scalar<'_>) -> Option<i64>
-    ensures { option_and_then in_years result ≡ option_and_then in_years (time_of format (data_of value.entry)) }
-{
-    match (format, value) {
-        (TimeFormat::Iso, Scalar::Text(text)) => parse_instant(text).ok(),
-        (TimeFormat::Auto, Scalar::Text(text)) => auto_text(text),
-        (TimeFormat::Millis, Scalar::Text(text)) => plain_number(text),
-        (TimeFormat::Posix, Scalar::Text(text)) => of_seconds(plain_number(text)),
-        (TimeFormat::Millis | TimeFormat::Auto, Scalar::Whole(time)) => Some(time),
-        (TimeFormat::Posix, Scalar::Whole(seconds)) => seconds.checked_mul(1000),
-        _ => None,
-    }
-}
-
-fn posix_time(value: &Value) -> Option<i64>
-    ensures { option_and_then in_years result ≡ option_and_then in_years (option_map of_seconds (whole_time (view value.now))) }
+fn posix_time(value: Scalar<'_>) -> Option<i64>
+    ensures { option_and_then in_years result ≡ option_and_then in_years (option_map of_seconds (whole_time (data_of value.entry))) }
 {
     of_seconds(whole_time(value))
 }
@@ -100,22 +71,24 @@ fn of_seconds(seconds: Option<i64>) -> Option<i64>
     }
 }
 
-fn whole_time(value: &Value) -> Option<i64>
-    ensures { result ≡ option_and_then in_64_bits (whole_time (view value.now)) }
+fn whole_time(value: Scalar<'_>) -> Option<i64>
+    ensures { result ≡ option_and_then in_64_bits (whole_time (data_of value.entry)) }
 {
     match value {
-        Value::Number(number) => whole_number(number),
-        Value::String(text) => plain_number(text.as_str()),
+        Scalar::Whole(number) => whole_number(number),
+        Scalar::Negative(number) => Some(number),
+        Scalar::Text(text) => plain_number(text),
         _ => None,
     }
 }
 
-fn auto_time(value: &Value) -> Option<i64>
-    ensures { option_and_then in_years result ≡ option_and_then in_years (auto_time (view value.now)) }
+fn auto_time(value: Scalar<'_>) -> Option<i64>
+    ensures { option_and_then in_years result ≡ option_and_then in_years (auto_time (data_of value.entry)) }
 {
     match value {
-        Value::Number(number) => whole_number(number),
-        Value::String(text) => auto_text(text.as_str()),
+        Scalar::Whole(number) => whole_number(number),
+        Scalar::Negative(number) => Some(number),
+        Scalar::Text(text) => auto_text(text),
         _ => None,
     }
 }

@@ -5,14 +5,18 @@
 mod dimension;
 mod event_reader;
 mod event_time;
-mod flat_event;
-mod flat_object;
-mod flat_reading;
+mod input;
+mod learning;
+mod line_object;
 mod metric;
+mod names;
 mod numbers;
+mod numerals;
+mod places;
 mod reading;
 mod scalar;
 mod unparseable;
+mod values;
 
 pub use event_reader::EventReader;
 pub use reading::read_event;

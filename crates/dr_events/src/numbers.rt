@@ -1,15 +1,15 @@
-ghost use Rattle.std.specs.Prelude.{◌≡◌, option_and_then};
-ghost use Rattle.serde_json.specs.View.{number_view};
-ghost use Rattle.serde_json.specs.Find.{as_integer};
+ghost use Rattle.std.specs.Prelude.{◌≡◌, option_and_then, pos};
 ghost use Rattle.dr_events.specs.WholeNumber.{in_64_bits, signed_number, plain_number};
 
-use serde_json::Number;
-
-/// The number, where it is whole and lies from -2^63 to 2^63 - 1.
-pub fn whole_number(number: &Number) -> Option<i64>
-    ensures { result ≡ option_and_then in_64_bits (as_integer (number_view number.now)) }
+/// The number, where it is below 2^63.
+pub fn whole_number(number: u64) -> Option<i64>
+    ensures { result ≡ in_64_bits (pos number) }
 {
-    number.as_i64()
+    if number <= i64::MAX as u64 {
+        Some(number as i64)
+    } else {
+        None
+    }
 }
 
 /// The number from -2^63 to 2^63 - 1 that an optional sign and digits spell.

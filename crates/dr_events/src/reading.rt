@@ -1,18 +1,20 @@
-ghost use Rattle.std.specs.Prelude.{IfOk};
-ghost use Rattle.serde_json.specs.View.{view};
+ghost use Rattle.std.specs.Prelude.{◌≡◌, IfOk, option_map};
 ghost use Rattle.dr_events.specs.Refusal.{Gives};
-ghost use Rattle.dr_events.specs.EventOf.{object_of, dims_of, inputs_of, event_in, event_of};
+ghost use Rattle.dr_events.specs.Scalars.{data_of, value_at, input_value, dims_seen, inputs_seen, event_seen};
+ghost use Rattle.dr_events.specs.EventOf.{event_of};
 ghost use Rattle.dr_schema.specs.Fits.{FitsSchema};
 
 use crate::dimension::dimension_value;
 use crate::event_reader::EventReader;
 use crate::event_time::event_time;
+use crate::input::Input;
 use crate::metric::metric_input;
+use crate::places::Places;
+use crate::scalar::Scalar;
 use crate::unparseable::Unparseable;
-use dr_base::{BaseError, Event, Numbers, Text, Texts, field, parse_json};
-use dr_schema::{Metric, Schema};
+use dr_base::{Event, Numbers, Texts};
+use dr_schema::TimeFormat;
 use dr_spec::IngestSpec;
-use serde_json::Value;
 use std::alloc::Global;
 
 /// The event that a line spells, with that seat's mark: its time in milliseconds since the epoch, a text for each dimension
@@ -31,22 +33,20 @@ pub fn read_event(
     EventReader::new(alloc).read(alloc, spec, seat, bytes)
 }
 
-/// The event of an object.
-#[tactic(auto, unfolding(crate::specs::EventOf::event_in))]
-pub fn event_in(
+/// The event of an object, by what columns see in its fields.
+#[tactic(auto, unfolding(crate::specs::Scalars::event_seen))]
+pub fn event_of_fields<'a>(
     alloc: Global,
-    schema: &Schema,
+    format: TimeFormat,
     seat: u8,
-    value: &Value,
+    places: &Places,
+    found: &[Scalar<'a>],
 ) -> Result<Event, Unparseable>
-    ensures { Gives (λ e. e) result (event_in schema.now seat (view value.now)) }
+    ensures { Gives (λ e. e) result (event_seen format seat places.now found.now) }
 {
-    let time = event_time(
-        schema.time_format(),
-        field(value, schema.time_column().as_str()),
-    )?;
-    let dims = dimensions(alloc, schema.dimensions().as_slice(), value)?;
-    let inputs = inputs(alloc, schema.metrics().as_slice(), value)?;
+    let time = event_time(format, value_at(found, places.time))?;
+    let dims = dimensions(alloc, places.dimensions.as_slice(), found)?;
+    let inputs = inputs(alloc, places.inputs.as_slice(), found)?;
     Ok(Event {
         seat,
         time,
@@ -55,48 +55,53 @@ pub fn event_in(
     })
 }
 
-/// The object that a line spells. Refusals: 30 `NotAnObject`.
-#[tactic(auto, unfolding(crate::specs::EventOf::object_of))]
-pub fn object(alloc: Global, bytes: &[u8]) -> Result<Value, Unparseable>
-    ensures { Gives view result (object_of bytes.now) }
+#[tactic(auto, unfolding(crate::specs::Scalars::dims_seen))]
+fn dimensions<'a>(
+    alloc: Global,
+    places: &[usize],
+    found: &[Scalar<'a>],
+) -> Result<Texts, Unparseable>
+    ensures { Gives (λ dims. dims) result (dims_seen places.now found.now) }
 {
-    match parse_json(alloc, bytes) {
-        Ok(value) => {
-            if value.is_object() {
-                Ok(value)
-            } else {
-                Err(Unparseable::NotAnObject)
-            }
-        }
-        Err(BaseError::NoMemory) => Err(Unparseable::NoMemory),
-        Err(_) => Err(Unparseable::NotAnObject),
-    }
-}
-
-#[tactic(auto, unfolding(crate::specs::EventOf::dims_of))]
-fn dimensions(alloc: Global, names: &[Text], event: &Value) -> Result<Texts, Unparseable>
-    ensures { Gives (λ dims. dims) result (dims_of names.now (view event.now)) }
-{
-    let mut dims = Vec::with_capacity(alloc, names.len())?;
-    for (place, name) in names.iter().enumerate() {
-        match dimension_value(alloc, event.get(name.as_str()))? {
+    let mut dims = Vec::with_capacity(alloc, places.len())?;
+    for (column, place) in places.iter().enumerate() {
+        match dimension_value(alloc, value_at(found, *place))? {
             Some(text) => dims.push(text)?,
-            None => return Err(Unparseable::BadDimension(place)),
+            None => return Err(Unparseable::BadDimension(column)),
         }
     }
     Ok(Texts::from_vec(dims))
 }
 
-#[tactic(auto, unfolding(crate::specs::EventOf::inputs_of))]
-fn inputs(alloc: Global, metrics: &[Metric], event: &Value) -> Result<Numbers, Unparseable>
-    ensures { Gives (λ inputs. inputs) result (inputs_of metrics.now (view event.now)) }
+#[tactic(auto, unfolding(crate::specs::Scalars::inputs_seen))]
+fn inputs<'a>(
+    alloc: Global,
+    metrics: &[Input],
+    found: &[Scalar<'a>],
+) -> Result<Numbers, Unparseable>
+    ensures { Gives (λ inputs. inputs) result (inputs_seen metrics.now found.now) }
 {
     let mut inputs = Vec::with_capacity(alloc, metrics.len())?;
     for (place, metric) in metrics.iter().enumerate() {
-        match metric_input(metric, event) {
+        match metric_input(metric.kind, input_value(found, metric.field)) {
             Some(input) => inputs.push(input)?,
             None => return Err(Unparseable::BadMetric(place)),
         }
     }
     Ok(Numbers::from_vec(inputs))
+}
+
+fn input_value<'a>(found: &[Scalar<'a>], place: Option<usize>) -> Option<Scalar<'a>>
+    ensures { option_map data_of result ≡ input_value found.now place }
+{
+    match place {
+        Some(place) => value_at(found, place),
+        None => None,
+    }
+}
+
+fn value_at<'a>(found: &[Scalar<'a>], place: usize) -> Option<Scalar<'a>>
+    ensures { option_map data_of result ≡ value_at found.now place }
+{
+    found.get(place).copied()
 }

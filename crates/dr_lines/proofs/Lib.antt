@@ -2,3 +2,4 @@ pub mod Ranges
 pub mod LineLemmas
 pub mod LineSteps
 pub mod WrittenLemmas
+pub mod ManyLines

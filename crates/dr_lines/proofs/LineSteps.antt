@@ -1,5 +1,5 @@
 -- The steps by which a line is read.
-use Rattle.std.proofs.Common.{◌≡◌, ◌≢◌, ℕ, ◌<◌, ◌≤◌, Bool, true, false, cond, eqb, List, [], ◌∷◌, ◌++◌, length, Option, None, Some, MatchBool, refl, ap, sym, inl, inr, ◌∙◌, subst, append_assoc, append-nil, arith, rules, tests}
+use Rattle.std.proofs.Common.{◌≡◌, ◌≢◌, ◌⊎◌, ℕ, ◌+◌, ◌-◌, ◌^◌, ◌<◌, ◌≤◌, Bool, true, false, cond, eqb, List, [], ◌∷◌, ◌++◌, length, Option, None, Some, MatchBool, refl, ap, sym, inl, inr, ◌∙◌, subst, append_assoc, append-nil, arith, rules, tests}
 use Rattle.std.proofs.lemmas.List.Elements.{All-append}
 use Rattle.std.specs.Io.KnownBytes.{Keeps, Consumes, IsAtEnd, prepend_known}
 use Rattle.std.proofs.KnownBytes.{Consumes-kept}
@@ -104,10 +104,20 @@ goes_on whole known old new so_far taken = record {
 -- ---- counts of reads
 
 pub counts-none : (made counted : ℕ) → CountsReads made made counted counted
-counts-none made counted = (omega arith, inl (omega arith))
+counts-none made counted = (omega arith, λ bound. bound, omega arith, inl (omega arith))
+
+counted-more : (made mid_made new_made counted mid_counted new_counted : ℕ) → made ≤ mid_made → mid_made ≤ new_made
+    → (counted + mid_made ≤ mid_counted + made) ⊎ (2 ^ 64 - 1 ≤ mid_counted) → (mid_counted + new_made ≤ new_counted + mid_made) ⊎ (2 ^ 64 - 1 ≤ new_counted)
+    → (counted + new_made ≤ new_counted + made) ⊎ (2 ^ 64 - 1 ≤ new_counted)
+counted-more made mid_made new_made counted mid_counted new_counted grows more (inl first) (inl second) = inl (omega arith)
+counted-more made mid_made new_made counted mid_counted new_counted grows more (inr full) (inl second) = inr (omega arith)
+counted-more made mid_made new_made counted mid_counted new_counted grows more first (inr full) = inr full
 
 pub counts-more : (made mid_made new_made counted mid_counted new_counted : ℕ) → CountsReads made mid_made counted mid_counted → CountsReads mid_made new_made mid_counted new_counted
     → CountsReads made new_made counted new_counted
-counts-more made mid_made new_made counted mid_counted new_counted (grows, inl first) (grows_more, inl second) = (omega arith, inl (omega arith))
-counts-more made mid_made new_made counted mid_counted new_counted (grows, inr full) (grows_more, inl second) = (omega arith, inr (omega arith))
-counts-more made mid_made new_made counted mid_counted new_counted (grows, first) (grows_more, inr full) = (omega arith, inr full)
+counts-more made mid_made new_made counted mid_counted new_counted first second = (
+  omega (arith, first.0, second.0),
+  λ bound. second.1 (first.1 bound),
+  omega (arith, first.2, second.2),
+  counted-more made mid_made new_made counted mid_counted new_counted first.0 second.0 first.3 second.3,
+)

@@ -1,5 +1,6 @@
 -- The lines of an input, and what reading one of them does to what is left to read.
 use Rattle.std.specs.Prelude.{◌≡◌, ◌≢◌, ℕ, ◌<◌, ◌≤◌, Bool, List, [], ◌∷◌, ◌++◌, length, Option, None, Some, All, ◌==◌, if◌then◌else◌, ⊤, ◌⊎◌, min, ◌+◌, ◌-◌, ◌*◌, ◌^◌}
+use Rattle.std.specs.List.{flat_map}
 use Rattle.std.specs.Io.KnownBytes.{Consumes, IsAtEnd, prepend_known}
 use Rattle.dr_lines.specs.declared.next_line.NextLine.{NextLine}
 use Rattle.dr_lines.specs.declared.next_line.NextLine.TheVariants.{Line, TooLong, End, Failed}
@@ -71,9 +72,48 @@ AnswersLine TooLong old new line = (skipped : List ℕ) × (longest_line < lengt
 AnswersLine End old new line = IsAtEnd old × IsAtEnd new
 AnswersLine Failed old new line = (part : List ℕ) × IsInLine part × Consumes old new part
 
--- so many reads as were made between two counts of them were counted by the stream, up to the greatest number of 64 bits
+-- as many reads as were made between two counts of them were counted by the stream, up to the greatest number of 64 bits; no more are made than there may be
 abbrev pub CountsReads : (made new_made counted new_counted : ℕ) → Type 0
-CountsReads made new_made counted new_counted = (made ≤ new_made) × ((counted + new_made ≤ new_counted + made) ⊎ (2 ^ 64 - 1 ≤ new_counted))
+CountsReads made new_made counted new_counted =
+    (made ≤ new_made) × (made ≤ most_reads → new_made ≤ most_reads) × (new_counted + made ≤ counted + new_made) × ((counted + new_made ≤ new_counted + made) ⊎ (2 ^ 64 - 1 ≤ new_counted))
+
+-- ---- several lines
+
+-- lines, each with its newline
+abbrev pub whole_text : List (List ℕ) → List ℕ
+whole_text lines = flat_map (λ line. line ++ 10 ∷ []) lines
+
+-- the input begins with those lines, and the rest has the others
+pub record AreFirstLines (input : List ℕ) (lines : List (List ℕ)) (rest : List ℕ) : Type 0 where
+  pub split : lines_of input ≡ lines ++ lines_of rest
+  -- the rest comes after the last newline; where the input's end ends the last line, nothing is left
+  pub bytes : (input ≡ whole_text lines ++ rest) ⊎ ((input ++ 10 ∷ [] ≡ whole_text lines) × (rest ≡ []))
+
+-- of what was left to read, those lines are taken, and the rest is left
+abbrev pub TakesLines : Option (List ℕ) → Option (List ℕ) → List (List ℕ) → Type 0
+TakesLines None new lines = ⊤
+TakesLines (Some xs) None lines = ⊥
+TakesLines (Some xs) (Some ys) lines = AreFirstLines xs lines ys
+
+-- what was left to read has those lines
+abbrev pub HasLines : Option (List ℕ) → List (List ℕ) → Type 0
+HasLines None lines = ⊤
+HasLines (Some xs) lines = lines_of xs ≡ lines
+
+-- what was left to read begins with those lines
+abbrev pub BeginsWith : Option (List ℕ) → List (List ℕ) → Type 0
+BeginsWith None lines = ⊤
+BeginsWith (Some xs) lines = (others : List (List ℕ)) × (lines_of xs ≡ lines ++ others)
+
+-- what was left to read begins with a part of a line, and the rest is left
+abbrev pub EndsInLine : Option (List ℕ) → Option (List ℕ) → Type 0
+EndsInLine left rest = (part : List ℕ) × IsInLine part × Consumes left rest part
+
+-- of what was left to read, those lines were read whole, and at most a part of the next one
+abbrev pub ReadsWhole : Option (List ℕ) → Option (List ℕ) → List (List ℕ) → Type 0
+ReadsWhole left rest lines = (behind : Option (List ℕ)) × TakesLines left behind lines × EndsInLine behind rest
+
+-- ---- counts
 
 -- the failures before and after an answer, and the reads that there were: a failed answer comes of a failed read or of the bound
 abbrev pub CountsFailure : NextLine → ℕ → ℕ → ℕ → Type 0

@@ -89,6 +89,7 @@ impl LineReader {
             self.new.line }
         ensures failures { CountsFailure result (failures_of reader.old) (failures_of reader.new) self.new.reads }
         ensures reads { CountsReads self.old.reads self.new.reads (reads_of reader.old) (reads_of reader.new) }
+        ensures spent { result ≡ NextLine.Failed → self.new.ahead ≡ [] }
         ensures nearer { FoundLine result → steps_left self.new < steps_left self.old }
     {
         self.clear_line();
@@ -152,6 +153,7 @@ impl LineReader {
         ensures nearer { OnOk result (steps_left self.new ≤ steps_left self.old) }
         ensures read { OnOk result (self.new.ahead ≡ [] → steps_left self.new < steps_left self.old) }
         ensures failures { CountsFault result (failures_of reader.old) (failures_of reader.new) self.new.reads }
+        ensures spent { OnErr result (self.new.ahead ≡ []) }
         ensures reads { CountsReads self.old.reads self.new.reads (reads_of reader.old) (reads_of reader.new) }
     {
         if self.start < self.end {

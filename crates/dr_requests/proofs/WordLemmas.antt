@@ -26,12 +26,12 @@ use Rattle.dr_requests.specs.Request.{split_word, number_in, or_bad_command}
 abbrev NoSpace : ℕ → Type 0
 NoSpace b = b ≢ 32
 
-split_at : (xs ys : List ℕ) → All NoSpace xs → split_word (xs ++ 32 ∷ ys) ≡ (xs, Some ys)
+pub split_at : (xs ys : List ℕ) → All NoSpace xs → split_word (xs ++ 32 ∷ ys) ≡ (xs, Some ys)
 split_at [] ys none = refl
 split_at (x ∷ xs) ys none =
     cond-false _ _ _ (ne_eqb x 32 (All-head NoSpace x xs none)) ∙ ap (λ r. (x ∷ r.0, r.1)) (split_at xs ys (All-tail NoSpace x xs none))
 
-split_whole : (xs : List ℕ) → All NoSpace xs → split_word xs ≡ (xs, None)
+pub split_whole : (xs : List ℕ) → All NoSpace xs → split_word xs ≡ (xs, None)
 split_whole [] none = refl
 split_whole (x ∷ xs) none =
     cond-false _ _ _ (ne_eqb x 32 (All-head NoSpace x xs none)) ∙ ap (λ r. (x ∷ r.0, r.1)) (split_whole xs (All-tail NoSpace x xs none))

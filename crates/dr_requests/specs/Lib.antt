@@ -1,3 +1,4 @@
 pub mod Refusal
 pub mod Request
 pub mod Seen
+pub mod Grammar

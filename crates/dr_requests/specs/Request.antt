@@ -1,4 +1,5 @@
--- What a line of a script asks for: words with one space between them, where a query or an event is the rest of the line.
+-- What a line of a script asks for, as it is read from its first word on: words with one space between them, where a query or an event
+-- is the rest of the line. Grammar.antt says which lines there are, and the laws of this crate that the two are the same.
 use Rattle.std.specs.Prelude.{ℕ, ℤ, ◌^◌, nat_lt, nat_eq, ◌==◌, bytes_eq, List, [], ◌∷◌, length, Option, Some, None, Result, Ok, Err, codes, if◌then◌else◌}
 use Rattle.std.specs.Str.{is_utf8}
 use Rattle.dr_base.specs.Reading.{◌>>=◌}
@@ -6,10 +7,12 @@ use Rattle.dr_time.specs.declared.time_error.TimeError.{TimeError}
 use Rattle.dr_time.specs.declared.time_error.TimeError.TheVariants.{BadInstant}
 use Rattle.dr_time.specs.Instant.{instant_of}
 use Rattle.dr_events.specs.WholeNumber.{digits_number}
+use Rattle.dr_merge.specs.declared.purpose.Purpose.{Purpose}
+use Rattle.dr_merge.specs.declared.purpose.Purpose.TheVariants.{Merge}
 use Rattle.dr_requests.specs.declared.command_error.CommandError.{CommandError}
 use Rattle.dr_requests.specs.declared.command_error.CommandError.TheVariants.{BadCommand}
 use Rattle.dr_requests.specs.declared.request.Request.{Request}
-use Rattle.dr_requests.specs.declared.request.Request.TheVariants.{Add, Seal, Merge, PlanMerge, Commit, Pin, Query, At, Audit, Stats}
+use Rattle.dr_requests.specs.declared.request.Request.TheVariants.{Add, Seal, Join, Plan, Commit, Pin, Query, At, Audit, Stats}
 
 -- what there is, and else no command
 abbrev pub or_bad_command : {A : Type 0} → Option A → Result A CommandError
@@ -72,22 +75,23 @@ seal_in text = do
   instant ← one_word text
   Ok (Seal instant)
 
--- `merge INSTANT LO HI`
-abbrev pub merge_in : List ℕ → Result (Request (List ℕ)) CommandError
-merge_in text = do
+-- `INSTANT LO HI` behind the word of a purpose
+abbrev pub join_in : Purpose → List ℕ → Result (Request (List ℕ)) CommandError
+join_in purpose text = do
   r ← places_in text
-  Ok (Merge r.0 r.1 r.2)
+  Ok (Join purpose r.0 r.1 r.2)
 
--- `plan merge INSTANT LO HI`
-abbrev pub plan_for : List ℕ → List ℕ → Result (Request (List ℕ)) CommandError
-plan_for purpose text = do
-  r ← if bytes_eq purpose (codes "merge") then places_in text else Err BadCommand
-  Ok (PlanMerge r.0 r.1 r.2)
+-- the word of a purpose
+abbrev pub purpose_in : List ℕ → Result Purpose CommandError
+purpose_in word = if bytes_eq word (codes "merge") then Ok Merge else Err BadCommand
 
+-- `plan PURPOSE INSTANT LO HI`
 abbrev pub plan_in : List ℕ → Result (Request (List ℕ)) CommandError
 plan_in text = do
   p ← two_parts text
-  plan_for p.0 p.1
+  purpose ← purpose_in p.0
+  r ← places_in p.1
+  Ok (Plan purpose r.0 r.1 r.2)
 
 -- `commit N`
 abbrev pub commit_in : List ℕ → Result (Request (List ℕ)) CommandError
@@ -118,7 +122,7 @@ request_with word rest =
     else if bytes_eq word (codes "audit") then Ok (Audit rest)
     else if bytes_eq word (codes "at") then at_in rest
     else if bytes_eq word (codes "seal") then seal_in rest
-    else if bytes_eq word (codes "merge") then merge_in rest
+    else if bytes_eq word (codes "merge") then join_in Merge rest
     else if bytes_eq word (codes "plan") then plan_in rest
     else if bytes_eq word (codes "commit") then commit_in rest
     else Err BadCommand

@@ -2,14 +2,14 @@
 use Rattle.std.specs.Prelude.{ℕ, List}
 use Rattle.std.specs.Borrow.{Bor}
 use Rattle.dr_requests.specs.declared.request.Request.{Request}
-use Rattle.dr_requests.specs.declared.request.Request.TheVariants.{Add, Seal, Merge, PlanMerge, Commit, Pin, Query, At, Audit, Stats}
+use Rattle.dr_requests.specs.declared.request.Request.TheVariants.{Add, Seal, Join, Plan, Commit, Pin, Query, At, Audit, Stats}
 
 -- a request, with the bytes of its parts
 abbrev pub seen_request : Request (Bor (List ℕ)) → Request (List ℕ)
 seen_request (Add text) = Add text.now
 seen_request (Seal instant) = Seal instant.now
-seen_request (Merge instant lo hi) = Merge instant.now lo hi
-seen_request (PlanMerge instant lo hi) = PlanMerge instant.now lo hi
+seen_request (Join purpose instant lo hi) = Join purpose instant.now lo hi
+seen_request (Plan purpose instant lo hi) = Plan purpose instant.now lo hi
 seen_request (Commit number) = Commit number
 seen_request Pin = Pin
 seen_request (Query text) = Query text.now

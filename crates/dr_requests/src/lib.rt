@@ -3,11 +3,13 @@
 #![tactic(auto)]
 
 mod command_error;
+mod laws;
 mod request;
 mod requests;
 mod words;
 
 pub use command_error::CommandError;
+pub use laws::{what_is_read_is_spelled, what_is_spelled_is_read};
 pub use request::Request;
 pub use requests::request_in;
 pub use words::instant_in;

@@ -1,3 +1,5 @@
+use dr_merge::Purpose;
+
 /// What a line of a script asks for. `T` is a part of the line, as bytes.
 #[derive(Clone, Copy, Debug)]
 pub enum Request<T> {
@@ -5,10 +7,11 @@ pub enum Request<T> {
     Add(T),
     /// `seal INSTANT`: seal the open range of the chunk in which the instant lies.
     Seal(T),
-    /// `merge INSTANT LO HI`: make one range of the sealed ranges of a chunk at the places from LO to before HI.
-    Merge(T, u64, u64),
+    /// `merge INSTANT LO HI`: make one range of the sealed ranges of a chunk at the places from LO to before HI, for that
+    /// purpose.
+    Join(Purpose, T, u64, u64),
     /// `plan merge INSTANT LO HI`: plan the same, to be committed later.
-    PlanMerge(T, u64, u64),
+    Plan(Purpose, T, u64, u64),
     /// `commit N`: commit the job of that number.
     Commit(u64),
     /// `pin`: keep a snapshot.

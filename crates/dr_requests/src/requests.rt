@@ -1,10 +1,11 @@
-ghost use Rattle.dr_requests.specs.Request.{at_in, commit_in, merge_in, places_in, plan_in, request_alone, request_in, request_with, seal_in};
+ghost use Rattle.dr_requests.specs.Request.{at_in, commit_in, join_in, places_in, plan_in, purpose_in, request_alone, request_in, request_with, seal_in};
 ghost use Rattle.dr_requests.specs.Seen.{seen_request};
 ghost use Rattle.dr_requests.specs.Refusal.{Gives};
 
 use crate::command_error::CommandError;
 use crate::request::Request;
 use crate::words::{number_in, one_word, split_word, two_parts};
+use dr_merge::Purpose;
 
 /// A line of a script as what it asks for. Refusals: 101 `BadCommand` where it fits no command.
 pub fn request_in(line: &[u8]) -> Result<Request<&[u8]>, CommandError>
@@ -52,7 +53,7 @@ fn request_with<'a>(word: &[u8], rest: &'a [u8]) -> Result<Request<&'a [u8]>, Co
         return seal_in(rest);
     }
     if word == b"merge".as_slice() {
-        return merge_in(rest);
+        return join_in(Purpose::Merge, rest);
     }
     if word == b"plan".as_slice() {
         return plan_in(rest);
@@ -85,24 +86,31 @@ fn at_in(text: &[u8]) -> Result<Request<&[u8]>, CommandError>
     Ok(Request::At(number_in(number)?, query))
 }
 
-// `INSTANT LO HI`, for a merge at once.
-fn merge_in(text: &[u8]) -> Result<Request<&[u8]>, CommandError>
-    ensures { Gives seen_request result (merge_in text.now) }
+// `INSTANT LO HI`, to be joined at once.
+fn join_in(purpose: Purpose, text: &[u8]) -> Result<Request<&[u8]>, CommandError>
+    ensures { Gives seen_request result (join_in purpose text.now) }
 {
     let (instant, lo, hi) = places_in(text)?;
-    Ok(Request::Merge(instant, lo, hi))
+    Ok(Request::Join(purpose, instant, lo, hi))
 }
 
-// `merge INSTANT LO HI`, for a merge later.
+// `PURPOSE INSTANT LO HI`, to be joined later.
 fn plan_in(text: &[u8]) -> Result<Request<&[u8]>, CommandError>
     ensures { Gives seen_request result (plan_in text.now) }
 {
-    let (purpose, range) = two_parts(text)?;
-    if purpose != b"merge".as_slice() {
-        return Err(CommandError::BadCommand);
-    }
+    let (word, range) = two_parts(text)?;
+    let purpose = purpose_in(word)?;
     let (instant, lo, hi) = places_in(range)?;
-    Ok(Request::PlanMerge(instant, lo, hi))
+    Ok(Request::Plan(purpose, instant, lo, hi))
+}
+
+fn purpose_in(word: &[u8]) -> Result<Purpose, CommandError>
+    ensures { Gives (λ purpose. purpose) result (purpose_in word.now) }
+{
+    if word == b"merge".as_slice() {
+        return Ok(Purpose::Merge);
+    }
+    Err(CommandError::BadCommand)
 }
 
 fn places_in(text: &[u8]) -> Result<(&[u8], u64, u64), CommandError>

@@ -19,7 +19,7 @@ use Rattle.dr_agg.proofs.ColumnLaws.{combine_columns-assoc}
 use Rattle.dr_agg.proofs.RollupLaws.{rollup_onto_push, IsRollup-rollup, same_rollup, list_any-rollup}
 use Rattle.dr_agg.proofs.Rearranged.{rollup-IsPermutation}
 use Rattle.dr_agg.proofs.Sorting.{in_order, rows_at-sorted}
-use Rattle.dr_rollup.specs.Coding.{same_keys}
+use Rattle.dr_rollup.specs.Entries.{same_keys}
 
 -- ---- a row that another of its key is combined into
 

@@ -1,5 +1,6 @@
 pub mod Refusal
 pub mod Unrolled
 pub mod OpenRows
-pub mod Coding
+pub mod Lookup
+pub mod Entries
 pub mod Sound

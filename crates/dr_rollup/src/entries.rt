@@ -1,27 +1,27 @@
-ghost use Rattle.std.specs.Prelude.{◌≡◌, ◌<◌, ◌++◌, ◌∷◌, [], true, false, None, length, slice_get, Some, IfSome, OnOk};
-ghost use Rattle.std.specs.List.{AllByRecursion};
-ghost use Rattle.dr_agg.specs.Combination.{FitsColumns};
-ghost use Rattle.dr_rollup.specs.Coding.{Entry, entries_of, is_combined, same_coded, HasRoom, Combines};
+ghost use Rattle.std.specs.Prelude.{◌≡◌, ◌<◌, ◌++◌, ◌∷◌, [], true, None, length, map, IfSome, IfOk, OnOk};
+ghost use Rattle.std.specs.List.{IsDistinct};
+ghost use Rattle.dr_agg.specs.Rollup.{AllFit};
+ghost use Rattle.dr_rollup.specs.Entries.{row_of, rows_in, is_combined, same_keys, HasKeyAt, NoneHas, HasRoom, Combines};
 
-use crate::coded::Coded;
+use crate::key_of::KeyOf;
 use crate::unrolled::contribute;
-use dr_agg::Kind;
-use dr_base::Numbers;
+use dr_base::{Key, Numbers, Row};
+use dr_schema::Metric;
 use indexmap::IndexMap;
 use std::alloc::{AllocError, Global};
 
-// Rows under their coded keys, in the order in which they came.
+// Rows in the order in which they came.
 #[derive(Drop)]
 pub enum Entries {
     // One row for each key, which is found by hashing.
-    Combined(IndexMap<Coded, Numbers>),
+    Combined(IndexMap<Key, Numbers>),
     // Rows that stay apart.
-    Apart(Vec<(Coded, Numbers)>),
+    Apart(Vec<Row>),
 }
 
 impl Entries {
     pub fn new(alloc: Global, combines: bool) -> Entries
-        ensures entries { entries_of result ≡ [] }
+        ensures entries { rows_in result ≡ [] }
         ensures combined { is_combined result ≡ combines }
     {
         if combines {
@@ -31,8 +31,15 @@ impl Entries {
         }
     }
 
+    pub fn allocator(&self) -> Global {
+        match self {
+            Entries::Combined(rows) => *rows.allocator(),
+            Entries::Apart(rows) => *rows.allocator(),
+        }
+    }
+
     pub fn len(&self) -> usize
-        ensures { result ≡ length (entries_of self.now) }
+        ensures { result ≡ length (rows_in self.now) }
     {
         match self {
             Entries::Combined(rows) => rows.len(),
@@ -41,36 +48,35 @@ impl Entries {
     }
 
     // The place of the row of a key, where rows of one key are combined.
-    pub fn find(&self, key: &Coded) -> Option<usize>
+    pub fn find(&self, key: &KeyOf<'_>) -> Option<usize>
         ensures combined { IfSome result (λ i. is_combined self.now ≡ true) }
-        ensures found { IfSome result (λ i. i < length (entries_of self.now)) }
-        ensures same { IfSome result (λ i. (e : Entry) → slice_get (entries_of self.now) i ≡ Some e → same_coded key.now e.0 ≡ true) }
-        ensures none { result ≡ None → is_combined self.now ≡ true → AllByRecursion (λ e. same_coded key.now e.0 ≡ false) (entries_of self.now) }
+        ensures found { IfSome result (HasKeyAt (record { time = key.now.time; dims = key.now.dims.now }) (rows_in self.now)) }
+        ensures none { result ≡ None → is_combined self.now ≡ true → NoneHas (record { time = key.now.time; dims = key.now.dims.now }) (rows_in self.now) }
     {
         match self {
-            Entries::Combined(rows) => rows.get_index_of(key),
+            Entries::Combined(rows) => rows.get_index_of(*key),
             Entries::Apart(_) => None,
         }
     }
 
     // Combines what an event adds to each column into the row at a place.
-    pub fn combine(&mut self, place: usize, kinds: &[Kind], inputs: &[i64])
+    pub fn combine(&mut self, place: usize, metrics: &[Metric], inputs: &[i64])
         requires combined { is_combined self.old ≡ true }
-        requires place { place < length (entries_of self.old) }
-        requires fits { AllByRecursion (λ e. FitsColumns kinds.now e.1) (entries_of self.old) }
-        requires inputs { length inputs.now ≡ length kinds.now }
+        requires place { place < length (rows_in self.old) }
+        requires fits { AllFit (map (λ m. m.kind) metrics.now) (rows_in self.old) }
+        requires inputs { length inputs.now ≡ length metrics.now }
         ensures combined { is_combined self.new ≡ true }
-        ensures entries { Combines kinds.now inputs.now (entries_of self.old) place (entries_of self.new) }
+        ensures entries { Combines (map (λ m. m.kind) metrics.now) inputs.now (rows_in self.old) place (rows_in self.new) }
     {
         match self {
-            Entries::Combined(rows) => contribute(kinds, &mut rows[place], inputs),
+            Entries::Combined(rows) => contribute(metrics, &mut rows[place], inputs),
             Entries::Apart(_) => unreachable!(),
         }
     }
 
     // Makes room for one more row.
     pub fn reserve(&mut self) -> Result<(), AllocError>
-        ensures entries { entries_of self.new ≡ entries_of self.old }
+        ensures entries { rows_in self.new ≡ rows_in self.old }
         ensures combined { is_combined self.new ≡ is_combined self.old }
         ensures room { OnOk result (HasRoom self.new) }
     {
@@ -81,17 +87,63 @@ impl Entries {
     }
 
     // Adds a row, of a new key where rows of one key are combined.
-    pub fn put(&mut self, key: Coded, metrics: Numbers)
+    pub fn put(&mut self, row: Row)
         requires room { HasRoom self.old }
-        requires new { is_combined self.old ≡ true → AllByRecursion (λ e. same_coded key e.0 ≡ false) (entries_of self.old) }
-        ensures entries { entries_of self.new ≡ entries_of self.old ++ (key, metrics) ∷ [] }
+        requires new { is_combined self.old ≡ true → NoneHas row.key (rows_in self.old) }
+        ensures entries { rows_in self.new ≡ rows_in self.old ++ row ∷ [] }
         ensures combined { is_combined self.new ≡ is_combined self.old }
     {
         match self {
             Entries::Combined(rows) => {
-                rows.insert(key, metrics).unwrap();
+                rows.insert(row.key, row.metrics).unwrap();
             }
-            Entries::Apart(rows) => rows.push((key, metrics)).unwrap(),
+            Entries::Apart(rows) => rows.push(row).unwrap(),
         }
     }
+
+    // The same rows in memory of their own.
+    pub fn copy(&self) -> Result<Entries, AllocError>
+        requires { is_combined self.now ≡ true → IsDistinct same_keys (map (λ row. row.key) (rows_in self.now)) }
+        ensures rows { IfOk result (λ entries. rows_in entries ≡ rows_in self.now) }
+        ensures combined { IfOk result (λ entries. is_combined entries ≡ is_combined self.now) }
+    {
+        match self {
+            Entries::Combined(rows) => Ok(Entries::Combined(copy_combined(rows)?)),
+            Entries::Apart(rows) => Ok(Entries::Apart(copy_apart(rows)?)),
+        }
+    }
+}
+
+fn copy_combined(rows: &IndexMap<Key, Numbers>) -> Result<IndexMap<Key, Numbers>, AllocError>
+    requires { IsDistinct same_keys (map (λ row. row.key) (map row_of rows.now.entries)) }
+    ensures { IfOk result (λ copies. copies.entries ≡ rows.now.entries) }
+{
+    let mut copies = IndexMap::with_capacity(*rows.allocator(), rows.len())?;
+    for (key, metrics) in rows.iter() {
+        put_copy(&mut copies, key, metrics)?;
+    }
+    Ok(copies)
+}
+
+// Adds a copy of a row of a new key.
+fn put_copy(
+    copies: &mut IndexMap<Key, Numbers>,
+    key: &Key,
+    metrics: &Numbers,
+) -> Result<(), AllocError>
+    requires { NoneHas key.now (map row_of copies.old.entries) }
+    ensures { OnOk result (copies.new.entries ≡ copies.old.entries ++ (key.now, metrics.now) ∷ []) }
+{
+    copies.insert(key.copy()?, metrics.copy()?)?;
+    Ok(())
+}
+
+pub fn copy_apart(rows: &Vec<Row>) -> Result<Vec<Row>, AllocError>
+    ensures { IfOk result (λ copies. copies.items ≡ rows.now.items) }
+{
+    let mut copies = Vec::with_capacity(*rows.allocator(), rows.len())?;
+    for row in rows.iter() {
+        copies.push(row.copy()?)?;
+    }
+    Ok(copies)
 }

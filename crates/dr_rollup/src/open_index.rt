@@ -1,18 +1,16 @@
-ghost use Rattle.std.specs.Prelude.{◌≡◌, ◌≤◌, ◌<◌, ◌↔◌, [], length, IfOk, OnOk, OnErr, IsErrOf};
-ghost use Rattle.std.specs.List.{AllByRecursion};
+ghost use Rattle.std.specs.Prelude.{◌≡◌, ◌≤◌, ◌<◌, ◌↔◌, [], true, None, length, IfSome, IfOk, OnOk, OnErr, IsErrOf};
 ghost use Rattle.dr_schema.specs.Fits.{FitsSchema};
 ghost use Rattle.dr_rollup.specs.OpenRows.{OpenRows, rows_with, with_rows, RollsUp};
+ghost use Rattle.dr_rollup.specs.Unrolled.{unrolled};
+ghost use Rattle.dr_rollup.specs.Entries.{rows_in, is_combined, HasKeyAt, NoneHas};
 
-use crate::coded::Coded;
 use crate::entries::Entries;
-use crate::locating::locate;
-use crate::putting::put;
+use crate::key_of::KeyOf;
 use crate::rollup_error::RollupError;
 use crate::sorted_rows::sorted_rows;
-use crate::unrolled::{columns_of, unrolled_row};
-use dr_agg::{Kind, add_row};
+use crate::unrolled::{columns_of, row_time, unrolled_row};
+use dr_agg::add_row;
 use dr_base::{Event, Row};
-use dr_dict::GrowingDict;
 use dr_schema::Schema;
 use std::alloc::{AllocError, Global};
 use std::marker::Model;
@@ -20,54 +18,38 @@ use std::marker::Model;
 /// The rows of events that are rolled up while they come (Apache Druid documentation, ingestion: rollup). A contract sees the
 /// schema, how many rows there may be, and the rows in the order of their keys.
 ///
-/// An event finds the row of its key by hashing, in expected constant time however many rows there are, and its values are
-/// combined into that row in place. Dimension values stand in the index as numbers of a dictionary.
+/// An event finds the row of its key by hashing its time and its dimension values once, in expected constant time however
+/// many rows there are, and its values are combined into that row in place, which takes no memory.
 #[derive(Drop)]
 pub struct OpenIndex {
     schema: Schema,
-    kinds: Vec<Kind>,
     limit: usize,
-    dicts: Vec<GrowingDict>,
-    coded: Coded,
     entries: Entries,
 }
 
 impl Model for OpenIndex {
     ghost use Rattle.dr_rollup.specs.OpenRows.{OpenRows};
-    ghost use Rattle.dr_rollup.specs.Coding.{entries_of};
     ghost use Rattle.dr_rollup.specs.Sound.{Holds, rows_of};
 
     ghost Value = { OpenRows };
 
-    ghost view = { λ o. record { schema = o.schema; limit = o.limit; rows = rows_of o.schema o.dicts.items (entries_of o.entries) } };
+    ghost view = { λ o. record { schema = o.schema; limit = o.limit; rows = rows_of o.schema o.entries } };
 
-    ghost invariant = { λ o. Holds o.schema o.kinds.items o.limit o.dicts.items o.coded o.entries };
+    ghost invariant = { λ o. Holds o.schema o.limit o.entries };
 }
 
 impl OpenIndex {
     /// An index without rows, which may have as many as `limit`. Times are truncated to the query granularity of the schema,
-    /// which is shared. The only error is that memory ran out.
+    /// which is shared. It takes no memory; the only error is that the schema has 2^63 shares.
     pub fn new(alloc: Global, schema: &Schema, limit: usize) -> Result<OpenIndex, AllocError>
         requires { limit ≤ 1048576 }
         ensures { IfOk result (λ index. index ≡ record { schema = schema.now; limit = limit; rows = [] }) }
     {
-        let dimensions = schema.dimensions().len();
         Ok(OpenIndex {
             schema: schema.copy()?,
-            kinds: columns_of(alloc, schema)?,
             limit,
-            dicts: empty_dicts(alloc, dimensions, limit)?,
-            coded: Coded::zeros(alloc, dimensions)?,
             entries: Entries::new(alloc, schema.rollup()),
         })
-    }
-
-    /// How many rows there may be.
-    pub fn limit(&self) -> usize
-        ensures limit { result ≡ self.now.limit }
-        ensures small { result ≤ 1048576 }
-    {
-        self.limit
     }
 
     /// How many rows there are.
@@ -78,28 +60,9 @@ impl OpenIndex {
         self.entries.len()
     }
 
-    /// How many rows there are with one more event that fits the schema, which isn't added. It takes no memory.
-    pub fn len_with(&mut self, event: &Event) -> usize
-        requires { FitsSchema self.old.schema event.now }
-        ensures len { result ≡ length (rows_with self.old event.now) }
-        ensures same { self.new ≡ self.old }
-    {
-        let len = self.entries.len();
-        let found = locate(
-            &self.schema,
-            &self.dicts,
-            &self.entries,
-            event,
-            &mut self.coded,
-        );
-        if let Some(_) = found {
-            return len;
-        }
-        len + 1
-    }
-
     /// Adds an event that fits the schema: combines it into the row of its key, or puts a new row. An error leaves the rows
-    /// as they were. Refusals: 41 `IndexFull` exactly where a new row would be one more than there may be.
+    /// as they were. Refusals: 41 `IndexFull` exactly where a new row would be one more than there may be. A known key takes
+    /// expected time by the bytes of its dimension values, and no memory; a new one a row of memory besides.
     pub fn add(&mut self, event: &Event) -> Result<(), RollupError>
         requires { FitsSchema self.old.schema event.now }
         ensures ok { OnOk result (self.new ≡ with_rows self.old (rows_with self.old event.now)) }
@@ -107,38 +70,27 @@ impl OpenIndex {
         ensures err { OnErr result (self.new ≡ self.old) }
         ensures full { IsErrOf result RollupError.IndexFull ↔ (self.old.limit < length (rows_with self.old event.now)) }
     {
-        let found = locate(
-            &self.schema,
-            &self.dicts,
-            &self.entries,
-            event,
-            &mut self.coded,
-        );
-        if let Some(place) = found {
+        if let Some(place) = locate(&self.schema, &self.entries, event) {
+            let metrics = self.schema.metrics().as_slice();
             self.entries
-                .combine(place, &self.kinds, event.inputs.as_slice());
+                .combine(place, metrics, event.inputs.as_slice());
             return Ok(());
         }
         if self.entries.len() >= self.limit {
             return Err(RollupError::IndexFull);
         }
-        let alloc = *self.kinds.allocator();
-        put(
-            alloc,
-            &self.kinds,
-            &mut self.dicts,
-            &mut self.entries,
-            &self.coded,
-            event,
-        )?;
+        let row = unrolled_row(self.entries.allocator(), &self.schema, event)?;
+        self.entries.reserve()?;
+        self.entries.put(row);
         Ok(())
     }
 
-    /// The rows in the order of their keys, in memory of their own. The only error is that memory ran out.
+    /// The rows in the order of their keys, in memory of their own. The only error is that memory ran out. It takes the time
+    /// that sorting them takes.
     pub fn rows(&self) -> Result<Vec<Row>, AllocError>
         ensures { IfOk result (λ rows. rows.items ≡ self.now.rows) }
     {
-        sorted_rows(*self.kinds.allocator(), &self.dicts, &self.entries)
+        sorted_rows(&self.entries)
     }
 
     /// The rows with one more event that fits the schema, which isn't added, in the order of their keys and in memory of
@@ -147,29 +99,36 @@ impl OpenIndex {
         requires { FitsSchema self.now.schema event.now }
         ensures { IfOk result (λ rows. rows.items ≡ rows_with self.now event.now) }
     {
-        let alloc = *self.kinds.allocator();
-        let row = unrolled_row(alloc, &self.schema, &self.kinds, event)?;
+        let alloc = self.entries.allocator();
+        let kinds = columns_of(alloc, &self.schema)?;
+        let row = unrolled_row(alloc, &self.schema, event)?;
         let mut rows = self.rows()?;
-        add_row(self.schema.rollup(), &self.kinds, &mut rows, row)?;
+        add_row(self.schema.rollup(), &kinds, &mut rows, row)?;
         Ok(rows)
     }
 
-    /// An index without rows, of the same schema, which may have as many. The only error is that memory ran out.
-    pub fn fresh(&self) -> Result<OpenIndex, AllocError>
-        ensures { IfOk result (λ index. index ≡ with_rows self.now []) }
+    /// An equal index in memory of its own, but for the schema and texts of more than 22 bytes, which are shared. The only
+    /// error is that memory ran out. It takes time by the rows, and sorts none.
+    pub fn copy(&self) -> Result<OpenIndex, AllocError>
+        ensures { IfOk result (λ index. index ≡ self.now) }
     {
-        OpenIndex::new(*self.kinds.allocator(), &self.schema, self.limit)
+        Ok(OpenIndex {
+            schema: self.schema.copy()?,
+            limit: self.limit,
+            entries: self.entries.copy()?,
+        })
     }
 }
 
-fn empty_dicts(alloc: Global, count: usize, limit: usize) -> Result<Vec<GrowingDict>, AllocError>
-    requires { limit ≤ 1048576 }
-    ensures count { IfOk result (λ dicts. length dicts.items ≡ count) }
-    ensures empty { IfOk result (λ dicts. AllByRecursion (λ d. d ≡ record { limit = limit; texts = [] }) dicts.items) }
+// The place of the row of an event's key; none where it is new or rows stay apart.
+fn locate(schema: &Schema, entries: &Entries, event: &Event) -> Option<usize>
+    requires { FitsSchema schema.now event.now }
+    ensures combined { IfSome result (λ i. is_combined entries.now ≡ true) }
+    ensures found { IfSome result (HasKeyAt (unrolled schema.now event.now).key (rows_in entries.now)) }
+    ensures none { result ≡ None → is_combined entries.now ≡ true → NoneHas (unrolled schema.now event.now).key (rows_in entries.now) }
 {
-    let mut dicts = Vec::with_capacity(alloc, count)?;
-    for _ in 0..count {
-        dicts.push(GrowingDict::new(alloc, limit))?;
-    }
-    Ok(dicts)
+    entries.find(&KeyOf {
+        time: row_time(schema, event.time),
+        dims: event.dims.as_slice(),
+    })
 }

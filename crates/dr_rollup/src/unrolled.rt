@@ -1,4 +1,4 @@
-ghost use Rattle.std.specs.Prelude.{◌≡◌, IfOk, length};
+ghost use Rattle.std.specs.Prelude.{◌≡◌, IfOk, length, map};
 ghost use Rattle.dr_gran.specs.Truncation.{truncation};
 ghost use Rattle.dr_time.specs.Instant.{IsInstant};
 ghost use Rattle.dr_schema.specs.Columns.{kinds_of};
@@ -7,7 +7,7 @@ ghost use Rattle.dr_rollup.specs.Unrolled.{unrolled, contribution, contributions
 
 use dr_agg::Kind;
 use dr_base::{Event, Key, Numbers, Row};
-use dr_schema::Schema;
+use dr_schema::{Metric, Schema};
 use std::alloc::{AllocError, Global};
 
 /// The kinds of the metric columns of a schema, in order. The only error is that memory ran out.
@@ -24,23 +24,18 @@ pub fn columns_of(alloc: Global, schema: &Schema) -> Result<Vec<Kind>, AllocErro
 
 /// The row of one event: its time truncated to the query granularity, its dimensions, and what it adds to each column: 1
 /// to a count, its input to every other (Apache Druid documentation, ingestion: rollup); where an input isn't there, it
-/// reads 0. So it is for the columns of the schema. The time of the event lies from 0001-01-01 to 9999-12-31. The only
-/// error is that memory ran out. It takes time by the columns and by the bytes of the dimension values.
-pub fn unrolled_row(
-    alloc: Global,
-    schema: &Schema,
-    kinds: &[Kind],
-    event: &Event,
-) -> Result<Row, AllocError>
+/// reads 0. The time of the event lies from 0001-01-01 to 9999-12-31. The only error is that memory ran out. It takes time by
+/// the columns and the dimensions, and memory for as many; texts are shared.
+pub fn unrolled_row(alloc: Global, schema: &Schema, event: &Event) -> Result<Row, AllocError>
     requires { IsInstant event.now.time }
-    ensures { kinds.now ≡ kinds_of schema.now → IfOk result (λ row. row ≡ unrolled schema.now event.now) }
+    ensures { IfOk result (λ row. row ≡ unrolled schema.now event.now) }
 {
     Ok(Row {
         key: Key {
             time: row_time(schema, event.time),
             dims: event.dims.copy()?,
         },
-        metrics: contributions(alloc, kinds, event.inputs.as_slice())?,
+        metrics: contributions(alloc, schema.metrics().as_slice(), event.inputs.as_slice())?,
     })
 }
 
@@ -54,26 +49,26 @@ pub fn row_time(schema: &Schema, time: i64) -> i64
 }
 
 /// What an event adds to each column, by its inputs.
-pub fn contributions(alloc: Global, kinds: &[Kind], inputs: &[i64]) -> Result<Numbers, AllocError>
-    ensures { IfOk result (λ values. values ≡ contributions kinds.now inputs.now) }
+fn contributions(alloc: Global, metrics: &[Metric], inputs: &[i64]) -> Result<Numbers, AllocError>
+    ensures { IfOk result (λ values. values ≡ contributions (map (λ m. m.kind) metrics.now) inputs.now) }
 {
-    let mut values = Vec::with_capacity(alloc, kinds.len())?;
-    for (i, kind) in kinds.iter().enumerate() {
-        values.push(contribution(*kind, input_at(inputs, i)))?;
+    let mut values = Vec::with_capacity(alloc, metrics.len())?;
+    for (i, metric) in metrics.iter().enumerate() {
+        values.push(contribution(metric.kind, input_at(inputs, i)))?;
     }
     Ok(Numbers::from_vec(values))
 }
 
-/// Combines what an event adds to each column into the metrics of a row.
-pub fn contribute(kinds: &[Kind], metrics: &mut Numbers, inputs: &[i64])
-    requires metrics { FitsColumns kinds.now metrics.old }
-    requires inputs { length inputs.now ≡ length kinds.now }
-    ensures { metrics.new ≡ combine_columns kinds.now metrics.old (contributions kinds.now inputs.now) }
+/// Combines what an event adds to each column into the values of a row.
+pub fn contribute(metrics: &[Metric], values: &mut Numbers, inputs: &[i64])
+    requires values { FitsColumns (map (λ m. m.kind) metrics.now) values.old }
+    requires inputs { length inputs.now ≡ length metrics.now }
+    ensures { values.new ≡ combine_columns (map (λ m. m.kind) metrics.now) values.old (contributions (map (λ m. m.kind) metrics.now) inputs.now) }
 {
-    for (place, kind) in kinds.iter().enumerate() {
-        let added = contribution(*kind, inputs[place]);
-        let combined = kind.combine(metrics.as_slice()[place], added);
-        metrics.set(place, combined);
+    for (place, metric) in metrics.iter().enumerate() {
+        let added = contribution(metric.kind, inputs[place]);
+        let combined = metric.kind.combine(values.as_slice()[place], added);
+        values.set(place, combined);
     }
 }
 

@@ -1,2 +1,4 @@
 pub mod ScriptSteps
 pub mod SessionLemmas
+pub mod MadeQueries
+pub mod RawScripts

@@ -16,7 +16,8 @@ use Rattle.dr_query.specs.Refusal as query
 use Rattle.dr_timeline.specs.declared.outcome.Outcome.TheVariants.{Unparseable as NotParsed}
 use Rattle.dr_timeline.specs.declared.stats.Stats.{Stats}
 use Rattle.dr_timeline.specs.Noted.{noted, stats}
-use Rattle.dr_merge.specs.declared.purpose.Purpose.TheVariants.{Merge as MergePurpose}
+use Rattle.dr_merge.specs.declared.purpose.Purpose.{Purpose}
+use Rattle.dr_merge.specs.declared.purpose.Purpose.TheVariants.{Merge}
 use Rattle.dr_timeline.specs.Refusal as timeline
 use Rattle.dr_cuts.specs.RawAnswer.{raw_answer}
 use Rattle.dr_timeline.specs.CoreState.{CoreState, with_timeline, with_job, with_pin}
@@ -98,19 +99,23 @@ seal_chunk instant c = do
   s ← passed Timeline (seal c.timeline k)
   Ok (answered (codes "sealed"), with_timeline s c)
 
+-- what is written where ranges became one
+abbrev pub joined_line : Purpose → List ℕ
+joined_line Merge = codes "merged"
+
 -- `merge INSTANT LO HI`: a job that is planned and committed at once
-abbrev pub merge_ranges : List ℕ → ℕ → ℕ → CoreState → Result (Answered × CoreState) ScriptError
-merge_ranges instant lo hi c = do
+abbrev pub join_ranges : Purpose → List ℕ → ℕ → ℕ → CoreState → Result (Answered × CoreState) ScriptError
+join_ranges purpose instant lo hi c = do
   k ← chunk_named c instant
-  job ← passed Timeline (plan c.timeline k lo hi MergePurpose)
+  job ← passed Timeline (plan c.timeline k lo hi purpose)
   n ← passed Timeline (commit c.timeline job)
-  Ok (answered (codes "merged"), with_timeline n.1 c)
+  Ok (answered (joined_line purpose), with_timeline n.1 c)
 
 -- `plan merge INSTANT LO HI`: a job that is kept, numbered from 0
-abbrev pub plan_merge : List ℕ → ℕ → ℕ → CoreState → Result (Answered × CoreState) ScriptError
-plan_merge instant lo hi c = do
+abbrev pub plan_ranges : Purpose → List ℕ → ℕ → ℕ → CoreState → Result (Answered × CoreState) ScriptError
+plan_ranges purpose instant lo hi c = do
   k ← chunk_named c instant
-  job ← passed Timeline (plan c.timeline k lo hi MergePurpose)
+  job ← passed Timeline (plan c.timeline k lo hi purpose)
   Ok (answered (codes "job " ++ decimal (length c.jobs)), with_job job c)
 
 -- `commit N`: the job of that number is committed
@@ -161,8 +166,8 @@ tell_stats c = Ok (answered (stats_line (stats c.timeline)), c)
 abbrev pub carried_out : CoreState → Request (List ℕ) → Result (Answered × CoreState) ScriptError
 carried_out c (line.Add text) = add_event text c
 carried_out c (line.Seal instant) = seal_chunk instant c
-carried_out c (line.Merge instant lo hi) = merge_ranges instant lo hi c
-carried_out c (line.PlanMerge instant lo hi) = plan_merge instant lo hi c
+carried_out c (line.Join purpose instant lo hi) = join_ranges purpose instant lo hi c
+carried_out c (line.Plan purpose instant lo hi) = plan_ranges purpose instant lo hi c
 carried_out c (line.Commit number) = commit_job number c
 carried_out c line.Pin = pin_snapshot c
 carried_out c (line.Query text) = ask_now text c

@@ -1,3 +1,5 @@
 pub mod Commands
 pub mod Script
+pub mod Runs
 pub mod Replies
+pub mod Headline

@@ -1,5 +1,5 @@
--- A script: lines, and the line that is written for each.
-use Rattle.std.specs.Prelude.{ℕ, Bool, nat_lt, List, [], ◌∷◌, ◌++◌, length, Result, Ok, Err, codes, if◌then◌else◌}
+-- A script: lines, and the line that is written for each. Which it is, is determined but for want of memory.
+use Rattle.std.specs.Prelude.{◌≡◌, ◌⊎◌, ℕ, Bool, nat_lt, List, [], ◌∷◌, ◌++◌, length, Result, Ok, Err, codes, if◌then◌else◌}
 use Rattle.std.specs.List.{flat_map, list_any}
 use Rattle.dr_base.specs.Reading.{◌>>=◌, passed}
 use Rattle.dr_schema.specs.declared.schema.Schema.{Schema}
@@ -9,7 +9,7 @@ use Rattle.dr_spec.specs.SpecOf.{spec_of}
 use Rattle.dr_timeline.specs.CoreState.{CoreState, empty_core}
 use Rattle.dr_lines.specs.declared.line_error.LineError.TheVariants.{LineTooLong}
 use Rattle.dr_lines.specs.Lines.{longest_line}
-use Rattle.dr_requests.specs.declared.command_error.CommandError.TheVariants.{Line}
+use Rattle.dr_requests.specs.declared.command_error.CommandError.TheVariants.{NoMemory, Line}
 use Rattle.dr_script.specs.declared.script_error.ScriptError.{ScriptError}
 use Rattle.dr_script.specs.declared.script_error.ScriptError.TheVariants.{Command}
 use Rattle.dr_script.specs.Commands.{Answered, answered, refused, refused_by, told, carried_out}
@@ -48,19 +48,45 @@ step s line = if nat_lt longest_line (length line) then (refused_by (Line LineTo
 abbrev pub first_step : List ℕ → Result CoreState Answered
 first_step line = if nat_lt longest_line (length line) then Err (refused_by (Line LineTooLong)) else open_line line
 
--- the answers to lines, from a state
-abbrev pub answers : CoreState → List (List ℕ) → List Answered
-answers s [] = []
-answers s (line ∷ lines) = (step s line).0 ∷ answers (step s line).1 lines
+-- that is answered, with that state after it
+abbrev pub Becomes : Answered × CoreState → Answered → CoreState → Type 0
+Becomes answer reply new = (reply ≡ answer.0) × (new ≡ answer.1)
 
-abbrev pub answers_from : Result CoreState Answered → List (List ℕ) → List Answered
-answers_from (Ok s) lines = answered (codes "spec ok") ∷ answers s lines
-answers_from (Err refusal) lines = refusal ∷ []
+-- a line is answered as the script says; or it is refused for want of memory, which changes nothing
+abbrev pub Moves : CoreState → List ℕ → Answered → CoreState → Type 0
+Moves old line reply new = Becomes (step old line) reply new ⊎ Becomes (refused_by NoMemory, old) reply new
 
--- the answers to a script: a spec that is refused ends it
-abbrev pub script : List (List ℕ) → List Answered
-script [] = []
-script (first ∷ lines) = answers_from (first_step first) lines
+-- lines in turn, one answer each
+abbrev pub ScriptFrom : CoreState → List (List ℕ) → List Answered → CoreState → Type 0
+ScriptFrom old [] [] new = new ≡ old
+ScriptFrom old [] (a ∷ made) new = ⊥
+ScriptFrom old (line ∷ lines) [] new = ⊥
+ScriptFrom old (line ∷ lines) (a ∷ made) new = (mid : CoreState) × Moves old line a mid × ScriptFrom mid lines made new
+
+-- `spec ok`, and then the answers to the lines behind the spec
+abbrev pub GoesOn : CoreState → List (List ℕ) → List Answered → Type 0
+GoesOn s lines made = (others : List Answered) × (made ≡ answered (codes "spec ok") ∷ others) × ((new : CoreState) × ScriptFrom s lines others new)
+
+-- a spec that is refused ends the script
+abbrev pub ScriptAfter : Result CoreState Answered → List (List ℕ) → List Answered → Type 0
+ScriptAfter (Ok s) lines made = GoesOn s lines made
+ScriptAfter (Err refusal) lines made = made ≡ refusal ∷ []
+
+-- the answers to lines of which the first is the spec
+abbrev pub AnswersLines : List (List ℕ) → List Answered → Type 0
+AnswersLines [] made = made ≡ []
+AnswersLines (first ∷ lines) made = ScriptAfter (first_step first) lines made
+
+-- a script: its lines and their answers; or there is no memory to begin, which ends it
+abbrev pub Script : List (List ℕ) → List Answered → Type 0
+Script lines made = AnswersLines lines made ⊎ (made ≡ refused_by NoMemory ∷ [])
+
+-- the script isn't ended by its first line: that is the spec, or isn't read yet
+abbrev pub IsOpen : List Answered → Type 0
+IsOpen [] = Unit {0}
+IsOpen (a ∷ made) = a ≡ answered (codes "spec ok")
+
+-- ---- the text of a script
 
 -- a line for each answer
 abbrev pub text_of : List Answered → List ℕ

@@ -3,8 +3,8 @@ ghost use Rattle.dr_base.specs.Reading.{GivesUnless};
 ghost use Rattle.dr_requests.specs.declared.command_error.CommandError.TheVariants.{NoMemory};
 ghost use Rattle.dr_script.specs.Commands.{is_memory, refused, refused_by, told};
 ghost use Rattle.dr_lines.specs.Lines.{longest_line};
-ghost use Rattle.dr_script.specs.Replies.{IsAnswer, Moves, Opens, seen};
-ghost use Rattle.dr_script.specs.Script.{line_done};
+ghost use Rattle.dr_script.specs.Replies.{IsAnswer, Opens, seen};
+ghost use Rattle.dr_script.specs.Script.{Moves, line_done};
 
 use crate::reply::Reply;
 use crate::script_error::ScriptError;

@@ -4,6 +4,7 @@ ghost use Rattle.dr_lines.specs.Written.{Puts};
 ghost use Rattle.dr_script.specs.Replies.{seen};
 
 use dr_lines::{Counted, LineError, LineWriter};
+use dr_merge::Purpose;
 use dr_requests::CommandError;
 use itoa::Buffer;
 use std::io::Write;
@@ -17,8 +18,8 @@ pub enum Reply {
     Accepted(u64),
     /// `sealed`: the open range of a chunk was sealed.
     Sealed,
-    /// `merged`: sealed ranges became one.
-    Merged,
+    /// `merged`: sealed ranges became one, for that purpose.
+    Joined(Purpose),
     /// `job N`: a job was planned, which got that number, from 0.
     Job(usize),
     /// `committed`: a job was committed.
@@ -60,7 +61,7 @@ impl Reply {
             Reply::SpecOk => lines.put_line(writer, b"spec ok"),
             Reply::Accepted(number) => put_number(lines, writer, b"accepted ", number),
             Reply::Sealed => lines.put_line(writer, b"sealed"),
-            Reply::Merged => lines.put_line(writer, b"merged"),
+            Reply::Joined(Purpose::Merge) => lines.put_line(writer, b"merged"),
             Reply::Job(number) => put_number(lines, writer, b"job ", number as u64),
             Reply::Committed => lines.put_line(writer, b"committed"),
             Reply::Pinned(number) => put_number(lines, writer, b"pin ", number as u64),

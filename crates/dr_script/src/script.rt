@@ -1,10 +1,12 @@
-ghost use Rattle.std.specs.Prelude.{◌≡◌, ◌⊎◌, true, ℕ, ◌-◌, ◌^◌, ◌<◌, List, [], Option, OnOk, IfOk, IfSome};
-ghost use Rattle.dr_lines.specs.Failures.{failures_of, reads_of, inner_of, failures_after};
+ghost use Rattle.std.specs.Prelude.{◌≡◌, ◌+◌, ◌^◌, ◌<◌, ◌≤◌, ℕ, List, [], Option, OnOk, IfOk, IfSome};
+ghost use Rattle.dr_lines.specs.Failures.{failures_of, reads_of, inner_of, failures_after, seen_by};
 ghost use Rattle.dr_lines.specs.Lines.{left_to_read, steps_left, CountsFailure, CountsReads};
 ghost use Rattle.dr_lines.specs.declared.next_line.NextLine.TheVariants.{Failed};
 ghost use Rattle.dr_lines.specs.Written.{Puts};
-ghost use Rattle.dr_script.specs.Script.{answers, script};
-ghost use Rattle.dr_script.specs.Replies.{AnsweredAll, OpensScript, ReadingFails, RunsScript, Turns};
+ghost use Rattle.dr_script.specs.Script.{Script};
+ghost use Rattle.dr_script.specs.Headline.{RawScript};
+ghost use Rattle.dr_script.specs.Runs.{ReadingFails, ReadingHolds, RunsScript, WhereOpen};
+ghost use Rattle.dr_script.specs.Replies.{AnswersFrom, OpensScript, RunsOn, Turns};
 
 use crate::answering::{answer_line, open_session};
 use crate::reply::Reply;
@@ -38,22 +40,29 @@ use std::io::{Read, Write};
 /// snapshot, 0 `NoMemory` where memory ran out, and the refusals of the command. A failed read, or 2^32 reads, is 99
 /// `ReadFault` and ends the run with status 1, and so does a failed write (100), after which nothing more is written.
 ///
-/// Where no write failed, what is written is the script's text, and the answer is its status, unless a written line tells
-/// 0 `NoMemory` or 99 `ReadFault`; and 99 is told only where a read failed or 2^32 reads were made, as long as neither count
-/// of the reader has come to 2^64-1, where it stands still.
+/// Each of these is the whole of what is written: where nothing failed, the text of the script of all lines, with its status;
+/// where a read failed, or 2^32 reads were made, the text of the lines that were read whole, and then `refused 99 ReadFault`;
+/// and where a write failed, a beginning of such a text. A line of 0 `NoMemory` leaves the state as it was, and the lines
+/// behind it are answered over that state. A count of failures or of reads stands still at 2^64-1.
+///
+/// Whatever the lines seal and merge, and however late, often or in whatever order jobs are committed: each line `query` or
+/// `at` whose query matches is answered, byte for byte, by the answer over the raw events of those `+` lines before it, or
+/// before its `pin` line, that were answered `accepted`.
+///
+/// The cost of a line is that of its command, and reading and writing take a few operations a byte. At most 2^32 reads are made.
 pub fn run_script<R: Read, W: Write>(
     rt: &impl AllocGlobal,
     reader: &mut Counted<R>,
     writer: &mut Counted<W>,
     _workers: u8,
 ) -> u8
-    requires { failures_of writer.old < 2 ^ 64 - 1 }
-    ensures script { failures_of writer.new ≡ failures_of writer.old
-        → RunsScript (ReadingFails (failures_of reader.old) (failures_of reader.new) (reads_of reader.old) (reads_of reader.new))
-        (R.remaining (inner_of reader.old))
-        (W.contents (inner_of writer.old)) (W.contents (inner_of writer.new)) result }
-    ensures failed_read { (failures_of reader.new ≡ failures_of reader.old) ⊎ (result ≡ 1) }
-    ensures failed_write { (failures_of writer.new ≡ failures_of writer.old) ⊎ (result ≡ 1) }
+    ensures script { RunsScript Script
+        (seen_by R.remaining reader.old) (seen_by R.remaining reader.new)
+        (seen_by W.contents writer.old) (seen_by W.contents writer.new) result }
+    ensures raw_where_matching { RunsScript RawScript
+        (seen_by R.remaining reader.old) (seen_by R.remaining reader.new)
+        (seen_by W.contents writer.old) (seen_by W.contents writer.new) result }
+    ensures reads { reads_of reader.new ≤ reads_of reader.old + 2 ^ 32 }
 {
     match run_all(rt.alloc(), reader, writer) {
         Ok(is_refused) => u8::from(is_refused),
@@ -67,14 +76,20 @@ fn run_all<R: Read, W: Write>(
     reader: &mut Counted<R>,
     writer: &mut Counted<W>,
 ) -> Result<bool, LineError>
-    ensures answers { IfOk result (AnsweredAll (ReadingFails (failures_of reader.old) (failures_of reader.new) (reads_of reader.old) (reads_of reader.new))
-        (R.remaining (inner_of reader.old)) script
-        (W.contents (inner_of writer.old)) (W.contents (inner_of writer.new)) []) }
-    ensures failed_read { IfOk result (λ refuses. (failures_of reader.new ≡ failures_of reader.old) ⊎ (refuses ≡ true)) }
+    ensures script { RunsOn Script (WhereOpen Script)
+        (ReadingHolds (seen_by R.remaining reader.old) (seen_by R.remaining reader.new))
+        (ReadingFails (seen_by R.remaining reader.old) (seen_by R.remaining reader.new))
+        (R.remaining (inner_of reader.old)) (R.remaining (inner_of reader.new))
+        (W.contents (inner_of writer.old)) (W.contents (inner_of writer.new)) [] [] result }
+    ensures reads { reads_of reader.new ≤ reads_of reader.old + 2 ^ 32 }
     ensures failures { failures_of writer.new ≡ failures_after (failures_of writer.old) result }
 {
     match buffers(alloc) {
-        Ok((mut lines, mut output)) => run(alloc, &mut lines, &mut output, reader, writer),
+        Ok((mut lines, mut output)) => {
+            let refuses = run(alloc, &mut lines, &mut output, reader, writer)?;
+            output.flush(writer)?;
+            Ok(refuses)
+        }
         Err(_) => refuse_all(writer),
     }
 }
@@ -87,7 +102,8 @@ fn buffers(alloc: Global) -> Result<(LineReader, LineWriter), AllocError>
 
 // Refuses the script where there is no memory for the buffers.
 fn refuse_all<W: Write>(writer: &mut Counted<W>) -> Result<bool, LineError>
-    ensures answers { (left : Option (List ℕ)) → IfOk result (AnsweredAll ⊥ left script (W.contents (inner_of writer.old)) (W.contents (inner_of writer.new)) []) }
+    ensures script { (left rest : Option (List ℕ)) → RunsOn Script (WhereOpen Script) (Unit {0}) ⊥ left rest
+        (W.contents (inner_of writer.old)) (W.contents (inner_of writer.new)) [] [] result }
     ensures failures { failures_of writer.new ≡ failures_after (failures_of writer.old) result }
 {
     write_out(writer, b"refused 0 NoMemory\n")?;
@@ -102,22 +118,19 @@ fn run<R: Read, W: Write>(
     reader: &mut Counted<R>,
     writer: &mut Counted<W>,
 ) -> Result<bool, LineError>
-    ensures answers { IfOk result (AnsweredAll (CountsFailure Failed (failures_of reader.old) (failures_of reader.new) lines.new.reads)
-        (left_to_read lines.old (R.remaining (inner_of reader.old))) script
-        (W.contents (inner_of writer.old)) (W.contents (inner_of writer.new)) output.old) }
-    ensures failed_read { IfOk result (λ refuses. (failures_of reader.new ≡ failures_of reader.old) ⊎ (refuses ≡ true)) }
-    ensures reads { IfOk result (λ refuses. CountsReads lines.old.reads lines.new.reads (reads_of reader.old) (reads_of reader.new)) }
+    ensures script { RunsOn Script (WhereOpen Script)
+        (failures_of reader.new ≡ failures_of reader.old)
+        (CountsFailure Failed (failures_of reader.old) (failures_of reader.new) lines.new.reads)
+        (left_to_read lines.old (R.remaining (inner_of reader.old))) (R.remaining (inner_of reader.new))
+        (W.contents (inner_of writer.old)) (W.contents (inner_of writer.new)) output.old output.new result }
+    ensures reads { CountsReads lines.old.reads lines.new.reads (reads_of reader.old) (reads_of reader.new) }
     ensures failures { failures_of writer.new ≡ failures_after (failures_of writer.old) result }
 {
     match opened(alloc, lines, reader) {
-        None => {
-            output.flush(writer)?;
-            Ok(false)
-        }
+        None => Ok(false),
         Some(Err(refusal)) => {
             let refuses = refusal.is_refused();
             refusal.put(output, writer)?;
-            output.flush(writer)?;
             Ok(refuses)
         }
         Some(Ok(mut session)) => {
@@ -133,9 +146,11 @@ fn opened<R: Read>(
     lines: &mut LineReader,
     reader: &mut Counted<R>,
 ) -> Option<Result<Session, Reply>>
-    ensures opening { OpensScript (CountsFailure Failed (failures_of reader.old) (failures_of reader.new) lines.new.reads) (left_to_read lines.old (R.remaining (inner_of reader.old)))
-        (left_to_read lines.new (R.remaining (inner_of reader.new))) result }
-    ensures failed_read { (failures_of reader.new ≡ failures_of reader.old) ⊎ (result ≡ Some (Err (Reply.Fault (CommandError.Line LineError.ReadFault)))) }
+    ensures opening { OpensScript
+        (failures_of reader.new ≡ failures_of reader.old)
+        (CountsFailure Failed (failures_of reader.old) (failures_of reader.new) lines.new.reads)
+        (left_to_read lines.old (R.remaining (inner_of reader.old)))
+        (left_to_read lines.new (R.remaining (inner_of reader.new))) (R.remaining (inner_of reader.new)) result }
     ensures reads { CountsReads lines.old.reads lines.new.reads (reads_of reader.old) (reads_of reader.new) }
 {
     match lines.next_line(reader) {
@@ -155,11 +170,12 @@ fn answer_lines<R: Read, W: Write>(
     reader: &mut Counted<R>,
     writer: &mut Counted<W>,
 ) -> Result<bool, LineError>
-    ensures answers { IfOk result (AnsweredAll (CountsFailure Failed (failures_of reader.old) (failures_of reader.new) lines.new.reads)
-        (left_to_read lines.old (R.remaining (inner_of reader.old))) (answers session.old)
-        (W.contents (inner_of writer.old)) (W.contents (inner_of writer.new)) output.old) }
-    ensures failed_read { IfOk result (λ refuses. (failures_of reader.new ≡ failures_of reader.old) ⊎ (refuses ≡ true)) }
-    ensures reads { IfOk result (λ refuses. CountsReads lines.old.reads lines.new.reads (reads_of reader.old) (reads_of reader.new)) }
+    ensures answers { RunsOn (AnswersFrom session.old) (AnswersFrom session.old)
+        (failures_of reader.new ≡ failures_of reader.old)
+        (CountsFailure Failed (failures_of reader.old) (failures_of reader.new) lines.new.reads)
+        (left_to_read lines.old (R.remaining (inner_of reader.old))) (R.remaining (inner_of reader.new))
+        (W.contents (inner_of writer.old)) (W.contents (inner_of writer.new)) output.old output.new result }
+    ensures reads { CountsReads lines.old.reads lines.new.reads (reads_of reader.old) (reads_of reader.new) }
     ensures failures { failures_of writer.new ≡ failures_after (failures_of writer.old) result }
 {
     let mut is_refused = false;
@@ -169,13 +185,9 @@ fn answer_lines<R: Read, W: Write>(
             Some(Ok(reply)) => reply,
             Some(Err(fault)) => {
                 Reply::Fault(CommandError::Line(fault)).put(output, writer)?;
-                output.flush(writer)?;
                 return Ok(true);
             }
-            None => {
-                output.flush(writer)?;
-                return Ok(is_refused);
-            }
+            None => return Ok(is_refused),
         };
         is_refused |= reply.is_refused();
         reply.put(output, writer)?;
@@ -204,10 +216,12 @@ fn next_reply<R: Read>(
     lines: &mut LineReader,
     reader: &mut Counted<R>,
 ) -> Option<Result<Reply, LineError>>
-    ensures turn { Turns (CountsFailure Failed (failures_of reader.old) (failures_of reader.new) lines.new.reads) (left_to_read lines.old (R.remaining (inner_of reader.old)))
-        (left_to_read lines.new (R.remaining (inner_of reader.new))) session.old session.new result }
+    ensures turn { Turns
+        (failures_of reader.new ≡ failures_of reader.old)
+        (CountsFailure Failed (failures_of reader.old) (failures_of reader.new) lines.new.reads)
+        (left_to_read lines.old (R.remaining (inner_of reader.old)))
+        (left_to_read lines.new (R.remaining (inner_of reader.new))) (R.remaining (inner_of reader.new)) session.old session.new result }
     ensures nearer { IfSome result (λ reply. OnOk reply (steps_left lines.new < steps_left lines.old)) }
-    ensures failed_read { (failures_of reader.new ≡ failures_of reader.old) ⊎ (result ≡ Some (Err LineError.ReadFault)) }
     ensures reads { CountsReads lines.old.reads lines.new.reads (reads_of reader.old) (reads_of reader.new) }
 {
     match lines.next_line(reader) {

@@ -17,7 +17,7 @@ pub enum ScriptError {
     Time(TimeError),
     /// A refusal of the timeline: 0, 90 to 93, or 95.
     Timeline(TimelineError),
-    /// Why a text is no query: 0 to 3, 10 to 13, or 70 to 76.
+    /// Why a text is no query: 0 to 3, 11 to 13, or 70 to 76.
     Query(QueryError),
     /// Why a query has no answer: 0, or 81.
     Answer(AnswerError),

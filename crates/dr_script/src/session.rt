@@ -3,7 +3,7 @@ ghost use Rattle.dr_base.specs.Reading.{GivesUnless};
 ghost use Rattle.dr_timeline.specs.Refusal as timeline_refusal;
 ghost use Rattle.dr_timeline.specs.CoreState.{empty_core};
 ghost use Rattle.dr_timeline.specs.Stepping.{commit};
-ghost use Rattle.dr_script.specs.Commands.{add_event, ask_at, ask_now, audit_now, carried_out, chunk_named, commit_job, is_memory, merge_ranges, pin_snapshot, plan_merge, seal_chunk, tell_stats};
+ghost use Rattle.dr_script.specs.Commands.{add_event, ask_at, ask_now, audit_now, carried_out, chunk_named, commit_job, is_memory, join_ranges, pin_snapshot, plan_ranges, seal_chunk, tell_stats};
 ghost use Rattle.dr_script.specs.Replies.{seen};
 ghost use Rattle.dr_requests.specs.Seen.{seen_request};
 
@@ -68,8 +68,8 @@ impl Session {
         match request {
             Request::Add(text) => self.add(alloc, text),
             Request::Seal(instant) => self.seal(instant),
-            Request::Merge(instant, lo, hi) => self.merge(alloc, instant, lo, hi),
-            Request::PlanMerge(instant, lo, hi) => self.plan_merge(instant, lo, hi),
+            Request::Join(purpose, instant, lo, hi) => self.join(alloc, purpose, instant, lo, hi),
+            Request::Plan(purpose, instant, lo, hi) => self.plan(purpose, instant, lo, hi),
             Request::Commit(number) => self.commit(alloc, number),
             Request::Pin => self.pin(),
             Request::Query(text) => self.query(alloc, text),
@@ -106,32 +106,39 @@ impl Session {
         Ok(Reply::Sealed)
     }
 
-    fn merge(
+    fn join(
         &mut self,
         alloc: Global,
+        purpose: Purpose,
         instant: &[u8],
         lo: u64,
         hi: u64,
     ) -> Result<Reply, ScriptError>
-        ensures step { GivesUnless is_memory (λ reply. (seen reply, self.new)) result (merge_ranges instant.now lo hi self.old) }
+        ensures step { GivesUnless is_memory (λ reply. (seen reply, self.new)) result (join_ranges purpose instant.now lo hi self.old) }
         ensures err { OnErr result (self.new ≡ self.old) }
     {
         let chunk = self.chunk_named(instant)?;
         let job = self
             .timeline
-            .plan(chunk, lo as usize, hi as usize, Purpose::Merge)?;
+            .plan(chunk, lo as usize, hi as usize, purpose)?;
         commit(alloc, &mut self.timeline, &job)?;
-        Ok(Reply::Merged)
+        Ok(Reply::Joined(purpose))
     }
 
-    fn plan_merge(&mut self, instant: &[u8], lo: u64, hi: u64) -> Result<Reply, ScriptError>
-        ensures step { GivesUnless is_memory (λ reply. (seen reply, self.new)) result (plan_merge instant.now lo hi self.old) }
+    fn plan(
+        &mut self,
+        purpose: Purpose,
+        instant: &[u8],
+        lo: u64,
+        hi: u64,
+    ) -> Result<Reply, ScriptError>
+        ensures step { GivesUnless is_memory (λ reply. (seen reply, self.new)) result (plan_ranges purpose instant.now lo hi self.old) }
         ensures err { OnErr result (self.new ≡ self.old) }
     {
         let chunk = self.chunk_named(instant)?;
         let job = self
             .timeline
-            .plan(chunk, lo as usize, hi as usize, Purpose::Merge)?;
+            .plan(chunk, lo as usize, hi as usize, purpose)?;
         let number = self.jobs.len();
         self.jobs.push(job)?;
         Ok(Reply::Job(number))

@@ -6,3 +6,4 @@ pub mod DigitLemmas
 pub mod SpelledLemmas
 pub mod ReadLemmas
 pub mod RoundTrip
+pub mod JoinedLemmas

@@ -8,7 +8,7 @@ use Rattle.dr_time.specs.Interval.{holds_time, first_time, first_time_from}
 use Rattle.dr_time.specs.Union.{union_holds, earlier, union_start, union_first_from}
 use Rattle.dr_time.specs.Laws.{IsFirstTime}
 
-IsFirstTime-same : (P Q : ℤ → Bool) (o : Option ℤ) → ((t : ℤ) → P t ≡ Q t) → IsFirstTime P o → IsFirstTime Q o
+pub IsFirstTime-same : (P Q : ℤ → Bool) (o : Option ℤ) → ((t : ℤ) → P t ≡ Q t) → IsFirstTime P o → IsFirstTime Q o
 IsFirstTime-same P Q None same h = λ t. sym (same t) ∙ h t
 IsFirstTime-same P Q (Some a) same h = (sym (same a) ∙ h.0, λ t passes. h.1 t (same t ∙ passes))
 

@@ -9,3 +9,4 @@ pub mod Printed
 pub mod Interval
 pub mod Union
 pub mod Laws
+pub mod Joined

@@ -7,6 +7,7 @@ mod clock;
 mod digits;
 mod instant;
 mod interval;
+mod joined;
 mod laws;
 mod printing;
 mod time_error;

@@ -1,5 +1,5 @@
 -- What a timeline keeps after one more event, after a seal, and after a merge.
-use Rattle.std.proofs.Common.{◌≡◌, ◌∙◌, sym, refl, ap, subst, ℕ, ℤ, ◌+◌, ◌-◌, ◌<◌, ◌≤◌, Bool, true, false, List, [], ◌∷◌, ◌++◌, length, map, take, drop, filter, suc, cond, nat_le, arith}
+use Rattle.std.proofs.Common.{◌≡◌, ◌∙◌, sym, refl, ap, subst, ℕ, ℤ, ◌+◌, ◌-◌, ◌<◌, ◌≤◌, Bool, true, false, List, [], ◌∷◌, ◌++◌, length, map, take, drop, filter, suc, cond, nat_le, arith, None}
 use Rattle.std.specs.List.{AllByRecursion}
 use Rattle.std.specs.List.Sorted.{IsStrictlySortedBy}
 use Rattle.std.specs.declared.cmp.Ordering.TheVariants.{Less, Equal, Greater}
@@ -18,10 +18,10 @@ use Rattle.dr_cuts.specs.Chunks.{chunk, chunk_list, chunks, with_value}
 use Rattle.dr_cuts.specs.AtKey.{at_key}
 use Rattle.dr_cuts.specs.State.{State, Cut, Range, open_from, open_events, sealed_in, at_chunk, open_cut}
 use Rattle.dr_timeline.specs.Steps.{with_seal, open_in, with_event, sealed_at, accepted}
-use Rattle.dr_chunks.specs.Held.{range_of, ranges_of, cut_of, index_of, Holds, HasFewRows, open_count, no_chunk, with_one, with_open_sealed, is_full, seals_of, sealed_if_full, grown, at_start, chunk_at, has_open, IsBelow, IsFirst}
+use Rattle.dr_chunks.specs.Held.{range_of, ranges_of, cut_of, index_of, Holds, HasFewRows, open_count, no_chunk, with_one, with_open_sealed, is_full, seals_of, sealed_if_full, grown, at_start, chunk_at, has_open, IsFirst, chunk_in}
 use Rattle.dr_timeline.specs.Kept.{Keeps}
 use Rattle.dr_cuts.proofs.Parts.{has, part-none, values_onto-push, rising-values, Covers-values_onto, int_eq-itself, is_eq-true}
-use Rattle.dr_chunks.proofs.Places.{chunk_at-new}
+use Rattle.dr_chunks.proofs.Places.{chunk_at-none}
 use Rattle.dr_cuts.proofs.Each.{All-push, All-same}
 use Rattle.dr_cuts.proofs.Tiles.{end_from, end_from-append, tile-end}
 use Rattle.dr_chunks.proofs.Holding.{holds-other, holds-own, holds-sealed}
@@ -66,13 +66,12 @@ open-some schema es k c held at some none =
     absurd (omega arith)
 
 -- the open events of a state whose chunks are kept
-pub open-new : (schema : Schema) (es : List Event) (cs : List Chunk) (k : ℤ) (serials commits lost thrown i : ℕ) → map (λ c. c.start) cs ≡ chunks schema es → AllByRecursion (Holds schema es) cs
-    → AllByRecursion (λ d. int_cmp k d.start ≡ Greater) (take i cs) → IsBelow k (drop i cs)
+pub open-new : (schema : Schema) (es : List Event) (cs : List Chunk) (k : ℤ) (serials commits lost thrown : ℕ) → map (λ c. c.start) cs ≡ chunks schema es → AllByRecursion (Holds schema es) cs → chunk_in k cs ≡ None
     → open_in (record { schema = schema; stream = es; cuts = map cut_of cs; serials = serials; commits = commits; unparseable = lost; thrown_away = thrown }) k ≡ []
-open-new schema es cs k serials commits lost thrown i starts each before below =
+open-new schema es cs k serials commits lost thrown starts each none =
     let held = holds-chunk_at schema es cs k starts each in
     ap (open_events (chunk_list schema es k)) (sealed_in-cuts schema cs k)
-    ∙ open-none schema es k (chunk_at schema k cs) held.0 held.1 (ap has_open (chunk_at-new schema cs k i before below))
+    ∙ open-none schema es k (chunk_at schema k cs) held.0 held.1 (ap has_open (chunk_at-none schema cs k none))
 
 pub open-empty : (schema : Schema) (es : List Event) (cs : List Chunk) (k : ℤ) (serials commits lost thrown : ℕ) → map (λ c. c.start) cs ≡ chunks schema es → AllByRecursion (Holds schema es) cs → has_open (chunk_at schema k cs) ≡ false
     → open_in (record { schema = schema; stream = es; cuts = map cut_of cs; serials = serials; commits = commits; unparseable = lost; thrown_away = thrown }) k ≡ []

@@ -1,6 +1,11 @@
 -- What is pinned of the chunks of a timeline.
-use Rattle.std.proofs.Common.{◌≡◌, ◌∙◌, sym, refl, ap, ℕ, ℤ, ◌-◌, Bool, true, false, List, [], ◌∷◌, ◌++◌, length, map, drop, cond, nat_lt, Bor, arith}
-use Rattle.std.specs.List.{flat_map, AllByRecursion}
+use Rattle.std.proofs.Common.{◌≡◌, ◌∙◌, sym, refl, ap, subst, ℕ, ℤ, ◌-◌, Bool, true, false, List, [], ◌∷◌, ◌++◌, length, map, drop, take, cond, nat_lt, Bor, Option, Some, None, ◌<◌, ◌+◌, slice_get, arith}
+use Rattle.std.specs.List.{flat_map, fold, AllByRecursion}
+use Rattle.dr_query.specs.Groups.{wider, span_of_row, span}
+use Rattle.std.proofs.lemmas.Option.{get_or_from_slice_get}
+use Rattle.dr_schema.specs.Fits.{FitsSchema}
+use Rattle.dr_cuts.proofs.Each.{All-at}
+use Rattle.dr_chunks.proofs.Blocks.{taken-more}
 use Rattle.std.proofs.lemmas.List.{map-append, take_all, length-drop}
 use Rattle.dr_base.specs.declared.event.Event.{Event}
 use Rattle.dr_base.specs.declared.row.Row.{Row}
@@ -8,15 +13,14 @@ use Rattle.dr_agg.specs.Rollup.{all_rows}
 use Rattle.dr_schema.specs.declared.schema.Schema.{Schema}
 use Rattle.dr_rollup.specs.OpenRows.{OpenRows}
 use Rattle.dr_chunks.specs.declared.chunk.Chunk.{Chunk}
-use Rattle.dr_merge.specs.declared.fragment.Fragment.{Fragment}
 use Rattle.dr_cuts.specs.declared.range_info.RangeInfo.{RangeInfo}
 use Rattle.dr_chunks.specs.declared.sealed_range.SealedRange.{SealedRange}
-use Rattle.dr_rollup.specs.Unrolled.{rolled_up}
+use Rattle.dr_rollup.specs.Unrolled.{rolled_up, unrolled}
 use Rattle.dr_cuts.specs.Chunks.{chunk_list, chunks}
 use Rattle.dr_cuts.specs.State.{Tile, AreCuts, IsTiled, open_from}
 use Rattle.dr_chunks.specs.Ranges.{fragment_of}
 use Rattle.dr_cuts.specs.Segments.{sealed_info, open_info, infos_of_cut, infos, events_in, rows_over}
-use Rattle.dr_chunks.specs.Held.{range_of, ranges_of, cut_of, info_of, has_open, open_fragment, infos_of_chunk, fragments_of_chunk, Holds}
+use Rattle.dr_chunks.specs.Held.{range_of, ranges_of, cut_of, info_of, has_open, infos_of_chunk, rows_of_chunk, Holds}
 use Rattle.dr_timeline.specs.Pieces.{rows_held}
 use Rattle.dr_answer.specs.Pieces.{rows_in}
 
@@ -31,7 +35,7 @@ infos-sealed schema es k [] h = refl
 infos-sealed schema es k (s ∷ ss) h = λ i. record { chunk = (h.0 i).chunk; from = (range_of s).from; to = (range_of s).to; version = s.version; rows = length (h.0 i).rows; sealed = true } ∷ infos-sealed schema es k ss h.1 i
 
 rows-sealed : (schema : Schema) (es : List Event) (k : ℤ) (ss : List SealedRange) → AllByRecursion (λ s. s.fragment ≡ fragment_of schema es k (range_of s)) ss
-    → map (λ f. f.rows) (map (λ s. s.fragment) ss) ≡ map (rows_of_range schema es) (map (sealed_info schema es k) (map range_of ss))
+    → map (λ s. s.fragment.rows) ss ≡ map (rows_of_range schema es) (map (sealed_info schema es k) (map range_of ss))
 rows-sealed schema es k [] h = refl
 rows-sealed schema es k (s ∷ ss) h = λ i. (h.0 i).rows ∷ rows-sealed schema es k ss h.1 i
 
@@ -48,14 +52,13 @@ open-rows schema es c held =
     let long : length (drop from l) ≡ length l - from = length-drop from l in
     ap (λ (x : OpenRows). x.rows) held.open_range ∙ ap (rolled_up schema) (sym (take_all (length l - from) (drop from l) (omega arith)))
 
-pub rows-chunk : (schema : Schema) (es : List Event) (c : Chunk) → Holds schema es c → map (λ f. f.rows) (fragments_of_chunk c) ≡ map (rows_of_range schema es) (infos_of_cut schema es (cut_of c))
+pub rows-chunk : (schema : Schema) (es : List Event) (c : Chunk) → Holds schema es c → rows_of_chunk c ≡ map (rows_of_range schema es) (infos_of_cut schema es (cut_of c))
 rows-chunk schema es c held =
     let from : ℕ = open_from (ranges_of c) in
-    let rest : (a b : Bool) → a ≡ b → map (λ f. f.rows) (cond a (open_fragment c ∷ []) []) ≡ map (rows_of_range schema es) (cond b (open_info schema es c.start from ∷ []) []) = λ a b e.
-    ap (λ x. map (λ f. f.rows) (cond x (open_fragment c ∷ []) [])) e ∙ elim b as (λ x. map (λ f. f.rows) (cond x (open_fragment c ∷ []) []) ≡ map (rows_of_range schema es) (cond x (open_info schema es c.start from ∷ []) []))
+    let rest : (a b : Bool) → a ≡ b → cond a (c.open_range.rows ∷ []) [] ≡ map (rows_of_range schema es) (cond b (open_info schema es c.start from ∷ []) []) = λ a b e.
+    ap (λ x. cond x (c.open_range.rows ∷ []) []) e ∙ elim b as (λ x. cond x (c.open_range.rows ∷ []) [] ≡ map (rows_of_range schema es) (cond x (open_info schema es c.start from ∷ []) []))
     [ true ↦ ap (λ (rs : List Row). rs ∷ []) (open-rows schema es c held) | false ↦ refl ] in
-    map-append (λ f. f.rows) (map (λ s. s.fragment) c.sealed) _
-    ∙ (λ i. rows-sealed schema es c.start c.sealed held.sealed i ++ rest (has_open c) (nat_lt from (length (chunk_list schema es c.start))) (ap (nat_lt from) held.events) i)
+    (λ i. rows-sealed schema es c.start c.sealed held.sealed i ++ rest (has_open c) (nat_lt from (length (chunk_list schema es c.start))) (ap (nat_lt from) held.events) i)
     ∙ sym (map-append (rows_of_range schema es) (map (sealed_info schema es c.start) (ranges_of c)) _)
 
 -- ---- all chunks
@@ -64,11 +67,10 @@ pub infos-chunks : (schema : Schema) (es : List Event) (cs : List Chunk) → All
 infos-chunks schema es [] h = refl
 infos-chunks schema es (c ∷ cs) h = λ i. infos-chunk schema es c h.0 i ++ infos-chunks schema es cs h.1 i
 
-pub rows-chunks : (schema : Schema) (es : List Event) (cs : List Chunk) → AllByRecursion (Holds schema es) cs → map (λ f. f.rows) (flat_map fragments_of_chunk cs) ≡ map (rows_of_range schema es) (infos schema es (map cut_of cs))
+pub rows-chunks : (schema : Schema) (es : List Event) (cs : List Chunk) → AllByRecursion (Holds schema es) cs → flat_map rows_of_chunk cs ≡ map (rows_of_range schema es) (infos schema es (map cut_of cs))
 rows-chunks schema es [] h = refl
 rows-chunks schema es (c ∷ cs) h =
-    map-append (λ f. f.rows) (fragments_of_chunk c) (flat_map fragments_of_chunk cs)
-    ∙ (λ i. rows-chunk schema es c h.0 i ++ rows-chunks schema es cs h.1 i)
+    (λ i. rows-chunk schema es c h.0 i ++ rows-chunks schema es cs h.1 i)
     ∙ sym (map-append (rows_of_range schema es) (infos_of_cut schema es (cut_of c)) (infos schema es (map cut_of cs)))
 
 tiled-chunks : (schema : Schema) (es : List Event) (cs : List Chunk) → AllByRecursion (Holds schema es) cs → AllByRecursion (IsTiled schema es) (map cut_of cs)
@@ -88,8 +90,25 @@ flat-all : {A : Type 0} (f : A → List Row) (xs : List A) → flat_map f xs ≡
 flat-all f [] = refl
 flat-all f (x ∷ xs) = ap (λ rs. f x ++ rs) (flat-all f xs)
 
-pub held-rows : (schema : Schema) (es : List Event) (fs : List Fragment) (ranges : List RangeInfo) → map (λ f. f.rows) fs ≡ map (rows_of_range schema es) ranges → rows_held fs ≡ rows_over schema es ranges
-held-rows schema es fs ranges h = flat-all (λ f. f.rows) fs ∙ ap all_rows h ∙ sym (flat-all (rows_of_range schema es) ranges)
+pub held-rows : (schema : Schema) (es : List Event) (held : List (List Row)) (ranges : List RangeInfo) → held ≡ map (rows_of_range schema es) ranges → rows_held held ≡ rows_over schema es ranges
+held-rows schema es held ranges h = ap all_rows h ∙ sym (flat-all (rows_of_range schema es) ranges)
 
-pub lent-rows : (pieces : List (Bor (List Row))) (fs : List Fragment) → map (λ p. p.now) pieces ≡ map (λ f. f.rows) fs → rows_in pieces ≡ rows_held fs
-lent-rows pieces fs h = flat-all (λ (p : Bor (List Row)). p.now) pieces ∙ ap all_rows h ∙ sym (flat-all (λ f. f.rows) fs)
+pub lent-rows : (pieces : List (Bor (List Row))) (held : List (List Row)) → map (λ p. p.now) pieces ≡ held → rows_in pieces ≡ rows_held held
+lent-rows pieces held h = flat-all (λ (p : Bor (List Row)). p.now) pieces ∙ ap all_rows h
+
+-- ---- the span of events
+
+pushed : (from : Option (ℤ × ℤ)) (rows : List Row) (r : Row) → fold wider from (map span_of_row (rows ++ r ∷ [])) ≡ wider (fold wider from (map span_of_row rows)) (span_of_row r)
+pushed from [] r = refl
+pushed from (x ∷ xs) r = pushed (wider from (span_of_row x)) xs r
+
+-- the span of one more event
+pub span-more : (schema : Schema) (es : List Event) (place : ℕ) (e : Event) → place < length es → slice_get es place ≡ Some e
+    → span (map (unrolled schema) (take (place + 1) es)) ≡ wider (span (map (unrolled schema) (take place es))) (span_of_row (unrolled schema e))
+span-more schema es place e lt at =
+    ap (λ l. span (map (unrolled schema) l)) (taken-more es place e lt at) ∙ ap span (map-append (unrolled schema) (take place es) (e ∷ []))
+    ∙ pushed None (map (unrolled schema) (take place es)) (unrolled schema e)
+
+-- an event that stands there fits the schema
+pub lies-in : (s : Schema) (es : List Event) (place : ℕ) (e : Event) → place < length es → slice_get es place ≡ Some e → AllByRecursion (FitsSchema s) es → FitsSchema s e
+lies-in s es place e lt at all = subst (FitsSchema s) (get_or_from_slice_get es place e e at) (All-at (FitsSchema s) es place e lt all)

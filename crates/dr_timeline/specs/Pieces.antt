@@ -1,9 +1,8 @@
--- The rows of fragments. No public contract cites this file.
+-- The rows of ranges. No public contract cites this file.
 use Rattle.std.specs.Prelude.{List}
 use Rattle.std.specs.List.{flat_map}
 use Rattle.dr_base.specs.declared.row.Row.{Row}
-use Rattle.dr_merge.specs.declared.fragment.Fragment.{Fragment}
 
--- the rows of fragments, one fragment after another
-abbrev pub rows_held : List Fragment → List Row
-rows_held fragments = flat_map (λ f. f.rows) fragments
+-- the rows of ranges, one range after another
+abbrev pub rows_held : List (List Row) → List Row
+rows_held ranges = flat_map (λ rows. rows) ranges

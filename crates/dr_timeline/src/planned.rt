@@ -50,27 +50,49 @@ pub fn place_of_job(sealed: &[SealedRange], job: &Job) -> Option<usize>
     None
 }
 
+// The serials are compared before any row is.
 fn are_ranges(ranges: &[SealedRange], serials: &[u64], inputs: &[SharedFragment]) -> bool
     ensures { IsTrue result ↔ ((map (λ r. r.serial) ranges.now ≡ serials.now) × (map (λ r. r.fragment) ranges.now ≡ inputs.now)) }
+{
+    if !have_serials(ranges, serials) {
+        return false;
+    }
+    have_fragments(ranges, inputs)
+}
+
+fn have_serials(ranges: &[SealedRange], serials: &[u64]) -> bool
+    ensures { IsTrue result ↔ (map (λ r. r.serial) ranges.now ≡ serials.now) }
 {
     if ranges.len() != serials.len() {
         return false;
     }
-    if ranges.len() != inputs.len() {
-        return false;
-    }
     for (i, range) in ranges.iter().enumerate() {
-        if !is_range(range, serials[i], &inputs[i]) {
+        if range.serial != serials[i] {
             return false;
         }
     }
     true
 }
 
-fn is_range(range: &SealedRange, serial: u64, input: &SharedFragment) -> bool
-    ensures { IsTrue result ↔ ((range.now.serial ≡ serial) × (range.now.fragment ≡ input.now)) }
+// Two fragments are told apart by their chunk and their range before their rows, and these by the first that differs.
+fn have_fragments(ranges: &[SealedRange], inputs: &[SharedFragment]) -> bool
+    ensures { IsTrue result ↔ (map (λ r. r.fragment) ranges.now ≡ inputs.now) }
 {
-    range.serial == serial && range.fragment.fragment().equals(input.fragment())
+    if ranges.len() != inputs.len() {
+        return false;
+    }
+    for (i, range) in ranges.iter().enumerate() {
+        if !is_fragment(range, &inputs[i]) {
+            return false;
+        }
+    }
+    true
+}
+
+fn is_fragment(range: &SealedRange, input: &SharedFragment) -> bool
+    ensures { IsTrue result ↔ (range.now.fragment ≡ input.now) }
+{
+    range.fragment.fragment().equals(input.fragment())
 }
 
 /// The least version of some ranges.

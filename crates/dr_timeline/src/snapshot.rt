@@ -1,4 +1,4 @@
-ghost use Rattle.std.specs.Prelude.{◌≡◌, ◌↔◌, ◌++◌, IsTrue, List, true, length, map, option_map, slice_get};
+ghost use Rattle.std.specs.Prelude.{◌≡◌, ◌↔◌, ◌++◌, IfOk, IsTrue, List, true, length, map, option_map, slice_get};
 ghost use Rattle.dr_base.specs.declared.event.Event.{Event};
 ghost use Rattle.dr_query.specs.AnswerRefusal.{Answers};
 ghost use Rattle.dr_query.specs.Answer.{answer};
@@ -12,12 +12,12 @@ ghost use Rattle.dr_cuts.specs.RawAnswer.{raw_answer};
 use crate::span::span_of;
 use crate::unrolled::unrolled_rows;
 use dr_answer::answer;
-use dr_base::Event;
-use dr_chunks::Stream;
+use dr_base::{Event, Row};
+use dr_chunks::{PinnedRanges, RangeRows, Stream};
 use dr_cuts::RangeInfo;
-use dr_merge::Fragments;
 use dr_query::{AnswerError, Query};
 use dr_schema::Schema;
+use std::alloc::{AllocError, Global};
 use std::marker::Model;
 
 /// The events that were accepted before a pin, in order, and the ranges that their chunks were cut into. No later step
@@ -26,7 +26,7 @@ use std::marker::Model;
 pub struct Snapshot {
     pub(crate) schema: Schema,
     pub(crate) stream: Stream,
-    pub(crate) fragments: Fragments,
+    pub(crate) pinned: PinnedRanges,
     pub(crate) ranges: Vec<RangeInfo>,
 }
 
@@ -38,7 +38,7 @@ impl Model for Snapshot {
 
     ghost view = { λ s. record { schema = s.schema; stream = s.stream.items; ranges = s.ranges.items } };
 
-    ghost invariant = { λ s. Shows s.schema s.stream.items s.fragments s.ranges.items };
+    ghost invariant = { λ s. Shows s.schema s.stream.items s.pinned s.ranges.items };
 }
 
 impl Snapshot {
@@ -69,11 +69,11 @@ impl Snapshot {
     }
 
     /// From the least to the greatest truncated time of the events, both included, in milliseconds since the epoch; none
-    /// where there is no event.
+    /// where there is no event. It takes time by the events, and no memory.
     pub fn span(&self) -> Option<(i64, i64)>
         ensures { result ≡ span (map (unrolled self.now.schema) self.now.stream) }
     {
-        span_of(self.fragments.as_slice())
+        span_of(&self.schema, &self.stream)
     }
 
     /// Whether the events of the other snapshot are the first of this one's.
@@ -95,7 +95,8 @@ impl Snapshot {
             → Answers (λ text. text.items) result (raw_answer self.now.schema query.now self.now.stream) }
     {
         let alloc = self.stream.allocator();
-        let pieces = self.fragments.pieces(alloc)?;
+        let rows = self.pinned.rows(alloc)?;
+        let pieces = slices(alloc, &rows)?;
         answer(alloc, query, &pieces)
     }
 
@@ -109,6 +110,16 @@ impl Snapshot {
         let rows = unrolled_rows(alloc, &self.schema, &self.stream)?;
         answer(alloc, query, &[rows.as_slice()])
     }
+}
+
+fn slices<'a>(alloc: Global, ranges: &'a [RangeRows]) -> Result<Vec<&'a [Row]>, AllocError>
+    ensures { IfOk result (λ slices. map (λ s. s.now) slices.items ≡ ranges.now) }
+{
+    let mut slices = Vec::with_capacity(alloc, ranges.len())?;
+    for rows in ranges {
+        slices.push(rows.as_slice())?;
+    }
+    Ok(slices)
 }
 
 fn begins_with(events: &Stream, first: &Stream) -> bool

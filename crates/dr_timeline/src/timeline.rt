@@ -18,8 +18,8 @@ use crate::stats::Stats;
 use crate::timeline_error::TimelineError;
 use crate::unrolled::chunk_start;
 use dr_base::Event;
-use dr_chunks::{Chunks, Place, SealedRange, Stream};
-use dr_merge::{Fragment, Fragments, Job, Purpose, SharedFragment};
+use dr_chunks::{Chunks, PinnedRanges, SealedRange, Stream};
+use dr_merge::{Fragment, Job, Purpose, SharedFragment};
 use dr_spec::IngestSpec;
 use std::alloc::{AllocError, Global};
 use std::marker::Model;
@@ -145,13 +145,13 @@ impl Timeline {
     {
         let alloc = self.stream.allocator();
         let serial = self.seals + self.commits;
-        let Place::At(i) = self.chunks.place_of(chunk) else {
+        let Some(there) = self.chunks.get(chunk) else {
             return Err(TimelineError::NothingToSeal);
         };
-        if !self.chunks.as_slice()[i].has_open() {
+        if !there.has_open() {
             return Err(TimelineError::NothingToSeal);
         }
-        self.chunks.seal(alloc, i, serial)?;
+        self.chunks.seal(alloc, chunk, serial)?;
         self.seals += 1;
         Ok(())
     }
@@ -172,10 +172,10 @@ impl Timeline {
         ensures step { GivesUnless is_memory (λ job. job) result (plan self.now chunk lo hi purpose) }
     {
         let alloc = self.stream.allocator();
-        let Place::At(i) = self.chunks.place_of(chunk) else {
+        let Some(there) = self.chunks.get(chunk) else {
             return Err(TimelineError::NoSuchRange);
         };
-        let sealed = self.chunks.as_slice()[i].sealed.as_slice();
+        let sealed = there.sealed.as_slice();
         if lo >= hi || hi > sealed.len() {
             return Err(TimelineError::NoSuchRange);
         }
@@ -196,43 +196,45 @@ impl Timeline {
         ensures step { GivesUnless is_memory (λ version. (version, self.new)) result (commit self.old job.now) }
     {
         let alloc = self.stream.allocator();
-        let Place::At(i) = self.chunks.place_of(job.chunk) else {
+        let Some(there) = self.chunks.get(job.chunk) else {
             return Err(TimelineError::Stale);
         };
-        let Some(place) = place_of_job(self.chunks.as_slice()[i].sealed.as_slice(), job) else {
+        let sealed = there.sealed.as_slice();
+        let Some(place) = place_of_job(sealed, job) else {
             return Err(TimelineError::Stale);
         };
         let limits = self.spec.schema().limits();
         if self.commits >= limits.max_commits {
             return Err(TimelineError::CommitsFull);
         }
-        let version = least_version(
-            &self.chunks.as_slice()[i].sealed.as_slice()[place..place + job.inputs.len()],
-        );
+        let count = job.inputs.len();
+        let version = least_version(&sealed[place..place + count]);
         let range = SealedRange {
             serial: self.seals + self.commits,
             version,
             fragment: SharedFragment::new(alloc, fragment)?,
         };
-        self.chunks.replace(i, place, job.inputs.len(), range);
+        self.chunks.replace(job.chunk, place, count, range);
         self.commits += 1;
         Ok(version)
     }
 
     /// A snapshot of what was accepted so far, and of the ranges as they are now, which no later step changes. The timeline
-    /// stays as it was, but for rows that it keeps decoded for the next snapshot. The only error is that memory ran out.
+    /// stays as it was. No row is copied: the snapshot takes a share of each range, open ones too, and the next event in a
+    /// chunk copies its open rows first where a snapshot still has them. It takes time and memory by the ranges, and for less
+    /// than a block of events. The only error is that memory ran out.
     pub fn pin(&mut self) -> Result<Snapshot, AllocError>
         ensures pinned { IfOk result (λ snapshot. snapshot ≡ pinned self.old) }
         ensures same { self.new ≡ self.old }
     {
         let alloc = self.stream.allocator();
-        let mut fragments = Fragments::new(alloc);
+        let mut pinned = PinnedRanges::new(alloc);
         let mut ranges = Vec::new(alloc);
-        self.chunks.pin(alloc, &mut fragments, &mut ranges)?;
+        self.chunks.pin(&mut pinned, &mut ranges)?;
         Ok(Snapshot {
             schema: self.spec.schema().copy()?,
             stream: self.stream.share()?,
-            fragments,
+            pinned,
             ranges,
         })
     }

@@ -7,7 +7,7 @@ ghost use Rattle.dr_cuts.specs.Chunks.{chunk};
 
 use dr_base::{Event, Row};
 use dr_chunks::Stream;
-use dr_rollup::{columns_of, unrolled_row};
+use dr_rollup::unrolled_row;
 use dr_schema::Schema;
 use std::alloc::{AllocError, Global};
 
@@ -20,10 +20,9 @@ pub fn unrolled_rows(
     requires { AllByRecursion (FitsSchema schema.now) events.now.items }
     ensures { IfOk result (λ rows. rows.items ≡ map (unrolled schema.now) events.now.items) }
 {
-    let kinds = columns_of(alloc, schema)?;
     let mut rows = Vec::with_capacity(alloc, events.len())?;
     for place in 0..events.len() {
-        rows.push(unrolled_row(alloc, schema, &kinds, events.at(place))?)?;
+        rows.push(unrolled_row(alloc, schema, events.at(place))?)?;
     }
     Ok(rows)
 }

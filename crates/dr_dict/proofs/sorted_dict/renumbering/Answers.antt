@@ -1,16 +1,15 @@
-use Rattle.std.proofs.Common.{◌≡◌, ◌∙◌, ◌≤◌, ◌<◌, ap, sym, arith, map, take, string_bytes, length, get_or, subst, slice_get, Some}
-use Rattle.std.proofs.lemmas.List.{get_or-map, length-map, take_all}
+use Rattle.std.proofs.Common.{◌≡◌, ◌∙◌, ◌≤◌, ◌<◌, ap, sym, arith, map, take, length, get_or, subst, slice_get, Some}
+use Rattle.std.proofs.lemmas.List.{take_all}
 use Rattle.dr_dict.specs.Sorted.{IsSortedOf, IsRenumbering}
-use Rattle.dr_dict.proofs.SortedTexts.{sorted-contains, place-fits, places_pushed, sorted-unique, map-take_more}
+use Rattle.dr_dict.proofs.SortedTexts.{sorted-contains, place-fits, places_pushed, sorted-unique, take-one_more}
 use Rattle.dr_dict.proofs.sorted_dict.renumbering.Goals as goal
 
 pub place_of-requires-clause-there : goal.place_of-requires-clause-there
 place_of-requires-clause-there c =
     let sorted : IsSortedOf c.args.dict.now.texts (map (λ t. t.now) c.sorted.inside.texts.items) = subst (IsSortedOf c.args.dict.now.texts) (sym c.sorted.view_is) c.in_ok-sorted.ensures in
-    let lt : c.loop-text.text-index < length c.args.dict.now.texts = rw (← c.as_slice-texts.ensures) (omega (arith, c.loop-text-test.true, length-map c.as_slice-texts.result.now string_bytes)) in
-    let at : get_or c.args.dict.now.texts c.loop-text.text-index (string_bytes c.text-item.result) ≡ string_bytes c.text-item.result =
-    rw (← c.as_slice-texts.ensures) (get_or-map string_bytes c.as_slice-texts.result.now c.loop-text.text-index c.text-item.result (string_bytes c.text-item.result) c.loop-text-test.true ∙ ap string_bytes (sym c.text-item.is)) in
-    rw (c.deref.ensures.value, c.as_str.ensures.value) (sorted-contains c.args.dict.now.texts _ sorted (string_bytes c.text-item.result) c.loop-text.text-index lt at)
+    let lt : c.loop-text.text-index < length c.args.dict.now.texts = rw (← c.as_slice-texts.ensures) c.loop-text-test.true in
+    let at : get_or c.args.dict.now.texts c.loop-text.text-index c.text-item.result ≡ c.text-item.result = rw (← c.as_slice-texts.ensures) (sym c.text-item.is) in
+    rw (c.deref.ensures.value, c.as_str.ensures) (sorted-contains c.args.dict.now.texts _ sorted c.text-item.result c.loop-text.text-index lt at)
 
 pub overflow_cast-place_of : goal.overflow_cast-place_of
 overflow_cast-place_of c =
@@ -21,12 +20,12 @@ overflow_cast-place_of c =
 
 pub loop-text-preserved : goal.loop-text-preserved
 loop-text-preserved c =
-    let at = rw (c.deref.ensures.value, c.as_str.ensures.value) at c.place_of.ensures in
-    rw (c.in_ok-push.ensures.items, map-take_more string_bytes c.as_slice-texts.result.now c.loop-text.text-index c.text-item.result c.loop-text-test.true c.text-item.is)
-    (places_pushed (λ t p. slice_get (map (λ u. u.now) c.sorted.inside.texts.items) p ≡ Some t) (map string_bytes (take c.loop-text.text-index c.as_slice-texts.result.now)) c.loop-text.places.items (string_bytes c.text-item.result) c.place_of.result c.loop-text.invariant at)
+    let at = rw (c.deref.ensures.value, c.as_str.ensures) at c.place_of.ensures in
+    rw (c.in_ok-push.ensures.items, take-one_more c.as_slice-texts.result.now c.loop-text.text-index c.text-item.result c.loop-text-test.true c.text-item.is)
+    (places_pushed (λ t p. slice_get (map (λ u. u.now) c.sorted.inside.texts.items) p ≡ Some t) (take c.loop-text.text-index c.as_slice-texts.result.now) c.loop-text.places.items c.text-item.result c.place_of.result c.loop-text.invariant at)
 
 pub returns : goal.returns
 returns c = λ sorted is.
     let own : IsSortedOf c.args.dict.now.texts (map (λ t. t.now) c.sorted.inside.texts.items) = subst (IsSortedOf c.args.dict.now.texts) (sym c.sorted.view_is) c.in_ok-sorted.ensures in
-    let all : map string_bytes (take c.loop-text.text-index c.as_slice-texts.result.now) ≡ c.args.dict.now.texts = ap (map string_bytes) (take_all c.loop-text.text-index c.as_slice-texts.result.now c.loop-text-test.false) ∙ c.as_slice-texts.ensures in
+    let all : take c.loop-text.text-index c.as_slice-texts.result.now ≡ c.args.dict.now.texts = take_all c.loop-text.text-index c.as_slice-texts.result.now c.loop-text-test.false ∙ c.as_slice-texts.ensures in
     rw (sorted-unique c.args.dict.now.texts sorted _ c.len.ensures.distinct is own) (subst (λ ts. IsRenumbering ts (map (λ t. t.now) c.sorted.inside.texts.items) c.loop-text.places.items) all c.loop-text.invariant)

@@ -1,8 +1,7 @@
 use Rattle.std.proofs.Common.{◌≡◌, ◌++◌, map}
-use Rattle.std.specs.List.{AllByRecursion}
-use Rattle.dr_rollup.specs.Coding.{AreNumbers, row_of}
+use Rattle.dr_rollup.specs.Entries.{row_of}
 use Rattle.dr_rollup.proofs.sorted_rows.combined_rows.Given as goal
 
 -- the rows so far, and those of the entries that are left
 abbrev pub invariant-loop-key : goal.invariant-loop-key
-invariant-loop-key l = (l.rows.items ++ map (row_of l.dicts) l.key-iterator ≡ map (row_of l.dicts) l.entries.entries) × AllByRecursion (λ e. AreNumbers l.dicts e.0.numbers.items) l.key-iterator
+invariant-loop-key l = l.rows.items ++ map row_of l.key-iterator ≡ map row_of l.entries.entries

@@ -1,8 +1,7 @@
-use Rattle.std.proofs.Common.{◌≡◌, drop, map}
-use Rattle.std.specs.List.{fold}
-use Rattle.dr_query.specs.Groups.{wider, span_of_row, span}
-use Rattle.dr_timeline.specs.Pieces.{rows_held}
+use Rattle.std.proofs.Common.{◌≡◌, take, map}
+use Rattle.dr_query.specs.Groups.{span}
+use Rattle.dr_rollup.specs.Unrolled.{unrolled}
 use Rattle.dr_timeline.proofs.span.span_of.Given as goal
 
-abbrev pub invariant-loop-shared : goal.invariant-loop-shared
-invariant-loop-shared l = fold wider l.span (map span_of_row (rows_held (drop l.shared-index l.fragments))) ≡ span (rows_held l.fragments)
+abbrev pub invariant-loop-place : goal.invariant-loop-place
+invariant-loop-place l = l.span ≡ span (map (unrolled l.schema) (take l.place l.events.items))

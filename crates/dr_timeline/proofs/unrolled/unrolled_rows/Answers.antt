@@ -8,17 +8,14 @@ use Rattle.dr_schema.specs.declared.schema.Schema.{Schema}
 use Rattle.dr_schema.specs.Fits.{FitsSchema}
 use Rattle.dr_rollup.specs.Unrolled.{unrolled}
 use Rattle.dr_chunks.proofs.Blocks.{taken-more}
-use Rattle.dr_cuts.proofs.Each.{All-at}
+use Rattle.dr_timeline.proofs.Pinning.{lies-in}
 use Rattle.dr_timeline.proofs.unrolled.unrolled_rows.Goals as goal
-
-lies_in : (s : Schema) (es : List Event) (place : ℕ) (e : Event) → place < length es → slice_get es place ≡ Some e → AllByRecursion (FitsSchema s) es → FitsSchema s e
-lies_in s es place e lt at all = subst (FitsSchema s) (get_or_from_slice_get es place e e at) (All-at (FitsSchema s) es place e lt all)
 
 pub unrolled_row-requires : goal.unrolled_row-requires
 unrolled_row-requires c =
     let test = c.loop-place-test.true in
     let len = c.len-place-end.ensures in
-    (lies_in c.args.schema.now c.args.events.now.items c.loop-place.place c.at.result.now (omega (arith, test, len)) c.at.ensures c.requires).time
+    (lies-in c.args.schema.now c.args.events.now.items c.loop-place.place c.at.result.now (omega (arith, test, len)) c.at.ensures c.requires).time
 
 pub loop-place-preserved : goal.loop-place-preserved
 loop-place-preserved c =
@@ -26,7 +23,7 @@ loop-place-preserved c =
     let test = c.loop-place-test.true in
     let len = c.len-place-end.ensures in
     let lt : c.loop-place.place < length es = omega (arith, test, len) in
-    let row = c.in_ok-unrolled_row.ensures (c.deref.ensures.value ∙ c.in_ok-kinds.ensures) in
+    let row = c.in_ok-unrolled_row.ensures in
     c.in_ok-push.ensures.items
     ∙ (λ i. c.loop-place.invariant i ++ row i ∷ [])
     ∙ sym (map-append (unrolled c.args.schema.now) (take c.loop-place.place es) (c.at.result.now ∷ []))

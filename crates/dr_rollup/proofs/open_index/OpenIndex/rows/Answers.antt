@@ -1,19 +1,18 @@
-use Rattle.std.proofs.Common.{◌≡◌, Ok, Err, map, IfOk}
+use Rattle.std.proofs.Common.{◌≡◌, Ok, Err, IfOk}
 use Rattle.std.specs.List.Sorted.{IsSortedBy, IsStableBy}
 use Rattle.std.specs.Ordering.{is_lt}
 use Rattle.dr_base.specs.Order.{key_cmp}
 use Rattle.dr_schema.specs.Columns.{kinds_of}
-use Rattle.dr_rollup.specs.Coding.{entries_of, row_of}
+use Rattle.dr_rollup.specs.Entries.{rows_in}
 use Rattle.dr_rollup.specs.Sound.{rows_of}
 use Rattle.dr_rollup.proofs.Rows.{sorted-rollup}
 use Rattle.dr_rollup.proofs.open_index.OpenIndex.rows.Goals as goal
 
 pub returns : goal.returns
 returns c =
-    let es = map (row_of c.self.inside.dicts.items) (entries_of c.self.inside.entries) in
-    let stable = rw c.deref.ensures.value at c.sorted_rows.ensures.stable in
+    let s = c.self.inside in
     rw (← c.self.view_is)
-    (elim c.sorted_rows.result as (λ r. IfOk r (λ rows. IsSortedBy (λ a b. is_lt (key_cmp a.key b.key)) rows.items) → IfOk r (λ rows. IsStableBy (λ a b. is_lt (key_cmp a.key b.key)) es rows.items) → IfOk r (λ rows. rows.items ≡ rows_of c.self.inside.schema c.self.inside.dicts.items (entries_of c.self.inside.entries))) [
-      | Ok rows ↦ λ up ties. sorted-rollup c.self.inside.schema.rollup (kinds_of c.self.inside.schema) es rows.items c.self.invariant.sound.apart up ties
+    (elim c.sorted_rows.result as (λ r. IfOk r (λ rows. IsSortedBy (λ a b. is_lt (key_cmp a.key b.key)) rows.items) → IfOk r (λ rows. IsStableBy (λ a b. is_lt (key_cmp a.key b.key)) (rows_in s.entries) rows.items) → IfOk r (λ rows. rows.items ≡ rows_of s.schema s.entries)) [
+      | Ok rows ↦ λ up ties. sorted-rollup s.schema.rollup (kinds_of s.schema) (rows_in s.entries) rows.items c.self.invariant.sound.apart up ties
       | Err e ↦ λ up ties. tt
-    ] c.sorted_rows.ensures.sorted stable)
+    ] c.sorted_rows.ensures.sorted c.sorted_rows.ensures.stable)

@@ -12,8 +12,8 @@ pub returns-clause-own_rows : goal.returns-clause-own_rows
 returns-clause-own_rows c =
     let i = c.self.invariant in
     let s = c.self.inside in
-    let lent : rows_in c.deref.result.now ≡ rows_held s.fragments = ap rows_in c.deref.ensures.value ∙ lent-rows c.in_ok-pieces.pieces.items s.fragments c.in_ok-pieces.ensures in
-    let own : rows_in c.deref.result.now ≡ rows_of c.args.self.now = lent ∙ held-rows s.schema s.stream.items s.fragments s.ranges.items i.rows ∙ ap rows_of c.self.view_is in
+    let lent : rows_in c.deref-2.result.now ≡ rows_held s.pinned = ap rows_in c.deref-2.ensures.value ∙ lent-rows c.in_ok-pieces.pieces.items s.pinned (c.in_ok-pieces.ensures ∙ c.deref.ensures.value ∙ c.in_ok-rows.ensures) in
+    let own : rows_in c.deref-2.result.now ≡ rows_of c.args.self.now = lent ∙ held-rows s.schema s.stream.items s.pinned s.ranges.items i.rows ∙ ap rows_of c.self.view_is in
     rw (← own) c.answer.ensures
 
 pub returns-clause-raw_where_matching : goal.returns-clause-raw_where_matching
@@ -21,9 +21,9 @@ returns-clause-raw_where_matching c = λ matches.
     let i = c.self.invariant in
     let s = c.self.inside in
     let made = rw (← c.self.view_is) at c.requires in
-    let lent : rows_in c.deref.result.now ≡ rows_held s.fragments = ap rows_in c.deref.ensures.value ∙ lent-rows c.in_ok-pieces.pieces.items s.fragments c.in_ok-pieces.ensures in
-    let held : rows_held s.fragments ≡ rows_over s.schema s.stream.items _ = held-rows s.schema s.stream.items s.fragments s.ranges.items i.rows ∙ ap (rows_over s.schema s.stream.items) i.ranges_are in
-    let raw : answer c.args.query.now (rows_in c.deref.result.now) ≡ raw_answer c.args.self.now.schema c.args.query.now c.args.self.now.stream =
+    let lent : rows_in c.deref-2.result.now ≡ rows_held s.pinned = ap rows_in c.deref-2.ensures.value ∙ lent-rows c.in_ok-pieces.pieces.items s.pinned (c.in_ok-pieces.ensures ∙ c.deref.ensures.value ∙ c.in_ok-rows.ensures) in
+    let held : rows_held s.pinned ≡ rows_over s.schema s.stream.items _ = held-rows s.schema s.stream.items s.pinned s.ranges.items i.rows ∙ ap (rows_over s.schema s.stream.items) i.ranges_are in
+    let raw : answer c.args.query.now (rows_in c.deref-2.result.now) ≡ raw_answer c.args.self.now.schema c.args.query.now c.args.self.now.stream =
     ap (answer c.args.query.now) (lent ∙ held) ∙ answer-cut_rows s.schema c.args.query.now s.stream.items i.cuts i.are_cuts made matches
     ∙ ap (λ (p : Pinned). raw_answer p.schema c.args.query.now p.stream) c.self.view_is in
     rw (← raw) c.answer.ensures

@@ -6,12 +6,9 @@ use Rattle.dr_schema.specs.declared.schema.Schema.{Schema}
 use Rattle.dr_schema.specs.declared.limits.Limits.{Limits}
 use Rattle.dr_cuts.specs.State.{State}
 use Rattle.dr_timeline.specs.Steps.{accepted}
-use Rattle.dr_timeline.proofs.Keeping.{keeps-grown, state-grown, chunks-fit, rising-starts}
+use Rattle.dr_timeline.proofs.Keeping.{keeps-grown, state-grown, chunks-fit}
 use Rattle.dr_timeline.proofs.Placing.{accept-ok}
 use Rattle.dr_timeline.proofs.timeline.Timeline.accept.Goals as goal
-
-pub grow-requires-clause-rising : goal.grow-requires-clause-rising
-grow-requires-clause-rising c = rising-starts c.self.inside.spec c.self.inside.stream.items c.self.inside.chunks c.self.invariant.starts
 
 pub grow-requires-clause-chunks : goal.grow-requires-clause-chunks
 grow-requires-clause-chunks c =

@@ -6,42 +6,37 @@ use Rattle.dr_chunks.specs.declared.sealed_range.SealedRange.{SealedRange}
 use Rattle.dr_cuts.specs.State.{State, sealed_in}
 use Rattle.dr_timeline.specs.Steps.{job_of}
 use Rattle.dr_chunks.specs.Held.{chunk_at, ranges_of}
-use Rattle.dr_chunks.proofs.Places.{chunk_at-here, chunk_at-new}
+use Rattle.dr_chunks.proofs.Places.{chunk_at-in, chunk_at-none}
 use Rattle.dr_chunks.proofs.Changes.{sealed_in-cuts}
 use Rattle.dr_timeline.proofs.Standing.{seen, shown-length, shown-serials, shown-inputs}
 use Rattle.dr_timeline.proofs.Placing.{plan-ok, plan-none}
-use Rattle.dr_timeline.proofs.Keeping.{rising-starts}
 use Rattle.dr_timeline.proofs.timeline.Timeline.plan.Goals as goal
 use Rattle.dr_timeline.proofs.timeline.Timeline.plan.Goals.{then-lo-hi-via-then-lo-hi, then-lo-hi-via-else-lo-hi+then-hi-sealed, After-as_slice-sealed, In_ok-job_over}
-
-pub place_of-requires : goal.place_of-requires
-place_of-requires c = rising-starts c.self.inside.spec c.self.inside.stream.items c.self.inside.chunks c.self.invariant.starts
 
 pub returns-in_default-clause-no_range : goal.returns-in_default-clause-no_range
 returns-in_default-clause-no_range c =
     let t = c.self.inside in
-    let place = rw (to_z-of_z w64 c.args.chunk c.ranges.chunk) at c.in_default.ensures in
+    let found = sym (rw (to_z-of_z w64 c.args.chunk c.ranges.chunk) at c.in_default.ensures) in
     let none : length (sealed_in c.args.chunk c.args.self.now.cuts) ≡ 0 =
     ap (λ (s : State). length (sealed_in c.args.chunk s.cuts)) (sym c.self.view_is)
-    ∙ ap (λ rs. length rs) (sealed_in-cuts t.spec t.chunks c.args.chunk ∙ ap ranges_of (chunk_at-new t.spec t.chunks c.args.chunk c.in_default.field-0 place.1 place.2)) in
+    ∙ ap (λ rs. length rs) (sealed_in-cuts t.spec t.chunks c.args.chunk ∙ ap ranges_of (chunk_at-none t.spec t.chunks c.args.chunk found)) in
     (λ h p. let lt = p.0 in let le = p.1 in absurd (omega arith), λ h. refl)
 
 -- ---- the chunk
 
-here : (c : After-as_slice-sealed) → chunk_at c.self.inside.spec c.args.chunk c.self.inside.chunks ≡ c.index-as_slice-i.result
+here : (c : After-as_slice-sealed) → chunk_at c.self.inside.spec c.args.chunk c.self.inside.chunks ≡ c.in-Some.there.now
 here c =
-    let t = c.self.inside in
-    let place = rw (to_z-of_z w64 c.args.chunk c.ranges.chunk) at c.in-At.ensures in
-    chunk_at-here t.spec t.chunks c.args.chunk c.in-At.i c.index-as_slice-i.result place.0 place.1 place.2 ∙ ap (λ (cs : List Chunk). get_or cs c.in-At.i c.index-as_slice-i.result) (sym c.as_slice.ensures) ∙ sym c.index-as_slice-i.is
+    let found = sym (rw (to_z-of_z w64 c.args.chunk c.ranges.chunk) at c.in-Some.ensures) in
+    chunk_at-in c.self.inside.spec c.self.inside.chunks c.args.chunk c.in-Some.there.now found
 
-ranges : (c : After-as_slice-sealed) → c.as_slice-sealed.result.now ≡ c.index-as_slice-i.result.sealed
-ranges c = c.as_slice-sealed.ensures ∙ ap (λ (d : Chunk). d.sealed) (sym c.index-as_slice-i.is)
+ranges : (c : After-as_slice-sealed) → c.as_slice-sealed.result.now ≡ c.in-Some.there.now.sealed
+ranges c = c.as_slice-sealed.ensures
 
 count : (c : After-as_slice-sealed) → length (sealed_in c.args.chunk c.args.self.now.cuts) ≡ length c.as_slice-sealed.result.now
 count c =
     let t = c.self.inside in
     ap (λ (s : State). length (sealed_in c.args.chunk s.cuts)) (sym c.self.view_is)
-    ∙ shown-length t.spec t.stream.items t.chunks (t.seals + t.commits) t.commits t.unparseable t.thrown_away c.args.chunk c.index-as_slice-i.result (here c)
+    ∙ shown-length t.spec t.stream.items t.chunks (t.seals + t.commits) t.commits t.unparseable t.thrown_away c.args.chunk c.in-Some.there.now (here c)
     ∙ ap (λ (ss : List SealedRange). length ss) (sym (ranges c))
 
 -- ---- it has no such ranges
@@ -79,12 +74,12 @@ shown c =
     let t = c.self.inside in
     seen t.spec t.stream.items t.chunks (t.seals + t.commits) t.commits t.unparseable t.thrown_away
 
-planned : (c : In_ok-job_over) → chunk_at c.self.inside.spec c.args.chunk c.self.inside.chunks ≡ c.index-as_slice-i.result → c.as_slice-sealed.result.now ≡ c.index-as_slice-i.result.sealed
+planned : (c : In_ok-job_over) → chunk_at c.self.inside.spec c.args.chunk c.self.inside.chunks ≡ c.in-Some.there.now → c.as_slice-sealed.result.now ≡ c.in-Some.there.now.sealed
     → c.in_ok-job_over.field-0 ≡ job_of (shown c) c.args.chunk c.args.lo c.args.hi c.args.purpose
 planned c there same =
     let t = c.self.inside in
     let k = c.self.invariant in
-    let x : Chunk = c.index-as_slice-i.result in
+    let x : Chunk = c.in-Some.there.now in
     let lo = c.args.lo in
     let many = c.args.hi - c.args.lo in
     let slice : take many (drop lo c.as_slice-sealed.result.now) ≡ take many (drop lo x.sealed) = ap (λ (ss : List SealedRange). take many (drop lo ss)) same in

@@ -1,19 +1,15 @@
-use Rattle.std.proofs.Common.{◌≡◌, ◌∙◌, sym, ap, refl, true, Ok, [], w64, rules, get_or, ◌+◌, List}
+use Rattle.std.proofs.Common.{◌≡◌, ◌∙◌, sym, ap, refl, true, Some, is_some, Ok, [], w64, rules, get_or, ◌+◌, List}
 use Rattle.std.proofs.lemmas.Int.{to_z-of_z}
 use Rattle.std.proofs.lemmas.Result.{err_from_is_err_and}
 use Rattle.dr_chunks.specs.declared.chunk.Chunk.{Chunk}
-use Rattle.dr_chunks.specs.declared.place.Place.TheVariants.{At}
 use Rattle.dr_cuts.specs.State.{State}
 use Rattle.dr_timeline.specs.Steps.{sealed_at, open_in}
-use Rattle.dr_chunks.specs.Held.{IsPlace, chunk_at, has_open, at_start, with_open_sealed}
-use Rattle.dr_chunks.proofs.Places.{at_start-here, chunk_at-here}
-use Rattle.dr_timeline.proofs.Keeping.{keeps-sealed, state-sealed, open-new, open-empty, open-there, rising-starts}
+use Rattle.dr_chunks.specs.Held.{chunk_at, chunk_in, has_open, at_start, with_open_sealed}
+use Rattle.dr_chunks.proofs.Places.{chunk_at-in, place-found}
+use Rattle.dr_timeline.proofs.Keeping.{keeps-sealed, state-sealed, open-new, open-empty, open-there}
 use Rattle.dr_timeline.proofs.Placing.{seal-ok, seal-none}
 use Rattle.dr_timeline.proofs.timeline.Timeline.seal.Goals as goal
-use Rattle.dr_timeline.proofs.timeline.Timeline.seal.Goals.{After-index-as_slice-i, After-seal, In_ok-seal}
-
-pub place_of-requires : goal.place_of-requires
-place_of-requires c = rising-starts c.self.inside.spec c.self.inside.stream.items c.self.inside.chunks c.self.invariant.starts
+use Rattle.dr_timeline.proofs.timeline.Timeline.seal.Goals.{After-has_open, After-seal, In_ok-seal}
 
 pub overflow_add-serial : goal.overflow_add-serial
 overflow_add-serial c =
@@ -28,21 +24,21 @@ pub returns-in_default-clause-nothing : goal.returns-in_default-clause-nothing
 returns-in_default-clause-nothing c =
     let t = c.self.inside in
     let k = c.self.invariant in
-    let place = rw (to_z-of_z w64 c.args.chunk c.ranges.chunk) at c.in_default.ensures in
+    let found = sym (rw (to_z-of_z w64 c.args.chunk c.ranges.chunk) at c.in_default.ensures) in
     let none : open_in c.args.self.now c.args.chunk ≡ [] =
-    ap (λ (s : State). open_in s c.args.chunk) (sym c.self.view_is) ∙ open-new t.spec t.stream.items t.chunks c.args.chunk (t.seals + t.commits) t.commits t.unparseable t.thrown_away c.in_default.field-0 k.starts k.each place.1 place.2 in
+    ap (λ (s : State). open_in s c.args.chunk) (sym c.self.view_is) ∙ open-new t.spec t.stream.items t.chunks c.args.chunk (t.seals + t.commits) t.commits t.unparseable t.thrown_away k.starts k.each found in
     (λ h. none, λ h. refl)
 
 -- ---- the chunk
 
-place_is : (c : After-index-as_slice-i) → IsPlace c.self.inside.chunks c.args.chunk (At c.in-At.i)
-place_is c = rw (to_z-of_z w64 c.args.chunk c.ranges.chunk) at c.in-At.ensures
+found : (c : After-has_open) → chunk_in c.args.chunk c.self.inside.chunks ≡ Some c.in-Some.there.now
+found c = sym (rw (to_z-of_z w64 c.args.chunk c.ranges.chunk) at c.in-Some.ensures)
 
-here : (c : After-index-as_slice-i) → chunk_at c.self.inside.spec c.args.chunk c.self.inside.chunks ≡ c.index-as_slice-i.result
-here c =
-    let t = c.self.inside in
-    let place = place_is c in
-    chunk_at-here t.spec t.chunks c.args.chunk c.in-At.i c.index-as_slice-i.result place.0 place.1 place.2 ∙ ap (λ (cs : List Chunk). get_or cs c.in-At.i c.index-as_slice-i.result) (sym c.as_slice.ensures) ∙ sym c.index-as_slice-i.is
+here : (c : After-has_open) → chunk_at c.self.inside.spec c.args.chunk c.self.inside.chunks ≡ c.in-Some.there.now
+here c = chunk_at-in c.self.inside.spec c.self.inside.chunks c.args.chunk c.in-Some.there.now (found c)
+
+pub seal-requires : goal.seal-requires
+seal-requires c = rw (to_z-of_z w64 c.args.chunk c.ranges.chunk, found (goal.at.seal-requires c).After-has_open) refl
 
 -- ---- its open range is empty
 
@@ -50,14 +46,14 @@ pub returns-then-not-has_open-clause-nothing : goal.returns-then-not-has_open-cl
 returns-then-not-has_open-clause-nothing c =
     let t = c.self.inside in
     let k = c.self.invariant in
-    let test = ap has_open (here (goal.at.returns-then-not-has_open-clause-nothing c).After-index-as_slice-i) ∙ sym c.has_open.ensures ∙ c.if-not-has_open.true in
+    let test = ap has_open (here (goal.at.returns-then-not-has_open-clause-nothing c).After-has_open) ∙ sym c.has_open.ensures ∙ c.if-not-has_open.true in
     let none : open_in c.args.self.now c.args.chunk ≡ [] =
     ap (λ (s : State). open_in s c.args.chunk) (sym c.self.view_is) ∙ open-empty t.spec t.stream.items t.chunks c.args.chunk (t.seals + t.commits) t.commits t.unparseable t.thrown_away k.starts k.each test in
     (λ h. none, λ h. refl)
 
 -- ---- it has an event
 
-is_open : (c : After-seal) → chunk_at c.self.inside.spec c.args.chunk c.self.inside.chunks ≡ c.index-as_slice-i.result → has_open (chunk_at c.self.inside.spec c.args.chunk c.self.inside.chunks) ≡ true
+is_open : (c : After-seal) → chunk_at c.self.inside.spec c.args.chunk c.self.inside.chunks ≡ c.in-Some.there.now → has_open (chunk_at c.self.inside.spec c.args.chunk c.self.inside.chunks) ≡ true
 is_open c there = ap has_open there ∙ sym c.has_open.ensures ∙ c.if-not-has_open.false
 
 some : (c : After-seal) → has_open (chunk_at c.self.inside.spec c.args.chunk c.self.inside.chunks) ≡ true → open_in c.args.self.now c.args.chunk ≡ [] → ⊥
@@ -70,31 +66,29 @@ pub returns-in_err-seal-clause-nothing : goal.returns-in_err-seal-clause-nothing
 returns-in_err-seal-clause-nothing c =
     let sealed = (goal.at.returns-in_err-seal-clause-nothing c).After-seal in
     let p = err_from_is_err_and c.from_residual.result c.from_residual.ensures.1 in
-    rw (p.1, p.2) (λ h. cc, λ h. absurd (some sealed (is_open sealed (here (goal.at.returns-in_err-seal-clause-nothing c).After-index-as_slice-i)) h))
+    rw (p.1, p.2) (λ h. cc, λ h. absurd (some sealed (is_open sealed (here (goal.at.returns-in_err-seal-clause-nothing c).After-has_open)) h))
 
-changed : (c : In_ok-seal) → IsPlace c.self.inside.chunks c.args.chunk (At c.in-At.i) → c.seal.new.self ≡ at_start c.self.inside.spec (with_open_sealed (c.self.inside.seals + c.self.inside.commits)) c.args.chunk c.self.inside.chunks
-changed c place =
-    let t = c.self.inside in
-    c.in_ok-seal.ensures.ok c.index-as_slice-i.result ∙ sym (at_start-here t.spec t.chunks c.args.chunk c.in-At.i (with_open_sealed (t.seals + t.commits)) c.index-as_slice-i.result place.0 place.1 place.2)
+changed : (c : In_ok-seal) → c.seal.new.self ≡ at_start c.self.inside.spec (with_open_sealed (c.self.inside.seals + c.self.inside.commits)) c.args.chunk c.self.inside.chunks
+changed c = rw (to_z-of_z w64 c.args.chunk c.ranges.chunk) at (c.in_ok-seal.ensures.ok c.self.inside.spec)
 
 pub invariant_of-self-2 : goal.invariant_of-self-2
 invariant_of-self-2 c =
     let t = c.self.inside in
-    let there = (goal.at.invariant_of-self-2 c).After-index-as_slice-i in
-    let place = place_is there in
-    rw (changed (goal.at.invariant_of-self-2 c).In_ok-seal place)
-    (keeps-sealed t.spec t.stream.items t.chunks t.seals t.commits c.args.chunk c.in-At.i (t.seals + t.commits) c.self.invariant place.0 place.1 place.2 (is_open (goal.at.invariant_of-self-2 c).After-seal (here there)))
+    let there = (goal.at.invariant_of-self-2 c).After-has_open in
+    let place = place-found t.chunks c.args.chunk c.in-Some.there.now (found there) in
+    rw (changed (goal.at.invariant_of-self-2 c).In_ok-seal)
+    (keeps-sealed t.spec t.stream.items t.chunks t.seals t.commits c.args.chunk place.0 (t.seals + t.commits) c.self.invariant place.1 place.2 place.3 (is_open (goal.at.invariant_of-self-2 c).After-seal (here there)))
 
 pub returns-clause-ok : goal.returns-clause-ok
 returns-clause-ok c =
     let t = c.self.inside in
-    rw (changed (goal.at.returns-clause-ok c).In_ok-seal (place_is (goal.at.returns-clause-ok c).After-index-as_slice-i))
+    rw (changed (goal.at.returns-clause-ok c).In_ok-seal)
     (state-sealed t.spec t.stream.items t.chunks t.seals t.commits t.unparseable t.thrown_away c.args.chunk c.self.invariant ∙ ap (sealed_at c.args.chunk) c.self.view_is)
 
 pub returns-clause-nothing : goal.returns-clause-nothing
 returns-clause-nothing c =
     let sealed = (goal.at.returns-clause-nothing c).After-seal in
-    (λ h. cc, λ h. absurd (some sealed (is_open sealed (here (goal.at.returns-clause-nothing c).After-index-as_slice-i)) h))
+    (λ h. cc, λ h. absurd (some sealed (is_open sealed (here (goal.at.returns-clause-nothing c).After-has_open)) h))
 
 pub returns-in_default-clause-step : goal.returns-in_default-clause-step
 returns-in_default-clause-step c = λ _. seal-none c.args.self.now c.args.chunk ((returns-in_default-clause-nothing c).0 refl)

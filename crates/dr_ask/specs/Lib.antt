@@ -1,0 +1,12 @@
+pub mod Refusal
+pub mod Outputs
+pub mod Fields
+pub mod SourceOf
+pub mod AggregationsOf
+pub mod DimensionsOf
+pub mod ContextOf
+pub mod TypeOf
+pub mod Asked
+pub mod ShapeOf
+pub mod Matching
+pub mod QueryOf

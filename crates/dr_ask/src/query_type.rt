@@ -1,0 +1,28 @@
+ghost use Rattle.dr_ask.specs.TypeOf.{type_named};
+ghost use Rattle.dr_ask.specs.Refusal.{Gives};
+
+use crate::query_error::QueryError;
+use dr_base::Text;
+use std::alloc::Global;
+
+/// The types of queries that are read.
+#[derive(Clone, Copy, Debug, PartialEq, Eq)]
+pub enum QueryType {
+    Timeseries,
+    GroupBy,
+}
+
+/// The type of that name. Refusals: 76 `Unsupported` `scan`, which is not read yet, 70 `UnknownQueryType` with another text.
+pub fn type_named(alloc: Global, name: &str) -> Result<QueryType, QueryError>
+    ensures { Gives (λ t. t) result (type_named name.now) }
+{
+    if name == "timeseries" {
+        Ok(QueryType::Timeseries)
+    } else if name == "groupBy" {
+        Ok(QueryType::GroupBy)
+    } else if name == "scan" {
+        Err(QueryError::Unsupported(Text::from_str(alloc, name)?))
+    } else {
+        Err(QueryError::UnknownQueryType(Text::from_str(alloc, name)?))
+    }
+}

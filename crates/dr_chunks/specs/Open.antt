@@ -1,0 +1,18 @@
+-- An open range, and what it keeps. No public contract cites this file.
+use Rattle.std.specs.Prelude.{◌-◌, List, [], Option, Some, None}
+use Rattle.dr_base.specs.declared.row.Row.{Row}
+use Rattle.dr_schema.specs.declared.schema.Schema.{Schema}
+use Rattle.dr_rollup.specs.OpenRows.{OpenRows}
+
+-- an open range with these rows
+abbrev pub index_of : Schema → List Row → OpenRows
+index_of schema rows = record { schema = schema; limit = schema.limits.max_rows_in_memory; rows = rows }
+
+-- the rows of an index; none without one
+abbrev pub rows_kept : Option OpenRows → List Row
+rows_kept None = []
+rows_kept (Some index) = index.rows
+
+-- an index with these rows, which may have one row less than are held in memory
+abbrev pub kept : Schema → List Row → OpenRows
+kept schema rows = record { schema = schema; limit = schema.limits.max_rows_in_memory - 1; rows = rows }

@@ -1,0 +1,54 @@
+-- Names that are put among others stay where they are.
+use Rattle.std.proofs.Common.{◌≡◌, ◌∙◌, sym, refl, ap, subst, ℕ, zero, suc, List, [], ◌∷◌, ◌++◌, append-nil, Option, Some, None}
+use Rattle.std.specs.Prelude.{slice_get}
+use Rattle.std.specs.List.{AllZip}
+use Rattle.dr_schema.specs.declared.metric.Metric.{Metric}
+use Rattle.dr_events.specs.declared.input.Input.{Input}
+use Rattle.dr_events.specs.Scalars.{AreNamed, IsPlaceOf, AreRead}
+
+abbrev pub More : List (List ℕ) → List (List ℕ) → Type 0
+More old new = (more : List (List ℕ)) × (new ≡ old ++ more)
+
+append_more : (a b c : List (List ℕ)) → (a ++ b) ++ c ≡ a ++ (b ++ c)
+append_more [] b c = refl
+append_more (x ∷ a) b c = ap (λ l. x ∷ l) (append_more a b c)
+
+pub more-none : (names : List (List ℕ)) → More names names
+more-none names = ([], sym (append-nil names))
+
+pub more-then : (a b c : List (List ℕ)) → More a b → More b c → More a c
+more-then a b c first second = (first.0 ++ second.0, second.1 ∙ ap (λ l. l ++ second.0) first.1 ∙ append_more a first.0 second.0)
+
+get_more : (names more : List (List ℕ)) (place : ℕ) (name : List ℕ) → slice_get names place ≡ Some name → slice_get (names ++ more) place ≡ Some name
+get_more [] more place name e = cc
+get_more (n ∷ names) more zero name e = e
+get_more (n ∷ names) more (suc i) name e = get_more names more i name e
+
+pub get-more : (old new : List (List ℕ)) (place : ℕ) (name : List ℕ) → More old new → slice_get old place ≡ Some name → slice_get new place ≡ Some name
+get-more old new place name m e = subst (λ l. slice_get l place ≡ Some name) (sym m.1) (get_more old m.0 place name e)
+
+pub zip_implied : {A B : Type 0} (R S : A → B → Type 0) → ((a : A) (b : B) → R a b → S a b) → (xs : List A) (ys : List B) → AllZip R xs ys → AllZip S xs ys
+zip_implied R S f [] [] all = tt
+zip_implied R S f [] (y ∷ ys) all = absurd all
+zip_implied R S f (x ∷ xs) [] all = absurd all
+zip_implied R S f (x ∷ xs) (y ∷ ys) all = (f x y all.0, zip_implied R S f xs ys all.1)
+
+pub zip_pushed : {A B : Type 0} (R : A → B → Type 0) (xs : List A) (ys : List B) (x : A) (y : B) → AllZip R xs ys → R x y → AllZip R (xs ++ x ∷ []) (ys ++ y ∷ [])
+zip_pushed R [] [] x y all one = (one, tt)
+zip_pushed R [] (b ∷ ys) x y all one = absurd all
+zip_pushed R (a ∷ xs) [] x y all one = absurd all
+zip_pushed R (a ∷ xs) (b ∷ ys) x y all one = (all.0, zip_pushed R xs ys x y all.1 one)
+
+pub named-more : (old new columns : List (List ℕ)) (places : List ℕ) → More old new → AreNamed old columns places → AreNamed new columns places
+named-more old new columns places m = zip_implied (λ column place. slice_get old place ≡ Some column) (λ column place. slice_get new place ≡ Some column) (λ column place e. get-more old new place column m e) columns places
+
+place-more : (old new : List (List ℕ)) (field : Option (List ℕ)) (place : Option ℕ) → More old new → IsPlaceOf old field place → IsPlaceOf new field place
+place-more old new None None m e = tt
+place-more old new None (Some place) m e = absurd e
+place-more old new (Some field) None m e = absurd e
+place-more old new (Some field) (Some place) m e = get-more old new place field m e
+
+pub read-more : (old new : List (List ℕ)) (metrics : List Metric) (inputs : List Input) → More old new → AreRead old metrics inputs → AreRead new metrics inputs
+read-more old new metrics inputs m =
+    zip_implied (λ (metric : Metric) (input : Input). (input.kind ≡ metric.kind) × IsPlaceOf old metric.field input.field) (λ (metric : Metric) (input : Input). (input.kind ≡ metric.kind) × IsPlaceOf new metric.field input.field)
+    (λ metric input h. (h.0, place-more old new metric.field input.field m h.1)) metrics inputs

@@ -1,0 +1,10 @@
+use Rattle.std.proofs.Common.{◌≡◌, ◌-◌, ◌≤◌, length}
+use Rattle.std.specs.List.{AllByRecursion}
+use Rattle.dr_events.specs.declared.scalar.Scalar.TheVariants.{Null}
+use Rattle.dr_events.proofs.event_reader.blank.Given as goal
+
+abbrev pub invariant-nulls : goal.invariant-nulls
+invariant-nulls l = AllByRecursion (λ s. s ≡ Null) l.found.items × (length l.found.items ≤ length l.names)
+
+abbrev pub decreases-nulls : goal.decreases-nulls
+decreases-nulls l = length l.names - length l.found.items

@@ -1,0 +1,4 @@
+pub mod NoBytes
+pub mod Patterns
+pub mod DistinctValues
+pub mod Levels

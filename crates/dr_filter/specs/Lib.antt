@@ -1,0 +1,9 @@
+pub mod Refusal
+pub mod Like
+pub mod Attempt
+pub mod Match
+pub mod Condition
+pub mod Values
+pub mod Fields
+pub mod TestOf
+pub mod FilterOf

@@ -1,0 +1,105 @@
+ghost use Rattle.std.specs.Prelude.{◌≡◌, map, option_map, bytes_eq, ◌||◌};
+ghost use Rattle.std.specs.List.{list_any, position};
+ghost use Rattle.serde_json.specs.View.{view, members_view};
+ghost use Rattle.dr_filter.specs.Refusal.{Gives};
+ghost use Rattle.dr_filter.specs.Fields.{is_no_dimension, dimension_of, strict_or_not, no_unlisted, only_lexicographic, ordering_object, ordering_of};
+
+use crate::filter_error::FilterError;
+use dr_base::{Text, bool_value, first_unlisted, object, text_field};
+use dr_schema::{Metrics, Schema};
+use serde_json::{Map, Value};
+use std::alloc::Global;
+
+/// The place of the dimension that a filter reads; none where the schema has no such column. Refusals: 2 and 3 of
+/// `dimension`, 61 `FilterOnMetric` with the name of a metric or of `__time`.
+#[tactic(auto, unfolding(crate::specs::Fields::dimension_of))]
+pub fn dimension(
+    alloc: Global,
+    value: &Value,
+    schema: &Schema,
+) -> Result<Option<usize>, FilterError>
+    ensures { Gives (λ p. p) result (dimension_of schema.now (view value.now)) }
+{
+    let name = text_field(alloc, value, "dimension")?;
+    if is_no_dimension(schema, name) {
+        return Err(FilterError::FilterOnMetric(Text::from_str(alloc, name)?));
+    }
+    Ok(place(schema.dimensions().as_slice(), name))
+}
+
+fn is_no_dimension(schema: &Schema, name: &str) -> bool
+    ensures { result ≡ is_no_dimension schema.now name.now }
+{
+    name == "__time" || is_metric(schema.metrics(), name)
+}
+
+fn is_metric(metrics: &Metrics, name: &str) -> bool
+    ensures { result ≡ list_any (λ m. bytes_eq name.now m.name) metrics.now }
+{
+    metrics
+        .as_slice()
+        .iter()
+        .any(|metric| name == metric.name.as_str())
+}
+
+fn place(names: &[Text], name: &str) -> Option<usize>
+    ensures { result ≡ position (bytes_eq name.now) names.now }
+{
+    names.iter().position(|other| name == other.as_str())
+}
+
+/// Whether a bound is strict: a truth value that may be absent, and is false then. Refusals: 3 `WrongKind` of the field.
+pub fn strict(alloc: Global, value: Option<&Value>, name: &str) -> Result<bool, FilterError>
+    ensures { Gives (λ b. b) result (strict_or_not name.now (option_map (λ v. view v.now) value.entry)) }
+{
+    match value {
+        Some(value) => Ok(bool_value(alloc, value, name)?),
+        None => Ok(false),
+    }
+}
+
+/// The order of a bound, which is `lexicographic` where it is given: that text, or an object of that type. Refusals: 60
+/// `UnknownFilter` with another text or type, 2 and 3 of `type`, 60 with another key of the object, 3 of `ordering`.
+pub fn ordering(alloc: Global, value: Option<&Value>) -> Result<(), FilterError>
+    ensures { Gives (λ u. u) result (ordering_of (option_map (λ v. view v.now) value.entry)) }
+{
+    match value {
+        None => Ok(()),
+        Some(Value::String(name)) => only_lexicographic(alloc, name.as_str()),
+        Some(value) => ordering_object(alloc, value),
+    }
+}
+
+#[tactic(auto, unfolding(crate::specs::Fields::ordering_object))]
+fn ordering_object(alloc: Global, value: &Value) -> Result<(), FilterError>
+    ensures { Gives (λ u. u) result (ordering_object (view value.now)) }
+{
+    let members = object(alloc, value, "ordering")?;
+    let name = text_field(alloc, value, "type")?;
+    only_lexicographic(alloc, name)?;
+    no_unlisted(alloc, members, &["type"])
+}
+
+fn only_lexicographic(alloc: Global, name: &str) -> Result<(), FilterError>
+    ensures { Gives (λ u. u) result (only_lexicographic name.now) }
+{
+    if name == "lexicographic" {
+        Ok(())
+    } else {
+        Err(FilterError::UnknownFilter(Text::from_str(alloc, name)?))
+    }
+}
+
+/// Refuses the first key that asks for something and is not listed, by 60 `UnknownFilter`.
+pub fn no_unlisted(
+    alloc: Global,
+    members: &Map<String, Value>,
+    listed: &[&str],
+) -> Result<(), FilterError>
+    ensures { Gives (λ u. u) result (no_unlisted (map (λ t. t.now) listed.now) (members_view members.now.entries)) }
+{
+    match first_unlisted(members, listed) {
+        Some(key) => Err(FilterError::UnknownFilter(Text::from_str(alloc, key)?)),
+        None => Ok(()),
+    }
+}

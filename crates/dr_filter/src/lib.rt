@@ -1,0 +1,21 @@
+//! Filters of rows, as a query or a spec asks for them: read from JSON for one schema, and asked of a row.
+//! A filter looks at the time and the dimension values of a row, and a test of one dimension can be asked of its value alone.
+#![tactic(auto)]
+
+mod bounds;
+mod dimension_test;
+mod fields;
+mod filter;
+mod filter_error;
+mod letters;
+mod like;
+mod reading;
+mod test_reading;
+mod value_test;
+mod values;
+
+pub use bounds::Bounds;
+pub use dimension_test::DimensionTest;
+pub use filter::Filter;
+pub use filter_error::FilterError;
+pub use value_test::ValueTest;

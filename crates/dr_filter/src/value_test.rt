@@ -1,0 +1,35 @@
+ghost use Rattle.std.specs.Prelude.{◌≡◌};
+ghost use Rattle.dr_filter.specs.Match.{passes as passes_of};
+
+use crate::bounds::Bounds;
+use crate::like::fits;
+use dr_base::Text;
+use dr_dict::TextSet;
+
+/// What is asked of the value of a dimension (Apache Druid documentation, query filters).
+#[derive(Drop)]
+pub enum ValueTest {
+    /// `selector`: it is this text.
+    Equals(Text),
+    /// `in`: it is one of these texts.
+    Among(TextSet),
+    /// `bound`: it lies in this range.
+    Within(Bounds),
+    /// `like`: it fits this pattern, in which `%` is any run of characters and `_` one Unicode scalar value.
+    Like(Text),
+}
+
+impl ValueTest {
+    /// Whether a value passes. It takes no memory, and expected time by the bytes of the value, but for a pattern by those
+    /// of the value times those of the pattern at worst; the number of texts of an `in` doesn't count.
+    pub fn passes(&self, value: &str) -> bool
+        ensures { result ≡ passes_of self.now value.now }
+    {
+        match self {
+            ValueTest::Equals(text) => value == text.as_str(),
+            ValueTest::Among(texts) => texts.contains(value),
+            ValueTest::Within(bounds) => bounds.hold(value),
+            ValueTest::Like(pattern) => fits(pattern.as_str(), value),
+        }
+    }
+}

@@ -1,0 +1,10 @@
+pub mod PieceLemmas
+pub mod WordLemmas
+pub mod PartLemmas
+pub mod StartLemmas
+pub mod ContentLemmas
+pub mod LayoutLemmas
+pub mod RankLemmas
+pub mod ReadingLemmas
+pub mod OpenLemmas
+pub mod DictionaryLemmas

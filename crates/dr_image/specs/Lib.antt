@@ -1,0 +1,11 @@
+pub mod Refusal
+pub mod Words
+pub mod Pieces
+pub mod Table
+pub mod Sealed
+pub mod Image
+pub mod Layout
+pub mod Parts
+pub mod Starts
+pub mod Opening
+pub mod Checked

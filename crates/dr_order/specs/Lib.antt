@@ -1,0 +1,5 @@
+pub mod Refusal
+pub mod Order
+pub mod Fields
+pub mod ColumnOf
+pub mod LimitSpecOf

@@ -1,0 +1,80 @@
+ghost use Rattle.std.specs.Prelude.{◌≡◌, ◌++◌, ◌∷◌, [], OnOk, OnErr};
+ghost use Rattle.dr_order.specs.Order.{columns_cmp, groups_cmp};
+
+use crate::order_column::OrderColumn;
+use dr_base::Text;
+use std::alloc::{AllocError, Global};
+use std::cmp::Ordering;
+use std::marker::Model;
+
+/// The columns that groups are ordered by, the first of them first. A contract sees the list of them.
+#[derive(Debug, Drop)]
+pub struct OrderColumns(Vec<OrderColumn>);
+
+impl Model for OrderColumns {
+    ghost use Rattle.std.specs.Prelude.{List};
+    ghost use Rattle.dr_order.specs.declared.order_column.OrderColumn.{OrderColumn};
+
+    ghost Value = { List OrderColumn };
+
+    ghost view = { λ c. c.0.items };
+}
+
+impl OrderColumns {
+    /// No column. It takes no memory.
+    pub fn new(alloc: Global) -> OrderColumns
+        ensures { result ≡ [] }
+    {
+        OrderColumns(Vec::new(alloc))
+    }
+
+    /// The columns as a slice.
+    pub fn as_slice(&self) -> &[OrderColumn]
+        ensures { result.now ≡ self.now }
+    {
+        self.0.as_slice()
+    }
+
+    /// Adds a column behind the others. The only error is that memory ran out.
+    pub fn push(&mut self, column: OrderColumn) -> Result<(), AllocError>
+        ensures ok { OnOk result (self.new ≡ self.old ++ column ∷ []) }
+        ensures err { OnErr result (self.new ≡ self.old) }
+    {
+        self.0.push(column)?;
+        Ok(())
+    }
+
+    /// How two groups of one bucket compare: by the columns, then by their dimension values ascending, each by its UTF-8
+    /// bytes. Of each group there are the dimension values and the values of the aggregations, in the order of the query.
+    /// It takes no memory, and time by the columns and the bytes of the values.
+    pub fn order(
+        &self,
+        dims: &[Text],
+        values: &[i64],
+        other_dims: &[Text],
+        other_values: &[i64],
+    ) -> Ordering
+        ensures { result ≡ groups_cmp self.now dims.now values.now other_dims.now other_values.now }
+    {
+        let order = by_columns(self.as_slice(), dims, values, other_dims, other_values);
+        order.then(dims.cmp(other_dims))
+    }
+}
+
+fn by_columns(
+    columns: &[OrderColumn],
+    dims: &[Text],
+    values: &[i64],
+    other_dims: &[Text],
+    other_values: &[i64],
+) -> Ordering
+    ensures { result ≡ columns_cmp columns.now dims.now values.now other_dims.now other_values.now }
+{
+    for column in columns {
+        let order = column.order(dims, values, other_dims, other_values);
+        if order != Ordering::Equal {
+            return order;
+        }
+    }
+    Ordering::Equal
+}

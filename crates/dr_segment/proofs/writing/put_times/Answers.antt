@@ -1,0 +1,11 @@
+use Rattle.std.proofs.Common.{◌∙◌, sym, ap, map, ◌++◌}
+use Rattle.dr_base.specs.declared.row.Row.{Row}
+use Rattle.dr_image.specs.Words.{eight_bytes}
+use Rattle.dr_segment.proofs.WritingLemmas.{all_of_them, longs_by, flat_map-map}
+use Rattle.dr_segment.proofs.writing.put_times.Goals as goal
+
+pub returns : goal.returns
+returns c =
+    let rows = c.args.rows.now in
+    all_of_them (λ (r : Row). eight_bytes r.key.time) c.args.out.now.items c.loop-row.out.items rows c.loop-row.row-index c.loop-row-test.false c.loop-row.invariant
+    ∙ ap (λ k. c.args.out.now.items ++ k) (sym (longs_by (map (λ (r : Row). r.key.time) rows) ∙ flat_map-map (λ (r : Row). r.key.time) eight_bytes rows))

@@ -1,0 +1,123 @@
+ghost use Rattle.std.specs.Prelude.{◌≡◌, ◌≤ℤ◌, ◌||◌, ℤ, IfOk, OnOk};
+ghost use Rattle.std.specs.List.{AllByRecursion};
+ghost use Rattle.dr_time.specs.Interval.{holds_time};
+ghost use Rattle.dr_time.specs.Joined.{AreApart, Rise, HoldSame, longer as longer_of};
+ghost use Rattle.dr_time.specs.Union.{union_holds, union_start, union_first_from};
+
+use crate::interval::Interval;
+use std::alloc::{AllocError, Global};
+use std::marker::Model;
+
+// The times of some intervals, in intervals that hold some time each, rise, and don't touch. A contract sees the list of these.
+#[derive(Debug, Drop)]
+pub struct Joined(Vec<Interval>);
+
+impl Model for Joined {
+    ghost use Rattle.std.specs.Prelude.{List};
+    ghost use Rattle.dr_time.specs.declared.interval.Interval.{Interval};
+    ghost use Rattle.dr_time.specs.Joined.{AreApart};
+
+    ghost Value = { List Interval };
+
+    ghost view = { λ j. j.0.items };
+
+    ghost invariant = { λ j. AreApart j.0.items };
+}
+
+impl Joined {
+    // The times of these intervals. The only error is that memory ran out.
+    pub fn of(alloc: Global, intervals: &[Interval]) -> Result<Joined, AllocError>
+        ensures { IfOk result (λ joined. HoldSame joined intervals.now) }
+    {
+        let mut sorted = Vec::from_slice(alloc, intervals)?;
+        sorted.sort_unstable_by_key(|interval| interval.start);
+        Ok(Joined(join_all(alloc, sorted.as_slice())?))
+    }
+
+    // The same intervals. The only error is that memory ran out.
+    pub fn copy(&self) -> Result<Joined, AllocError>
+        ensures { IfOk result (λ joined. joined ≡ self.now) }
+    {
+        let copy = Vec::from_slice(*self.0.allocator(), self.0.as_slice())?;
+        Ok(Joined(copy))
+    }
+
+    // Whether one of them holds this time, which is found in logarithmic time.
+    pub fn contains(&self, time: i64) -> bool
+        ensures { result ≡ union_holds self.now time }
+    {
+        let place = self.0.partition_point(|interval| interval.start <= time);
+        if place == 0 {
+            return false;
+        }
+        self.0[place - 1].contains(time)
+    }
+
+    // The start of the first.
+    pub fn start(&self) -> Option<i64>
+        ensures { result ≡ union_start self.now }
+    {
+        match self.0.first() {
+            None => None,
+            Some(interval) => interval.first(),
+        }
+    }
+
+    // The first time that isn't before `from`, which is found in logarithmic time.
+    pub fn first_from(&self, from: i64) -> Option<i64>
+        ensures { result ≡ union_first_from from self.now }
+    {
+        let place = self.0.partition_point(|interval| interval.end <= from);
+        if place == self.0.len() {
+            return None;
+        }
+        self.0[place].first_from(from)
+    }
+}
+
+fn join_all(alloc: Global, sorted: &[Interval]) -> Result<Vec<Interval>, AllocError>
+    requires { Rise sorted.now }
+    ensures apart { IfOk result (λ joined. AreApart joined.items) }
+    ensures same { IfOk result (λ joined. HoldSame joined.items sorted.now) }
+{
+    let mut joined = Vec::new(alloc);
+    for interval in sorted {
+        join(&mut joined, *interval)?;
+    }
+    Ok(joined)
+}
+
+// Joins one more interval, which starts before none of them, to the last one or puts it behind.
+fn join(joined: &mut Vec<Interval>, next: Interval) -> Result<(), AllocError>
+    requires apart { AreApart joined.old.items }
+    requires rising { AllByRecursion (λ i. i.start ≤ℤ next.start) joined.old.items }
+    ensures apart { OnOk result (AreApart joined.new.items) }
+    ensures rising { OnOk result (AllByRecursion (λ i. i.start ≤ℤ next.start) joined.new.items) }
+    ensures times { OnOk result ((t : ℤ) → union_holds joined.new.items t ≡ union_holds joined.old.items t || holds_time next t) }
+{
+    if next.is_empty() {
+        return Ok(());
+    }
+    let len = joined.len();
+    if len > 0 {
+        if let Some(longer) = longer(&joined[len - 1], &next) {
+            joined[len - 1] = longer;
+            return Ok(());
+        }
+    }
+    joined.push(next)?;
+    Ok(())
+}
+
+// Both intervals as one, where the other one starts before this one ends, or just then.
+fn longer(interval: &Interval, next: &Interval) -> Option<Interval>
+    ensures { result ≡ longer_of interval.now next.now }
+{
+    if interval.end < next.start {
+        return None;
+    }
+    Some(Interval {
+        start: interval.start,
+        end: interval.end.max(next.end),
+    })
+}

@@ -1,5 +1,0 @@
-use Rattle.std.proofs.Common.{◌≡◌, take, map}
-use Rattle.dr_timeline.proofs.planned.are_ranges.Given as goal
-
-abbrev pub invariant-loop-i : goal.invariant-loop-i
-invariant-loop-i l = (map (λ r. r.serial) (take l.i l.ranges) ≡ take l.i l.serials) × (map (λ r. r.fragment) (take l.i l.ranges) ≡ take l.i l.inputs)

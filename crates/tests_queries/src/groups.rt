@@ -1,0 +1,102 @@
+use dr_base::Text;
+use dr_having::Having;
+use dr_order::LimitSpec;
+use serde_json::Value;
+use std::alloc::Global;
+use std::cmp::Ordering;
+use std::test::Fail;
+
+fn text(alloc: Global, text: &str) -> Result<Text, Fail> {
+    Ok(Text::from_str(alloc, text)?)
+}
+
+// 1 where a group of page A with the values 5 and -2 meets the condition, 0 where it doesn't, and the number of its refusal.
+fn met(alloc: Global, having: &str) -> Result<u16, Fail> {
+    let dimensions = [text(alloc, "page")?];
+    let aggregations = [text(alloc, "added")?, text(alloc, "lo")?];
+    let value = Value::from_str(alloc, having)?;
+    match Having::parse(alloc, &value, &dimensions, &aggregations) {
+        Ok(having) => Ok(u16::from(having.meets(&[text(alloc, "A")?], &[5, -2]))),
+        Err(error) => Ok(error.number()),
+    }
+}
+
+const MET: [(&str, u16); 12] = [
+    (
+        r#"{"type":"greaterThan","aggregation":"added","value":4}"#,
+        1,
+    ),
+    (
+        r#"{"type":"greaterThan","aggregation":"added","value":5}"#,
+        0,
+    ),
+    (r#"{"type":"lessThan","aggregation":"lo","value":-1}"#, 1),
+    (r#"{"type":"equalTo","aggregation":"lo","value":-2}"#, 1),
+    (r#"{"type":"equalTo","aggregation":"page","value":5}"#, 77),
+    (r#"{"type":"equalTo","aggregation":"lo"}"#, 2),
+    (r#"{"type":"equalTo","aggregation":"lo","value":1.5}"#, 3),
+    (
+        r#"{"type":"dimSelector","dimension":"page","value":"A"}"#,
+        1,
+    ),
+    (r#"{"type":"dimSelector","dimension":"page"}"#, 0),
+    (
+        r#"{"type":"not","havingSpec":{"type":"or","havingSpecs":[]}}"#,
+        1,
+    ),
+    (r#"{"type":"and","havingSpecs":[]}"#, 1),
+    (r#"{"type":"always"}"#, 76),
+];
+
+#[test]
+fn groups_meet_conditions_by_their_table(rt: HostRuntime) -> Result<(), Fail> {
+    for (having, expected) in MET {
+        assert!(rt; met(rt.alloc(), having)? == expected);
+    }
+    Ok(())
+}
+
+// How group (A, 5) compares with group (B, 5): -1, 0 or 1; and the number of the refusal.
+fn compared(alloc: Global, spec: &str) -> Result<i64, Fail> {
+    let dimensions = [text(alloc, "page")?];
+    let aggregations = [text(alloc, "added")?];
+    let value = Value::from_str(alloc, spec)?;
+    match LimitSpec::parse(alloc, Some(&value), &dimensions, &aggregations) {
+        Ok(spec) => {
+            let order = spec
+                .columns
+                .order(&[text(alloc, "A")?], &[5], &[text(alloc, "B")?], &[5]);
+            Ok(if order == Ordering::Less { -1 } else { 1 })
+        }
+        Err(error) => Ok(i64::from(error.number())),
+    }
+}
+
+const COMPARED: [(&str, i64); 9] = [
+    (r#"{"type":"default"}"#, -1),
+    (r#"{"type":"NoopLimitSpec"}"#, -1),
+    (
+        r#"{"columns":[{"dimension":"added","direction":"DESCENDING"}]}"#,
+        -1,
+    ),
+    (
+        r#"{"columns":["added",{"dimension":"page","direction":"descending"}]}"#,
+        1,
+    ),
+    (r#"{"columns":["page"],"limit":0}"#, -1),
+    (r#"{"columns":["lang"]}"#, 73),
+    (
+        r#"{"columns":[{"dimension":"page","dimensionOrder":"numeric"}]}"#,
+        76,
+    ),
+    (r#"{"limit":-1}"#, 3),
+    (r#"{"type":"NoopLimitSpec","limit":5}"#, 76),
+];
+
+#[test]
+fn groups_are_ordered_by_columns(rt: HostRuntime) -> Result<(), Fail> {
+    for (spec, expected) in COMPARED {
+        assert!(rt; compared(rt.alloc(), spec)? == expected);
+    }
+    Ok(())
+}

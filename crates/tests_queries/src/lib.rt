@@ -1,0 +1,10 @@
+//! Tests of the public calls of `dr_filter`, `dr_having`, `dr_order` and `dr_ask`, which no program makes yet.
+//! They stand here so that no crate below them is proved once more with its tests.
+#![tactic(auto)]
+
+#[cfg(test)]
+mod filters;
+#[cfg(test)]
+mod groups;
+#[cfg(test)]
+mod queries;
