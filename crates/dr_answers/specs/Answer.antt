@@ -46,10 +46,12 @@ result_data (group_by asked) aggregations g = object (
 abbrev pub text_of : Asked → List ResultRow → List ℕ
 text_of q given = compact_text (array (items_of (map (result_data q.shape q.aggregations) given)))
 
--- the text of the groups that are given, where there are not too many groups
-abbrev pub answer_of : Asked → List ResultRow → Result (List ℕ) AnswerError
-answer_of q groups = if nat_lt max_groups (length groups) then Err ResultTooLarge else Ok (text_of q (given_by q.shape groups))
+-- the groups that are given, where there are not too many groups
+abbrev pub given_of : Asked → List ResultRow → Result (List ResultRow) AnswerError
+given_of q groups = if nat_lt max_groups (length groups) then Err ResultTooLarge else Ok (given_by q.shape groups)
 
 -- the answer to a query over rows
 unfoldable pub answer : Asked → List Row → Result (List ℕ) AnswerError
-answer q rows = answer_of q (groups q rows)
+answer q rows = do
+  given ← given_of q (groups q rows)
+  Ok (text_of q given)

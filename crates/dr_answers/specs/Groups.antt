@@ -11,7 +11,7 @@ use Rattle.dr_base.specs.Order.{key_cmp}
 use Rattle.dr_filter.specs.Match.{value_at}
 use Rattle.dr_gran.specs.Buckets as gran
 use Rattle.dr_ask.specs.declared.dimension.Dimension.{Dimension}
-use Rattle.dr_ask.specs.Asked.{Asked, AskedShape, timeseries, group_by}
+use Rattle.dr_ask.specs.Asked.{Asked, AskedShape, timeseries, group_by, dimensions_by}
 use Rattle.dr_answers.specs.declared.result_row.ResultRow.{ResultRow}
 use Rattle.dr_answers.specs.Fold.{folds}
 use Rattle.dr_answers.specs.Selection.{selected}
@@ -58,10 +58,6 @@ filled q rows = map (λ b. record { time = b; dims = [] }) (filled_in q (span ro
 abbrev pub keys_by : AskedShape → Asked → List Row → List Key
 keys_by (timeseries t) q rows = if t.skips_empty_buckets then groups_of q [] (selected q rows) else filled q rows
 keys_by (group_by g) q rows = groups_of q g.dimensions (selected q rows)
-
-abbrev pub dimensions_by : AskedShape → List Dimension
-dimensions_by (timeseries t) = []
-dimensions_by (group_by g) = g.dimensions
 
 -- a group with the folds of its selected rows
 abbrev pub group : Asked → List Row → Key → ResultRow

@@ -1,5 +1,5 @@
 -- What a query asks (Apache Druid documentation, timeseries and groupBy queries).
-use Rattle.std.specs.Prelude.{Bool, List, Option, option_map}
+use Rattle.std.specs.Prelude.{Bool, List, [], Option, option_map}
 use Rattle.dr_time.specs.declared.interval.Interval.{Interval}
 use Rattle.dr_gran.specs.declared.gran.Gran.{Gran}
 use Rattle.dr_filter.specs.Condition as filter
@@ -23,6 +23,11 @@ pub record AskedGroups : Type 0 where
 pub data AskedShape : Type 0 where
   timeseries : Timeseries → AskedShape
   group_by : AskedGroups → AskedShape
+
+-- the dimensions that it groups by: none in a timeseries
+abbrev pub dimensions_by : AskedShape → List Dimension
+dimensions_by (timeseries t) = []
+dimensions_by (group_by g) = g.dimensions
 
 -- of which rows, in which buckets, and what of them; and whether the rows of the schema are rolled up
 pub record Asked : Type 0 where

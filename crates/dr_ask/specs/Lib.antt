@@ -10,3 +10,4 @@ pub mod Asked
 pub mod ShapeOf
 pub mod Matching
 pub mod QueryOf
+pub mod MadeFor

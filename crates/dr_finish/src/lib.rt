@@ -1,0 +1,7 @@
+//! From the partial result of a query to the groups that it gives: buckets filled, groups kept that a `having` keeps, put in
+//! order, without the first ones and at most so many.
+#![tactic(auto)]
+
+mod finishing;
+
+pub use finishing::finish;
