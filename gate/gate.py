@@ -73,7 +73,10 @@ class Run:
         self.proved = Tree(copy_to(f"{copy}/proved", MUST_FAIL, FURTHER))
         self.sources, self.record, self.turn = Sources(self.whole), Record(self.whole), turn()
         self.lanes = min(processors(), 4)
-        self.edit_lanes = ThreadPoolExecutor(max(self.lanes // 2, 1))
+        # beside the proofs edits have half of the lanes, and all of them once these have ended
+        self.edit_lanes = ThreadPoolExecutor(self.lanes)
+        self.beside = max(self.lanes // 2, 1)
+        self.free_lanes = threading.Semaphore(self.beside)
         self.left = {it: self.due(it) for it in self.whole.uses}
         self.proofs = Proofs(self.proved, self.lanes, self.on_proved, gate.say)
         self.is_built = threading.Event()
@@ -98,7 +101,8 @@ class Run:
     def try_edits(self, crate):
         edits = self.left[crate]
         try:
-            refused = try_edits(self.whole, crate, edits, self.proved.top, self.gate.say)
+            with self.free_lanes:
+                refused = try_edits(self.whole, crate, edits, self.proved.top, self.gate.say)
         except Exception as error:  # what goes wrong here must not pass for a refusal
             refused = []
             self.gate.say(f"the edits of {crate} could not be tried: {error!r}")
@@ -152,6 +156,8 @@ class Run:
         for name in self.proofs.failed:
             self.gate.fail(name)
         self.gate.ended("rt ci has ended")
+        for _ in range(self.lanes - self.beside):
+            self.free_lanes.release()
         if not has_run_cases:
             self.gate.fail("examples", "the program is not proved")
         self.finish_edits()
