@@ -188,7 +188,7 @@ pin-run schema es ess old h = record {
 pub as-before : (schema : Schema) (es : List Event) (ess : List (List Event)) (c : CoreState) → IsRunSoFar schema es ess c → IsRunSoFar schema (es ++ []) (ess ++ []) c
 as-before schema es ess c h = stays schema es ess c [] [] refl refl h
 
-taken-run : (schema : Schema) (es : List Event) (ess : List (List Event)) (old : CoreState) (s : Step) → 1 ≤ schema.limits.max_rows_in_memory → IsRunSoFar schema es ess old → Follows schema es ess s (taken old s)
+pub taken-run : (schema : Schema) (es : List Event) (ess : List (List Event)) (old : CoreState) (s : Step) → 1 ≤ schema.limits.max_rows_in_memory → IsRunSoFar schema es ess old → Follows schema es ess s (taken old s)
 taken-run schema es ess old (Accept e) least h =
     told-if (Follows schema es ess (Accept e)) (λ (a : ℕ × CoreState). (Accepted a.0, a.1)) (with_answer old) old _ StreamFull _ (λ _. refused-run schema es ess old (Accept e) StreamFull h) (λ _. accept-run schema es ess old e least h)
 taken-run schema es ess old (Seal k) least h =
