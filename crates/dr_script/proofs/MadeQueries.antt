@@ -16,7 +16,7 @@ use Rattle.dr_query.specs.Step.{no_unlisted}
 use Rattle.dr_query.proofs.MadeQueries.{columns-aggregations_of}
 
 -- what a reading of two steps gives, its second step gave
-through : {A B E : Type 0} (r : Result A E) (f : A → Result B E) (x : B) {P : Type 0} → (r >>= f) ≡ Ok x → ((y : A) → r ≡ Ok y → f y ≡ Ok x → P) → P
+pub through : {A B E : Type 0} (r : Result A E) (f : A → Result B E) (x : B) {P : Type 0} → (r >>= f) ≡ Ok x → ((y : A) → r ≡ Ok y → f y ≡ Ok x → P) → P
 through (Ok y) f x e then = then y refl e
 through (Err g) f x e then = cc
 
