@@ -206,7 +206,7 @@ def main(folder, first, count, program=None):
         script = Writer(number).script()
         wanted = answers.run(script)
         if program:
-            ran = subprocess.run([program, "run"], input=script, capture_output=True, check=False)
+            ran = subprocess.run(["timeout", "60", program, "run"], input=script, capture_output=True, check=False)
             if (ran.stdout, ran.returncode) == wanted:
                 continue
             differ += 1
