@@ -5,6 +5,7 @@ use Rattle.serde_json.specs.Data.{Data, null, number, string, array, object, Mem
 use Rattle.serde_json.specs.Find.{of_integer}
 use Rattle.serde_json.specs.View.{items_of}
 use Rattle.serde_json.specs.Written.{compact_text}
+use Rattle.dr_base.specs.Reading.{◌>>=◌}
 use Rattle.dr_base.specs.declared.row.Row.{Row}
 use Rattle.dr_time.specs.Printed.{instant_text}
 use Rattle.dr_ask.specs.declared.aggregation.Aggregation.{Aggregation}
