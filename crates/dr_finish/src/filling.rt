@@ -37,11 +37,7 @@ pub fn filled(
 }
 
 /// The starts of the buckets, at most one more than an answer may have.
-fn starts(
-    alloc: Global,
-    query: &Query,
-    span: Option<(i64, i64)>,
-) -> Result<Vec<i64>, AllocError>
+fn starts(alloc: Global, query: &Query, span: Option<(i64, i64)>) -> Result<Vec<i64>, AllocError>
     requires { IfSome span (λ s. IsInstant s.0 × IsInstant s.1) }
     ensures { IfOk result (λ starts. starts.items ≡ filled_in (asked query.now) span) }
 {
@@ -49,13 +45,19 @@ fn starts(
         None => Ok(Vec::new(alloc)),
         Some((from, to)) => listed(
             alloc,
-            Buckets::new(query.granularity, &query.intervals, from, to, MAX_GROUPS + 1),
+            Buckets::new(
+                query.granularity,
+                &query.intervals,
+                from,
+                to,
+                MAX_GROUPS + 1,
+            ),
         ),
     }
 }
 
 fn listed(alloc: Global, buckets: Buckets<'_>) -> Result<Vec<i64>, AllocError>
-    ensures { IfOk result (λ starts. starts.items ≡ buckets) }
+    ensures { IfOk result (λ starts. starts.items ≡ buckets.entry) }
 {
     let mut starts = Vec::new(alloc);
     for start in buckets {

@@ -2,4 +2,4 @@ use Rattle.std.proofs.Common.{◌≡◌, ◌++◌}
 use Rattle.dr_finish.proofs.filling.listed.Given as goal
 
 abbrev pub invariant-loop-start : goal.invariant-loop-start
-invariant-loop-start l = ?
+invariant-loop-start l = l.starts.items ++ l.start-iterator ≡ l.fn.buckets
