@@ -7,15 +7,13 @@ ghost use Rattle.dr_partial.specs.Partial.{filled_row, values_at};
 ghost use Rattle.dr_time.specs.Instant.{IsInstant};
 ghost use Rattle.dr_finish.specs.Finished.{few_of};
 
+use crate::bound::MAX_GROUPS;
 use dr_answers::{AnswerError, ResultRow};
 use dr_ask::{Aggregation, Query};
 use dr_base::{Numbers, Texts};
 use dr_gran::Buckets;
 use dr_partial::Partial;
 use std::alloc::{AllocError, Global};
-
-/// How many groups or buckets there may be, before any limit.
-pub const MAX_GROUPS: usize = 100_000;
 
 /// The buckets of a query that hold a millisecond both of its intervals and of a span of times, rising, each with its folds;
 /// those of no row where no group is of that bucket. Refusals: 81 `ResultTooLarge` where there are over 100000 buckets, before
@@ -43,7 +41,7 @@ fn starts(alloc: Global, query: &Query, span: Option<(i64, i64)>) -> Result<Vec<
 {
     match span {
         None => Ok(Vec::new(alloc)),
-        Some((from, to)) => listed(
+        Some((from, to)) => collected(
             alloc,
             Buckets::new(
                 query.granularity,
@@ -56,7 +54,7 @@ fn starts(alloc: Global, query: &Query, span: Option<(i64, i64)>) -> Result<Vec<
     }
 }
 
-fn listed(alloc: Global, buckets: Buckets<'_>) -> Result<Vec<i64>, AllocError>
+fn collected(alloc: Global, buckets: Buckets<'_>) -> Result<Vec<i64>, AllocError>
     ensures { IfOk result (λ starts. starts.items ≡ buckets.entry) }
 {
     let mut starts = Vec::new(alloc);

@@ -2,6 +2,7 @@
 //! order, without the first ones and at most so many.
 #![tactic(auto)]
 
+mod bound;
 mod filling;
 mod finishing;
 mod giving;

@@ -3,7 +3,7 @@ ghost use Rattle.dr_answers.specs.AnswerRefusal.{Answers};
 ghost use Rattle.dr_partial.specs.Partial.{result_row};
 ghost use Rattle.dr_finish.specs.Finished.{few_of};
 
-use crate::filling::MAX_GROUPS;
+use crate::bound::MAX_GROUPS;
 use dr_answers::{AnswerError, ResultRow};
 use dr_base::Row;
 use dr_partial::Partial;
