@@ -1,0 +1,3 @@
+pub mod ResultOrder
+pub mod StableOrder
+pub mod Printing

@@ -1,14 +1,18 @@
-ghost use Rattle.std.specs.Prelude.{IfOk, IfSome};
+ghost use Rattle.std.specs.Prelude.{◌≡◌, IfOk, IfSome};
 ghost use Rattle.std.specs.List.{All, AllByRecursion};
 ghost use Rattle.dr_answers.specs.AnswerRefusal.{Answers};
-ghost use Rattle.dr_ask.specs.Asked.{asked};
-ghost use Rattle.dr_finish.specs.Finished.{finished};
+ghost use Rattle.dr_ask.specs.Asked.{asked, asked_shape};
+ghost use Rattle.dr_finish.specs.Finished.{finished, few_of, fills_buckets};
 ghost use Rattle.dr_intervals.specs.Printable.{StartsPrintable};
+ghost use Rattle.dr_partial.specs.Partial.{groups_from};
 ghost use Rattle.dr_time.specs.Instant.{IsInstant};
 ghost use Rattle.dr_time.specs.Printed.{IsPrintable};
 
+use crate::filling::filled;
+use crate::giving::given;
+use crate::listing::listed;
 use dr_answers::{AnswerError, ResultRow};
-use dr_ask::Query;
+use dr_ask::{Query, Shape};
 use dr_partial::Partial;
 use std::alloc::Global;
 
@@ -16,17 +20,49 @@ use std::alloc::Global;
 /// least to the greatest time, both included, in milliseconds since the epoch (Apache Druid documentation, timeseries and
 /// groupBy queries, having and limitSpec). Refusals: 81 `ResultTooLarge` where there are over 100000 groups or buckets before
 /// having, offset and limit.
+///
+/// The values of a group are moved and not copied, but for those of the buckets of a timeseries that doesn't skip empty ones.
+/// A timeseries takes time and memory by its groups or buckets, and for each bucket that is filled what looking it up takes;
+/// a groupBy takes n log n in its groups, with the columns and the bytes of the dimension values for each comparison.
 pub fn finish(
     alloc: Global,
     query: &Query,
     partial: Partial,
     span: Option<(i64, i64)>,
 ) -> Result<Vec<ResultRow>, AnswerError>
-    requires span { IfSome span (λ s. IsInstant s.0 × IsInstant s.1) }
-    requires starts { All StartsPrintable query.now.intervals }
-    requires buckets { AllByRecursion (λ g. IsPrintable g.key.time) partial }
+    requires instants { IfSome span (λ s. IsInstant s.0 × IsInstant s.1) }
+    requires intervals { All StartsPrintable query.now.intervals }
+    requires partial { AllByRecursion (λ g. IsPrintable g.key.time) partial }
     ensures value { Answers (λ groups. groups.items) result (finished (asked query.now) span partial) }
     ensures printable { IfOk result (λ groups. AllByRecursion (λ g. IsPrintable g.time) groups.items) }
 {
-    Err(AnswerError::NoMemory)
+    let groups = groups(alloc, query, partial, span)?;
+    Ok(given(&query.shape, groups)?)
+}
+
+/// The groups or buckets of a query.
+fn groups(
+    alloc: Global,
+    query: &Query,
+    partial: Partial,
+    span: Option<(i64, i64)>,
+) -> Result<Vec<ResultRow>, AnswerError>
+    requires { IfSome span (λ s. IsInstant s.0 × IsInstant s.1) }
+    ensures { Answers (λ groups. groups.items) result (few_of (groups_from (asked query.now) span partial)) }
+{
+    if is_filled(&query.shape) {
+        filled(alloc, query, &partial, span)
+    } else {
+        listed(alloc, partial)
+    }
+}
+
+/// Whether empty buckets are filled.
+fn is_filled(shape: &Shape) -> bool
+    ensures { result ≡ fills_buckets (asked_shape shape.now) }
+{
+    match shape {
+        Shape::Timeseries(series) => !series.skips_empty_buckets,
+        Shape::GroupBy(_) => false,
+    }
 }

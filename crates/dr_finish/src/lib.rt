@@ -2,6 +2,13 @@
 //! order, without the first ones and at most so many.
 #![tactic(auto)]
 
+mod bound;
+mod filling;
 mod finishing;
+mod giving;
+mod keeping;
+mod limiting;
+mod listing;
+mod ordering;
 
 pub use finishing::finish;
