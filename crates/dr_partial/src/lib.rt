@@ -2,6 +2,13 @@
 //! aggregation folds to. One pass over the rows, in which each finds its group by hashing.
 #![tactic(auto)]
 
+mod group_of;
+mod grouping;
+mod laws;
 mod partial;
+mod reading;
+mod rows;
+mod selecting;
 
+pub use laws::groups_from_partial;
 pub use partial::Partial;
