@@ -27,16 +27,19 @@ pub fn add(
         return Ok(());
     }
     let alloc = *groups.allocator();
-    let dims = copies(alloc, group.dims)?;
+    let key = key_of(alloc, group)?;
     let values = readings(alloc, aggregations, metrics)?;
-    put(
-        groups,
-        Key {
-            time: group.time,
-            dims,
-        },
-        values,
-    )
+    put(groups, key, values)
+}
+
+// The key of a group. It shares the long texts.
+fn key_of(alloc: Global, group: &GroupOf<'_>) -> Result<Key, AllocError>
+    ensures { IfOk result (λ key. key ≡ record { time = group.now.time; dims = group.now.dims.now }) }
+{
+    Ok(Key {
+        time: group.time,
+        dims: copies(alloc, group.dims)?,
+    })
 }
 
 // The place of a group, where there is one.

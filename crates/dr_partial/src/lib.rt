@@ -2,6 +2,7 @@
 //! aggregation folds to. One pass over the rows, in which each finds its group by hashing.
 #![tactic(auto)]
 
+mod events;
 mod group_of;
 mod grouping;
 mod laws;

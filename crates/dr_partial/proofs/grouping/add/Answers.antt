@@ -15,9 +15,9 @@ returns-in-Some c =
 pub returns : goal.returns
 returns c =
     let all = c.args.aggregations.now in
-    let dims = c.in_ok-dims.ensures in
+    let key = c.in_ok-key.ensures in
     let values = c.in_ok-values.ensures in
     let g : Row = record { key = record { time = c.args.group.now.time; dims = c.args.group.now.dims.now }; metrics = folds_alone all c.args.metrics.now } in
     put-adds (kinds_in all) (map row_of c.args.groups.now.entries) c.requires g _ (map row_of c.put.new.groups.entries) c.put.result
-    (λ i. record { key = record { time = c.args.group.now.time; dims = dims i }; metrics = values i })
+    (λ i. record { key = key i; metrics = values i })
     (c.in_default.ensures.none refl) (fits-alone all c.args.metrics.now) c.put.ensures
