@@ -1,0 +1,4 @@
+pub mod Alone
+pub mod Adding
+pub mod Groups
+pub mod Pieces

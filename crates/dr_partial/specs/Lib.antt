@@ -1,2 +1,3 @@
 pub mod Partial
+pub mod Grouped
 pub mod Laws

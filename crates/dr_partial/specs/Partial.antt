@@ -1,7 +1,6 @@
 -- The groups of a query put together row by row: each selected row is a group of its own at first, and groups of one bucket
 -- and the same dimension values are combined (Apache Druid documentation, timeseries and groupBy queries).
 use Rattle.std.specs.Prelude.{ℤ, List, [], ◌∷◌, true, Option, Some, None, unwrap_or, map, if◌then◌else◌}
-use Rattle.std.specs.Ordering.{int_eq}
 use Rattle.dr_base.specs.declared.row.Row.{Row}
 use Rattle.dr_agg.specs.declared.kind.Kind.{Kind}
 use Rattle.dr_agg.specs.Rollup.{rollup}
@@ -9,7 +8,7 @@ use Rattle.dr_ask.specs.declared.aggregation.Aggregation.{Aggregation}
 use Rattle.dr_ask.specs.Asked.{Asked, AskedShape, timeseries, group_by, dimensions_by}
 use Rattle.dr_answers.specs.declared.result_row.ResultRow.{ResultRow}
 use Rattle.dr_answers.specs.Fold.{folds}
-use Rattle.dr_answers.specs.Groups.{group_of, filled_in}
+use Rattle.dr_answers.specs.Groups.{group_of, is_same_group, filled_in}
 use Rattle.dr_answers.specs.Selection.{selected}
 
 -- how each aggregation combines
@@ -29,10 +28,10 @@ partial q rows = rollup true (kinds_in q.aggregations) (map (alone q) (selected 
 abbrev pub result_row : Row → ResultRow
 result_row g = record { time = g.key.time; dims = g.key.dims; values = g.metrics }
 
--- the folds of the first group of a bucket
+-- the folds of the group of a bucket that has no dimension values
 abbrev pub values_at : ℤ → List Row → Option (List ℤ)
 values_at b [] = None
-values_at b (g ∷ gs) = if int_eq g.key.time b then Some g.metrics else values_at b gs
+values_at b (g ∷ gs) = if is_same_group (record { time = b; dims = [] }) g.key then Some g.metrics else values_at b gs
 
 -- a bucket with its folds, which are those of no row where no row lies in it
 abbrev pub filled_row : Asked → List Row → ℤ → ResultRow

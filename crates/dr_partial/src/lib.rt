@@ -2,6 +2,14 @@
 //! aggregation folds to. One pass over the rows, in which each finds its group by hashing.
 #![tactic(auto)]
 
+mod events;
+mod group_of;
+mod grouping;
+mod laws;
 mod partial;
+mod reading;
+mod rows;
+mod selecting;
 
+pub use laws::groups_from_partial;
 pub use partial::Partial;

@@ -1,45 +1,60 @@
 ghost use Rattle.std.specs.Prelude.{◌≡◌, IfOk, length, map, option_map};
-ghost use Rattle.std.specs.List.{AllByRecursion, flat_map};
+ghost use Rattle.std.specs.List.{All, AllByRecursion, flat_map};
 ghost use Rattle.dr_agg.specs.Rollup.{all_rows};
 ghost use Rattle.dr_ask.specs.Asked.{asked};
+ghost use Rattle.dr_intervals.specs.Printable.{StartsPrintable};
+ghost use Rattle.dr_rollup.specs.Entries.{row_of};
 ghost use Rattle.dr_rollup.specs.Unrolled.{unrolled};
 ghost use Rattle.dr_schema.specs.Fits.{FitsSchema};
 ghost use Rattle.dr_time.specs.Instant.{IsInstant};
+ghost use Rattle.dr_time.specs.Printed.{IsPrintable};
 ghost use Rattle.dr_partial.specs.Partial.{partial, values_at};
 
+use crate::events::add_event_pieces;
+use crate::group_of::GroupOf;
+use crate::rows::add_pieces;
+use dr_agg::sort_rows;
 use dr_ask::Query;
-use dr_base::{Event, Row};
+use dr_base::{Event, Key, Numbers, Row};
 use dr_schema::Schema;
+use indexmap::IndexMap;
 use std::alloc::{AllocError, Global};
 use std::marker::Model;
 
 /// The groups of a query over some rows, by bucket and dimension values, each with what the aggregations fold to. A contract
 /// sees them as rows in the order of their keys: the bucket as the time, the values of the query's dimensions, and the folds.
+///
+/// A row finds its group by hashing the start of its bucket and the values of the query's dimensions, in expected constant time
+/// however many groups there are, and is combined into it in place.
 #[derive(Drop)]
 pub struct Partial {
-    groups: Vec<Row>,
+    groups: IndexMap<Key, Numbers>,
 }
 
 impl Model for Partial {
-    ghost use Rattle.std.specs.Prelude.{◌≡◌, List, []};
+    ghost use Rattle.std.specs.Prelude.{List, map};
     ghost use Rattle.dr_base.specs.declared.row.Row.{Row};
+    ghost use Rattle.dr_rollup.specs.Entries.{row_of};
+    ghost use Rattle.dr_partial.specs.Grouped.{in_order};
 
     ghost Value = { List Row };
 
-    ghost view = { λ p. p.groups.items };
-
-    ghost invariant = { λ p. p.groups.items ≡ [] };
+    ghost view = { λ p. in_order (map row_of p.groups.entries) };
 }
 
 impl Partial {
     /// The groups of the rows of some pieces, one piece after another, whose times lie from 0001-01-01 to 9999-12-31. The only
     /// error is that memory ran out. It takes expected time by the rows and the bytes of their dimension values, and memory by
-    /// the groups.
+    /// the groups. Where the intervals of the query start at times that can be printed, so do the buckets.
     pub fn of_rows(alloc: Global, query: &Query, pieces: &[&[Row]]) -> Result<Partial, AllocError>
         requires { AllByRecursion (λ r. IsInstant r.key.time) (all_rows (map (λ p. p.now) pieces.now)) }
-        ensures { IfOk result (λ p. p ≡ partial (asked query.now) (all_rows (map (λ p. p.now) pieces.now))) }
+        ensures value { IfOk result (λ p. p ≡ partial (asked query.now) (all_rows (map (λ p. p.now) pieces.now))) }
+        ensures printable { All StartsPrintable query.now.intervals → IfOk result (λ p. AllByRecursion (λ g. IsPrintable g.key.time) p) }
     {
-        Err(AllocError)
+        let mut groups = IndexMap::new(alloc);
+        let mut group = Vec::new(alloc);
+        add_pieces(&mut groups, &mut group, query, pieces)?;
+        Ok(Partial { groups })
     }
 
     /// The groups of events that fit a schema, each as a row of its own, with its time truncated; of some pieces, one piece
@@ -51,9 +66,13 @@ impl Partial {
         pieces: &[&[Event]],
     ) -> Result<Partial, AllocError>
         requires { AllByRecursion (FitsSchema schema.now) (flat_map (λ p. p.now) pieces.now) }
-        ensures { IfOk result (λ p. p ≡ partial (asked query.now) (map (unrolled schema.now) (flat_map (λ p. p.now) pieces.now))) }
+        ensures value { IfOk result (λ p. p ≡ partial (asked query.now) (map (unrolled schema.now) (flat_map (λ p. p.now) pieces.now))) }
+        ensures printable { All StartsPrintable query.now.intervals → IfOk result (λ p. AllByRecursion (λ g. IsPrintable g.key.time) p) }
     {
-        Err(AllocError)
+        let mut groups = IndexMap::new(alloc);
+        let mut group = Vec::new(alloc);
+        add_event_pieces(&mut groups, &mut group, query, schema, pieces)?;
+        Ok(Partial { groups })
     }
 
     /// How many groups there are.
@@ -63,21 +82,38 @@ impl Partial {
         self.groups.len()
     }
 
-    /// The folds of the first group of a bucket, which is given by its start in milliseconds since the epoch; none where no
-    /// group is of that bucket.
+    /// The folds of the group of a bucket that has no dimension values, as each has in a timeseries; none where there is no such
+    /// group. The bucket is given by its start in milliseconds since the epoch. It takes expected constant time.
     pub fn values_at(&self, bucket: i64) -> Option<&[i64]>
         ensures { option_map (λ v. v.now) result ≡ values_at bucket self.now }
     {
-        if self.groups.len() == 0 {
-            return None;
+        match self.groups.get(GroupOf {
+            time: bucket,
+            dims: &[],
+        }) {
+            Some(values) => Some(values.as_slice()),
+            None => None,
         }
-        None
     }
 
-    /// The groups in the order of their keys. The only error is that memory ran out. It takes the time that sorting them takes.
+    /// The groups in the order of their keys. The only error is that memory ran out. It takes the time that sorting them takes;
+    /// keys and folds aren't copied.
     pub fn into_rows(self) -> Result<Vec<Row>, AllocError>
         ensures { IfOk result (λ rows. rows.items ≡ self) }
     {
-        Ok(self.groups)
+        let mut rows = rows_of(self.groups)?;
+        sort_rows(&mut rows)?;
+        Ok(rows)
     }
+}
+
+// The groups in the order in which they came.
+fn rows_of(groups: IndexMap<Key, Numbers>) -> Result<Vec<Row>, AllocError>
+    ensures { IfOk result (λ rows. rows.items ≡ map row_of groups.entries) }
+{
+    let mut rows = Vec::with_capacity(*groups.allocator(), groups.len())?;
+    for (key, metrics) in groups {
+        rows.push(Row { key, metrics })?;
+    }
+    Ok(rows)
 }

@@ -1,0 +1,81 @@
+-- Rows that are added one after another.
+use Rattle.std.proofs.Common.{◌≡◌, ◌∙◌, sym, refl, ap, subst, ℕ, ◌+◌, ◌<◌, ℤ, Bool, true, false, cond, List, [], ◌∷◌, ◌++◌, map, length, take, get_or, Result, Ok, Err, OnOk, Option, None, Some}
+use Rattle.std.proofs.lemmas.List.{map-append, append-nil, take_more}
+use Rattle.std.proofs.lemmas.List.Elements.{filter-append}
+use Rattle.std.specs.List.{AllByRecursion}
+use Rattle.dr_base.specs.declared.key.Key.{Key}
+use Rattle.dr_base.specs.declared.row.Row.{Row}
+use Rattle.dr_agg.specs.declared.kind.Kind.{Kind}
+use Rattle.dr_agg.specs.declared.kind.Kind.TheVariants.{Count, LongSum, LongMin, LongMax}
+use Rattle.dr_agg.specs.Combination.{combine_of, unit_of}
+use Rattle.dr_agg.specs.Rollup.{add_row, rollup_onto}
+use Rattle.dr_ask.specs.declared.column.Column.{Column}
+use Rattle.dr_ask.specs.declared.aggregation.Aggregation.{Aggregation}
+use Rattle.dr_ask.specs.Asked.{Asked, dimensions_by}
+use Rattle.dr_answers.specs.Fold.{reading_in, folds}
+use Rattle.dr_answers.specs.Groups.{group_of}
+use Rattle.dr_answers.specs.Selection.{selects, selected}
+use Rattle.dr_partial.specs.Grouped.{bare, folds_alone, IsSound, Adds, AddsAll, in_order, with_rows}
+use Rattle.dr_partial.specs.Partial.{kinds_in, alone}
+
+onto_append : (kinds : List Kind) (rows a b : List Row) → rollup_onto true kinds rows (a ++ b) ≡ rollup_onto true kinds (rollup_onto true kinds rows a) b
+unfolding rollup_onto
+onto_append kinds rows [] b = refl
+onto_append kinds rows (e ∷ a) b = onto_append kinds (add_row true kinds rows e) a b
+
+-- the key doesn't matter to what is read
+read_bare : (k : Kind) (c : Option Column) (r : Row) → reading_in k c (bare r.metrics) ≡ reading_in k c r
+read_bare Count c r = refl
+read_bare LongSum None r = refl
+read_bare LongSum (Some c) r = refl
+read_bare LongMin None r = refl
+read_bare LongMin (Some c) r = refl
+read_bare LongMax None r = refl
+read_bare LongMax (Some c) r = refl
+
+pub folds_bare : (aggregations : List Aggregation) (r : Row) → folds_alone aggregations r.metrics ≡ folds aggregations (r ∷ [])
+folds_bare [] r = refl
+folds_bare (a ∷ more) r = λ i. combine_of a.kind (unit_of a.kind) (read_bare a.kind a.column r i) ∷ folds_bare more r i
+
+module _ (q : Asked) where
+  with_rows-append : (groups a b : List Row) → with_rows q groups (a ++ b) ≡ with_rows q (with_rows q groups a) b
+  with_rows-append groups a b =
+      let test : Row → Bool = λ r. selects q r.key in
+      ap (λ l. rollup_onto true (kinds_in q.aggregations) groups (map (alone q) l)) (filter-append test a b)
+      ∙ ap (rollup_onto true (kinds_in q.aggregations) groups) (map-append (alone q) (selected q a) (selected q b))
+      ∙ onto_append (kinds_in q.aggregations) groups (map (alone q) (selected q a)) (map (alone q) (selected q b))
+
+  pub no-rows : (before : List Row) → IsSound (kinds_in q.aggregations) before → AddsAll q before [] before
+  unfolding rollup_onto
+  no-rows before so = record { sound = so; groups = refl }
+
+  pub more-rows : (before between after a b : List Row) → AddsAll q before a between → AddsAll q between b after → AddsAll q before (a ++ b) after
+  more-rows before between after a b first second = record {
+    sound = second.sound;
+    groups = second.groups ∙ ap (λ l. with_rows q l b) first.groups ∙ sym (with_rows-append (in_order before) a b);
+  }
+
+  -- a row that isn't selected
+  pub passed-over : (before : List Row) (r : Row) → selects q r.key ≡ false → IsSound (kinds_in q.aggregations) before → AddsAll q before (r ∷ []) before
+  unfolding rollup_onto
+  passed-over before r no so = record { sound = so; groups = ap (λ b. rollup_onto true (kinds_in q.aggregations) (in_order before) (map (alone q) (cond b (r ∷ []) []))) (sym no) }
+
+  -- and one that is
+  added-one : (before after : List Row) (r : Row) → selects q r.key ≡ true → Adds (kinds_in q.aggregations) before (alone q r) after → AddsAll q before (r ∷ []) after
+  unfolding rollup_onto
+  added-one before after r yes adds = record {
+    sound = adds.sound;
+    groups = adds.groups ∙ ap (λ b. rollup_onto true (kinds_in q.aggregations) (in_order before) (map (alone q) (cond b (r ∷ []) []))) (sym yes);
+  }
+
+  pub added : {E : Type 0} (before after : List Row) (r : Row) → selects q r.key ≡ true → (result : Result (Unit {0}) E)
+      → OnOk result (Adds (kinds_in q.aggregations) before (record { key = group_of q (dimensions_by q.shape) r.key; metrics = folds_alone q.aggregations r.metrics }) after)
+      → OnOk result (AddsAll q before (r ∷ []) after)
+  added before after r yes (Err e) adds = tt
+  added before after r yes (Ok u) adds =
+      added-one before after r yes (subst (λ m. Adds (kinds_in q.aggregations) before (record { key = group_of q (dimensions_by q.shape) r.key; metrics = m }) after) (folds_bare q.aggregations r) adds)
+
+  -- a loop's step
+  pub next-row : (before between after rows : List Row) (i : ℕ) (r : Row) → i < length rows → r ≡ get_or rows i r → AddsAll q before (take i rows) between → AddsAll q between (r ∷ []) after → AddsAll q before (take (i + 1) rows) after
+  next-row before between after rows i r lt is first second =
+      subst (λ l. AddsAll q before l after) (ap (λ x. take i rows ++ x ∷ []) is ∙ sym (take_more rows i r lt)) (more-rows before between after (take i rows) (r ∷ []) first second)

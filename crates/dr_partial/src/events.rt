@@ -1,0 +1,117 @@
+ghost use Rattle.std.specs.Prelude.{◌≡◌, ◌∷◌, [], map, OnOk};
+ghost use Rattle.std.specs.List.{AllByRecursion, flat_map};
+ghost use Rattle.dr_agg.specs.Combination.{column};
+ghost use Rattle.dr_schema.specs.Fits.{FitsSchema};
+ghost use Rattle.dr_rollup.specs.Entries.{row_of};
+ghost use Rattle.dr_rollup.specs.Unrolled.{unrolled, contribution, contributions};
+ghost use Rattle.dr_ask.specs.Asked.{asked};
+ghost use Rattle.dr_partial.specs.Grouped.{IsSound, AddsAll};
+ghost use Rattle.dr_partial.specs.Partial.{kinds_in};
+
+use crate::rows::add_selected;
+use crate::selecting::is_selected;
+use dr_agg::Kind;
+use dr_ask::Query;
+use dr_base::{Event, Key, Numbers, Text};
+use dr_schema::{Metric, Schema};
+use indexmap::IndexMap;
+use std::alloc::AllocError;
+
+/// Adds the events of some pieces, each as a row of its own, one piece after another. `group` is memory to use again.
+pub fn add_event_pieces(
+    groups: &mut IndexMap<Key, Numbers>,
+    group: &mut Vec<Text>,
+    query: &Query,
+    schema: &Schema,
+    pieces: &[&[Event]],
+) -> Result<(), AllocError>
+    requires fit { AllByRecursion (FitsSchema schema.now) (flat_map (λ p. p.now) pieces.now) }
+    requires sound { IsSound (kinds_in query.now.aggregations) (map row_of groups.old.entries) }
+    ensures { OnOk result (AddsAll (asked query.now) (map row_of groups.old.entries) (map (unrolled schema.now) (flat_map (λ p. p.now) pieces.now)) (map row_of groups.new.entries)) }
+{
+    let mut metrics = Vec::new(*group.allocator());
+    for piece in pieces {
+        add_events(groups, group, &mut metrics, query, schema, piece)?;
+    }
+    Ok(())
+}
+
+/// Adds the events of a piece. `metrics` is memory to use again.
+fn add_events(
+    groups: &mut IndexMap<Key, Numbers>,
+    group: &mut Vec<Text>,
+    metrics: &mut Vec<i64>,
+    query: &Query,
+    schema: &Schema,
+    events: &[Event],
+) -> Result<(), AllocError>
+    requires fit { AllByRecursion (FitsSchema schema.now) events.now }
+    requires sound { IsSound (kinds_in query.now.aggregations) (map row_of groups.old.entries) }
+    ensures { OnOk result (AddsAll (asked query.now) (map row_of groups.old.entries) (map (unrolled schema.now) events.now) (map row_of groups.new.entries)) }
+{
+    for event in events {
+        add_event(groups, group, metrics, query, schema, event)?;
+    }
+    Ok(())
+}
+
+/// Adds an event, where the query selects its row.
+fn add_event(
+    groups: &mut IndexMap<Key, Numbers>,
+    group: &mut Vec<Text>,
+    metrics: &mut Vec<i64>,
+    query: &Query,
+    schema: &Schema,
+    event: &Event,
+) -> Result<(), AllocError>
+    requires fits { FitsSchema schema.now event.now }
+    requires sound { IsSound (kinds_in query.now.aggregations) (map row_of groups.old.entries) }
+    ensures { OnOk result (AddsAll (asked query.now) (map row_of groups.old.entries) (unrolled schema.now event.now ∷ []) (map row_of groups.new.entries)) }
+{
+    let time = schema.query_granularity().truncate(event.time);
+    let dims = event.dims.as_slice();
+    if !is_selected(query, time, dims) {
+        return Ok(());
+    }
+    read_metrics(
+        schema.metrics().as_slice(),
+        event.inputs.as_slice(),
+        metrics,
+    )?;
+    add_selected(groups, group, query, time, dims, metrics.as_slice())
+}
+
+/// Writes what an event adds to each column, by its inputs, over other numbers.
+fn read_metrics(
+    columns: &[Metric],
+    inputs: &[i64],
+    metrics: &mut Vec<i64>,
+) -> Result<(), AllocError>
+    ensures { OnOk result (metrics.new.items ≡ contributions (map (λ m. m.kind) columns.now) inputs.now) }
+{
+    metrics.clear();
+    for (i, metric) in columns.iter().enumerate() {
+        metrics.push(contribution(metric.kind, input_at(inputs, i)))?;
+    }
+    Ok(())
+}
+
+/// The input of a column; one that isn't there reads 0.
+fn input_at(inputs: &[i64], place: usize) -> i64
+    ensures { result ≡ column place inputs.now }
+{
+    match inputs.get(place) {
+        Some(input) => *input,
+        None => 0,
+    }
+}
+
+/// What an event adds to a column: 1 to a count, its input to every other.
+fn contribution(kind: Kind, input: i64) -> i64
+    ensures { result ≡ contribution kind input }
+{
+    match kind {
+        Kind::Count => 1,
+        _ => input,
+    }
+}

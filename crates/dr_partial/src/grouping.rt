@@ -1,0 +1,89 @@
+ghost use Rattle.std.specs.Prelude.{◌≡◌, ◌++◌, ◌∷◌, [], ◌<◌, None, true, map, length, IfOk, IfSome, OnOk};
+ghost use Rattle.dr_agg.specs.Combination.{combine_columns, FitsColumns};
+ghost use Rattle.dr_agg.specs.Rollup.{AllFit};
+ghost use Rattle.dr_rollup.specs.Entries.{row_of, HasKeyAt, NoneHas};
+ghost use Rattle.dr_partial.specs.Grouped.{folds_alone, IsSound, Adds, CombinesAt};
+ghost use Rattle.dr_partial.specs.Partial.{kinds_in};
+
+use crate::group_of::GroupOf;
+use crate::reading::{combine_reading, readings};
+use dr_ask::Aggregation;
+use dr_base::{Key, Numbers, Text, Texts};
+use indexmap::IndexMap;
+use std::alloc::{AllocError, Global};
+
+/// Adds a row of these metrics to its group, or to a new one. A known group takes no memory.
+pub fn add(
+    groups: &mut IndexMap<Key, Numbers>,
+    aggregations: &[Aggregation],
+    group: &GroupOf<'_>,
+    metrics: &[i64],
+) -> Result<(), AllocError>
+    requires { IsSound (kinds_in aggregations.now) (map row_of groups.old.entries) }
+    ensures { OnOk result (Adds (kinds_in aggregations.now) (map row_of groups.old.entries) (record { key = record { time = group.now.time; dims = group.now.dims.now }; metrics = folds_alone aggregations.now metrics.now }) (map row_of groups.new.entries)) }
+{
+    if let Some(place) = find(groups, group) {
+        combine(groups, place, aggregations, metrics);
+        return Ok(());
+    }
+    let alloc = *groups.allocator();
+    let key = key_of(alloc, group)?;
+    let values = readings(alloc, aggregations, metrics)?;
+    put(groups, key, values)
+}
+
+// The key of a group. It shares the long texts.
+fn key_of(alloc: Global, group: &GroupOf<'_>) -> Result<Key, AllocError>
+    ensures { IfOk result (λ key. key ≡ record { time = group.now.time; dims = group.now.dims.now }) }
+{
+    Ok(Key {
+        time: group.time,
+        dims: copies(alloc, group.dims)?,
+    })
+}
+
+// The place of a group, where there is one.
+fn find(groups: &IndexMap<Key, Numbers>, group: &GroupOf<'_>) -> Option<usize>
+    ensures found { IfSome result (HasKeyAt (record { time = group.now.time; dims = group.now.dims.now }) (map row_of groups.now.entries)) }
+    ensures none { result ≡ None → NoneHas (record { time = group.now.time; dims = group.now.dims.now }) (map row_of groups.now.entries) }
+{
+    groups.get_index_of(*group)
+}
+
+// Combines a row of these metrics into the group at a place.
+fn combine(
+    groups: &mut IndexMap<Key, Numbers>,
+    place: usize,
+    aggregations: &[Aggregation],
+    metrics: &[i64],
+)
+    requires place { place < length (map row_of groups.old.entries) }
+    requires fits { AllFit (kinds_in aggregations.now) (map row_of groups.old.entries) }
+    ensures { CombinesAt (kinds_in aggregations.now) (folds_alone aggregations.now metrics.now) (map row_of groups.old.entries) place (map row_of groups.new.entries) }
+{
+    combine_reading(aggregations, &mut groups[place], metrics);
+}
+
+// Adds a group.
+fn put(
+    groups: &mut IndexMap<Key, Numbers>,
+    key: Key,
+    values: Numbers,
+) -> Result<(), AllocError>
+    requires { NoneHas key (map row_of groups.old.entries) }
+    ensures { OnOk result (map row_of groups.new.entries ≡ map row_of groups.old.entries ++ record { key = key; metrics = values } ∷ []) }
+{
+    groups.insert(key, values)?;
+    Ok(())
+}
+
+// Copies of texts, which share what is long.
+fn copies(alloc: Global, texts: &[Text]) -> Result<Texts, AllocError>
+    ensures { IfOk result (λ copies. copies ≡ texts.now) }
+{
+    let mut copies = Vec::with_capacity(alloc, texts.len())?;
+    for text in texts {
+        copies.push(text.copy()?)?;
+    }
+    Ok(Texts::from_vec(copies))
+}

@@ -1,0 +1,92 @@
+ghost use Rattle.std.specs.Prelude.{◌≡◌, ◌∷◌, [], map, OnOk};
+ghost use Rattle.std.specs.List.{AllByRecursion};
+ghost use Rattle.dr_time.specs.Instant.{IsInstant};
+ghost use Rattle.dr_agg.specs.Rollup.{all_rows};
+ghost use Rattle.dr_rollup.specs.Entries.{row_of};
+ghost use Rattle.dr_ask.specs.Asked.{asked, asked_shape, dimensions_by};
+ghost use Rattle.dr_answers.specs.Groups.{group_of};
+ghost use Rattle.dr_partial.specs.Grouped.{folds_alone, IsSound, Adds, AddsAll};
+ghost use Rattle.dr_partial.specs.Partial.{kinds_in};
+
+use crate::group_of::GroupOf;
+use crate::grouping::add;
+use crate::selecting::{bucket_start, dimensions, is_selected, read_group};
+use dr_ask::Query;
+use dr_base::{Key, Numbers, Row, Text};
+use indexmap::IndexMap;
+use std::alloc::AllocError;
+
+/// Adds the rows of some pieces, one piece after another. `group` is memory to use again.
+pub fn add_pieces(
+    groups: &mut IndexMap<Key, Numbers>,
+    group: &mut Vec<Text>,
+    query: &Query,
+    pieces: &[&[Row]],
+) -> Result<(), AllocError>
+    requires instants { AllByRecursion (λ r. IsInstant r.key.time) (all_rows (map (λ p. p.now) pieces.now)) }
+    requires sound { IsSound (kinds_in query.now.aggregations) (map row_of groups.old.entries) }
+    ensures { OnOk result (AddsAll (asked query.now) (map row_of groups.old.entries) (all_rows (map (λ p. p.now) pieces.now)) (map row_of groups.new.entries)) }
+{
+    for piece in pieces {
+        add_rows(groups, group, query, piece)?;
+    }
+    Ok(())
+}
+
+/// Adds the rows of a piece.
+fn add_rows(
+    groups: &mut IndexMap<Key, Numbers>,
+    group: &mut Vec<Text>,
+    query: &Query,
+    rows: &[Row],
+) -> Result<(), AllocError>
+    requires instants { AllByRecursion (λ r. IsInstant r.key.time) rows.now }
+    requires sound { IsSound (kinds_in query.now.aggregations) (map row_of groups.old.entries) }
+    ensures { OnOk result (AddsAll (asked query.now) (map row_of groups.old.entries) rows.now (map row_of groups.new.entries)) }
+{
+    for row in rows {
+        add_row(groups, group, query, row)?;
+    }
+    Ok(())
+}
+
+/// Adds a row, where the query selects it.
+fn add_row(
+    groups: &mut IndexMap<Key, Numbers>,
+    group: &mut Vec<Text>,
+    query: &Query,
+    row: &Row,
+) -> Result<(), AllocError>
+    requires instant { IsInstant row.now.key.time }
+    requires sound { IsSound (kinds_in query.now.aggregations) (map row_of groups.old.entries) }
+    ensures { OnOk result (AddsAll (asked query.now) (map row_of groups.old.entries) (row.now ∷ []) (map row_of groups.new.entries)) }
+{
+    let time = row.key.time;
+    let dims = row.key.dims.as_slice();
+    if !is_selected(query, time, dims) {
+        return Ok(());
+    }
+    add_selected(groups, group, query, time, dims, row.metrics.as_slice())
+}
+
+/// Adds a row of this time, these dimension values and these metrics.
+pub fn add_selected(
+    groups: &mut IndexMap<Key, Numbers>,
+    group: &mut Vec<Text>,
+    query: &Query,
+    time: i64,
+    dims: &[Text],
+    metrics: &[i64],
+) -> Result<(), AllocError>
+    requires instant { IsInstant time }
+    requires sound { IsSound (kinds_in query.now.aggregations) (map row_of groups.old.entries) }
+    ensures { OnOk result (Adds (kinds_in query.now.aggregations) (map row_of groups.old.entries) (record { key = group_of (asked query.now) (dimensions_by (asked_shape query.now.shape)) (record { time = time; dims = dims.now }); metrics = folds_alone query.now.aggregations metrics.now }) (map row_of groups.new.entries)) }
+{
+    let alloc = *group.allocator();
+    read_group(alloc, dimensions(query), dims, group)?;
+    let key = GroupOf {
+        time: bucket_start(query, time),
+        dims: group.as_slice(),
+    };
+    add(groups, query.aggregations.as_slice(), &key, metrics)
+}
