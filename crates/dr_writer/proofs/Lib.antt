@@ -1,0 +1,2 @@
+mod OutputsLaws
+mod TokensLaws

@@ -1,6 +1,10 @@
 //! The text of the groups that a query gives, as compact JSON.
 #![tactic(auto)]
 
+mod group_writing;
+mod ordering;
+mod output;
+mod stamp;
 mod writing;
 
 pub use writing::text_of;
