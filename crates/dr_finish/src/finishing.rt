@@ -22,9 +22,9 @@ pub fn finish(
     partial: Partial,
     span: Option<(i64, i64)>,
 ) -> Result<Vec<ResultRow>, AnswerError>
-    requires { IfSome span (λ s. IsInstant s.0 × IsInstant s.1) }
-    requires { All StartsPrintable query.now.intervals }
-    requires { AllByRecursion (λ g. IsPrintable g.key.time) partial }
+    requires span { IfSome span (λ s. IsInstant s.0 × IsInstant s.1) }
+    requires starts { All StartsPrintable query.now.intervals }
+    requires buckets { AllByRecursion (λ g. IsPrintable g.key.time) partial }
     ensures value { Answers (λ groups. groups.items) result (finished (asked query.now) span partial) }
     ensures printable { IfOk result (λ groups. AllByRecursion (λ g. IsPrintable g.time) groups.items) }
 {

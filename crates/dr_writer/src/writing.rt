@@ -14,8 +14,8 @@ use std::alloc::{AllocError, Global};
 /// `[{"result":{..},"timestamp":".."}]`, of a groupBy `[{"event":{..},"timestamp":"..","version":"v1"}]`. The only error is that
 /// memory ran out.
 pub fn text_of(alloc: Global, query: &Query, groups: &[ResultRow]) -> Result<Vec<u8>, AllocError>
-    requires { IsDistinct bytes_eq (outputs (asked query.now)) }
-    requires { AllByRecursion (λ g. IsPrintable g.time) groups.now }
+    requires distinct { IsDistinct bytes_eq (outputs (asked query.now)) }
+    requires printable { AllByRecursion (λ g. IsPrintable g.time) groups.now }
     ensures { IfOk result (λ text. text.items ≡ text_of (asked query.now) groups.now) }
 {
     Err(AllocError)
