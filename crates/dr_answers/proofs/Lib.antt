@@ -1,0 +1,5 @@
+pub mod Rows
+pub mod Keys
+pub mod Spans
+pub mod AlikeRows
+pub mod RearrangedRows

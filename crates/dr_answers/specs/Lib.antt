@@ -5,3 +5,4 @@ pub mod Fold
 pub mod Groups
 pub mod Given
 pub mod Answer
+pub mod Laws

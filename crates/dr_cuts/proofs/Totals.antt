@@ -1,7 +1,7 @@
--- Totals over a list, by any way to combine that is associative and commutative, and what rollup leaves of them. A fold
--- of a column over some rows is such a total, and so is the span of rows.
-use Rattle.std.proofs.Common.{◌≡◌, ◌∙◌, sym, refl, ap, Bool, true, false, List, [], ◌∷◌, ◌++◌, map}
-use Rattle.std.specs.List.{flat_map}
+-- Totals over a list, by any way to combine that is associative and commutative, and what rollup leaves of them. A fold of a
+-- column over some rows is such a total, and so is whether one of them passes a test.
+use Rattle.std.proofs.Common.{◌≡◌, ◌∙◌, sym, refl, ap, Bool, true, false, List, [], ◌∷◌, ◌++◌, map, filter, cond}
+use Rattle.std.specs.List.{flat_map, fold}
 use Rattle.std.specs.declared.cmp.Ordering.TheVariants.{Less, Equal, Greater}
 use Rattle.std.specs.Ordering.{match_ordering}
 use Rattle.dr_base.specs.declared.row.Row.{Row}
@@ -84,3 +84,22 @@ pub total-rollup : {M : Type 0} {op : M → M → M} {e : M} (k : Combines op e)
     → total op e f (rollup combines kinds es) ≡ total op e f es
 total-rollup {op = op} {e = e} k f combines kinds law es =
     total-rollup_onto k f combines kinds law [] es ∙ k.comm (total op e f es) e ∙ total-unit k f es
+
+-- a fold from the unit on is a total
+fold-total_from : {A M : Type 0} {op : M → M → M} {e : M} (k : Combines op e) (f : A → M) (a : M) (xs : List A) → op a e ≡ a → fold op a (map f xs) ≡ op a (total op e f xs)
+fold-total_from k f a [] h = sym h
+fold-total_from {op = op} {e = e} k f a (x ∷ xs) h =
+    let kept : op (op a (f x)) e ≡ op a (f x) = k.assoc a (f x) e ∙ ap (op a) (k.comm (f x) e) ∙ sym (k.assoc a e (f x)) ∙ ap (λ y. op y (f x)) h in
+    fold-total_from k f (op a (f x)) xs kept ∙ k.assoc a (f x) (total op e f xs)
+
+pub fold-total : {A M : Type 0} {op : M → M → M} {e : M} (k : Combines op e) (f : A → M) (xs : List A) → fold op e (map f xs) ≡ total op e f xs
+fold-total {e = e} k f xs = fold-total_from k f e xs k.unit ∙ total-unit k f xs
+
+-- what a filter leaves out has the unit as its share
+pub total-filter : {A M : Type 0} {op : M → M → M} {e : M} (k : Combines op e) (f : A → M) (p : A → Bool) (xs : List A) → total op e f (filter p xs) ≡ total op e (λ x. cond (p x) (f x) e) xs
+total-filter k f p [] = refl
+total-filter {op = op} {e = e} k f p (x ∷ xs) =
+    elim (p x) as (λ b. total op e f (cond b (x ∷ filter p xs) (filter p xs)) ≡ op (cond b (f x) e) (total op e (λ x. cond (p x) (f x) e) xs)) [
+      | true ↦ ap (op (f x)) (total-filter k f p xs)
+      | false ↦ total-filter k f p xs ∙ sym (total-unit k (λ x. cond (p x) (f x) e) xs)
+    ]
