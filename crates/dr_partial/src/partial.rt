@@ -1,10 +1,12 @@
 ghost use Rattle.std.specs.Prelude.{◌≡◌, IfOk, length, map, option_map};
-ghost use Rattle.std.specs.List.{AllByRecursion, flat_map};
+ghost use Rattle.std.specs.List.{All, AllByRecursion, flat_map};
 ghost use Rattle.dr_agg.specs.Rollup.{all_rows};
 ghost use Rattle.dr_ask.specs.Asked.{asked};
 ghost use Rattle.dr_rollup.specs.Unrolled.{unrolled};
 ghost use Rattle.dr_schema.specs.Fits.{FitsSchema};
 ghost use Rattle.dr_time.specs.Instant.{IsInstant};
+ghost use Rattle.dr_intervals.specs.Printable.{StartsPrintable};
+ghost use Rattle.dr_time.specs.Printed.{IsPrintable};
 ghost use Rattle.dr_partial.specs.Partial.{partial, values_at};
 
 use dr_ask::Query;
@@ -37,7 +39,8 @@ impl Partial {
     /// the groups.
     pub fn of_rows(alloc: Global, query: &Query, pieces: &[&[Row]]) -> Result<Partial, AllocError>
         requires { AllByRecursion (λ r. IsInstant r.key.time) (all_rows (map (λ p. p.now) pieces.now)) }
-        ensures { IfOk result (λ p. p ≡ partial (asked query.now) (all_rows (map (λ p. p.now) pieces.now))) }
+        ensures groups { IfOk result (λ p. p ≡ partial (asked query.now) (all_rows (map (λ p. p.now) pieces.now))) }
+        ensures printable { All StartsPrintable query.now.intervals → IfOk result (λ p. AllByRecursion (λ g. IsPrintable g.key.time) p) }
     {
         Err(AllocError)
     }
@@ -51,7 +54,8 @@ impl Partial {
         pieces: &[&[Event]],
     ) -> Result<Partial, AllocError>
         requires { AllByRecursion (FitsSchema schema.now) (flat_map (λ p. p.now) pieces.now) }
-        ensures { IfOk result (λ p. p ≡ partial (asked query.now) (map (unrolled schema.now) (flat_map (λ p. p.now) pieces.now))) }
+        ensures groups { IfOk result (λ p. p ≡ partial (asked query.now) (map (unrolled schema.now) (flat_map (λ p. p.now) pieces.now))) }
+        ensures printable { All StartsPrintable query.now.intervals → IfOk result (λ p. AllByRecursion (λ g. IsPrintable g.key.time) p) }
     {
         Err(AllocError)
     }
