@@ -1,8 +1,7 @@
 ghost use Rattle.std.specs.Prelude.{◌≡◌, IfOk, option_map};
-ghost use Rattle.std.specs.List.{All};
 ghost use Rattle.serde_json.specs.View.{view};
 ghost use Rattle.dr_filter.specs.Condition.{condition_in};
-ghost use Rattle.dr_intervals.specs.Printable.{StartsPrintable};
+ghost use Rattle.dr_ask.specs.MadeFor.{MadeFor};
 ghost use Rattle.dr_ask.specs.Asked.{asked};
 ghost use Rattle.dr_ask.specs.Matching.{is_matching, all_match, aggregation_matches, matches_optional};
 ghost use Rattle.dr_ask.specs.QueryOf.{granularity_of, filter_or_none, query_of};
@@ -70,7 +69,7 @@ impl Query {
     #[tactic(auto, unfolding(crate::specs::QueryOf::query_of))]
     pub fn parse(alloc: Global, bytes: &[u8], schema: &Schema) -> Result<Query, QueryError>
         ensures value { Gives asked result (query_of schema.now bytes.now) }
-        ensures printable { IfOk result (λ q. All StartsPrintable q.intervals) }
+        ensures made { IfOk result (λ q. MadeFor schema.now (asked q)) }
     {
         let value = parse_json(alloc, bytes)?;
         let members = object(alloc, &value, "query")?;

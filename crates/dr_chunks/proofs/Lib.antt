@@ -4,3 +4,4 @@ pub mod Blocks
 pub mod Holding
 pub mod Changes
 pub mod Opening
+pub mod Pieces

@@ -1,5 +1,5 @@
 -- What a timeline keeps of its chunks: the rows of each range. No public contract cites this file.
-use Rattle.std.specs.Prelude.{◌≡◌, ℕ, ℤ, ◌+◌, ◌-◌, ◌<◌, ◌≤◌, Bool, nat_le, nat_lt, true, false, Option, Some, None, List, [], ◌∷◌, ◌++◌, length, map, take, drop, if◌then◌else◌}
+use Rattle.std.specs.Prelude.{◌≡◌, ℕ, ℤ, ◌+◌, ◌-◌, ◌<◌, Bool, nat_le, nat_lt, true, false, Option, Some, None, List, [], ◌∷◌, ◌++◌, length, map, take, drop, if◌then◌else◌}
 use Rattle.std.specs.List.{AllByRecursion}
 use Rattle.std.specs.Ordering.{int_cmp, match_ordering}
 use Rattle.std.specs.declared.cmp.Ordering.TheVariants.{Less, Equal}
@@ -11,7 +11,7 @@ use Rattle.dr_merge.specs.declared.fragment.Fragment.{Fragment}
 use Rattle.dr_cuts.specs.declared.range_info.RangeInfo.{RangeInfo}
 use Rattle.dr_chunks.specs.declared.sealed_range.SealedRange.{SealedRange}
 use Rattle.dr_rollup.specs.Unrolled.{rolled_up}
-use Rattle.dr_rollup.specs.OpenRows.{OpenRows, rows_with, with_rows}
+use Rattle.dr_rollup.specs.OpenRows.{rows_with, with_rows}
 use Rattle.dr_cuts.specs.Chunks.{chunk_list}
 use Rattle.dr_cuts.specs.AtKey.{at_key, item_at}
 use Rattle.dr_cuts.specs.State.{Range, Cut, Tile, open_from, open_events}

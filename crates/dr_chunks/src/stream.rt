@@ -1,4 +1,5 @@
-ghost use Rattle.std.specs.Prelude.{◌≡◌, ◌<◌, ◌≤◌, ◌++◌, ◌∷◌, [], true, Some, length, slice_get, IfOk, OnOk, OnErr};
+ghost use Rattle.std.specs.Prelude.{◌≡◌, ◌<◌, ◌≤◌, ◌++◌, ◌∷◌, [], true, Some, length, map, slice_get, IfOk, OnOk, OnErr};
+ghost use Rattle.std.specs.List.{flat_map};
 
 use crate::block::Block;
 use dr_base::Event;
@@ -67,6 +68,16 @@ impl Stream {
         &self.last[place % BLOCK]
     }
 
+    /// The events as slices, one behind the other. The only error is that memory ran out. It takes time and memory by the
+    /// full blocks.
+    pub fn pieces(&self, alloc: Global) -> Result<Vec<&[Event]>, AllocError>
+        ensures { IfOk result (λ pieces. flat_map (λ p. p.now) pieces.items ≡ self.now.items) }
+    {
+        let mut pieces = slices(alloc, &self.blocks)?;
+        pieces.push(self.last.as_slice())?;
+        Ok(pieces)
+    }
+
     /// Makes room for one more event. An error leaves the events as they were.
     pub fn reserve(&mut self) -> Result<(), AllocError>
         ensures items { self.new.items ≡ self.old.items }
@@ -121,6 +132,16 @@ fn take_block(alloc: Global, events: &mut Vec<Event>) -> Result<Block, AllocErro
             Err(AllocError)
         }
     }
+}
+
+fn slices<'a>(alloc: Global, blocks: &'a [Block]) -> Result<Vec<&'a [Event]>, AllocError>
+    ensures { IfOk result (λ slices. map (λ s. s.now) slices.items ≡ blocks.now) }
+{
+    let mut slices = Vec::with_capacity(alloc, blocks.len())?;
+    for block in blocks {
+        slices.push(block.as_slice())?;
+    }
+    Ok(slices)
 }
 
 fn share_all(alloc: Global, blocks: &[Block]) -> Result<Vec<Block>, AllocError>

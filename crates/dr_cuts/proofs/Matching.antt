@@ -55,7 +55,7 @@ or-same false = refl
 Joins-test : (kinds : List Kind) (test : Key → Bool) → Joins (λ a b. a || b) kinds (λ r. test r.key)
 Joins-test kinds test x r h = or-same (test x.key) ∙ ap (λ k. test x.key || test k) (sym (same_key r.key x.key h))
 
-keys-cut_rows : (schema : Schema) (es : List Event) (cuts : List Cut) → AreCuts schema es cuts → (test : Key → Bool) → list_any (λ r. test r.key) (cut_rows schema es cuts) ≡ list_any (λ r. test r.key) (map (unrolled schema) es)
+pub keys-cut_rows : (schema : Schema) (es : List Event) (cuts : List Cut) → AreCuts schema es cuts → (test : Key → Bool) → list_any (λ r. test r.key) (cut_rows schema es cuts) ≡ list_any (λ r. test r.key) (map (unrolled schema) es)
 keys-cut_rows schema es cuts are test =
     any-total (λ r. test r.key) (cut_rows schema es cuts)
     ∙ total-cut_rows either (λ r. test r.key) schema (λ _. Joins-test (kinds_of schema) test) es cuts are

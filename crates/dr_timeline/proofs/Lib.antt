@@ -1,4 +1,6 @@
 pub mod Pinning
+pub mod Times
+pub mod PartialAnswers
 pub mod Keeping
 pub mod Standing
 pub mod Placing

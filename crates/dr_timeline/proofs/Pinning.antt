@@ -1,7 +1,7 @@
 -- What is pinned of the chunks of a timeline.
 use Rattle.std.proofs.Common.{◌≡◌, ◌∙◌, sym, refl, ap, subst, ℕ, ℤ, ◌-◌, Bool, true, false, List, [], ◌∷◌, ◌++◌, length, map, drop, take, cond, nat_lt, Bor, Option, Some, None, ◌<◌, ◌+◌, slice_get, arith}
 use Rattle.std.specs.List.{flat_map, fold, AllByRecursion}
-use Rattle.dr_query.specs.Groups.{wider, span_of_row, span}
+use Rattle.dr_answers.specs.Span.{wider, span}
 use Rattle.std.proofs.lemmas.Option.{get_or_from_slice_get}
 use Rattle.dr_schema.specs.Fits.{FitsSchema}
 use Rattle.dr_cuts.proofs.Each.{All-at}
@@ -21,8 +21,6 @@ use Rattle.dr_cuts.specs.State.{Tile, AreCuts, IsTiled, open_from}
 use Rattle.dr_chunks.specs.Ranges.{fragment_of}
 use Rattle.dr_cuts.specs.Segments.{sealed_info, open_info, infos_of_cut, infos, events_in, rows_over}
 use Rattle.dr_chunks.specs.Held.{range_of, ranges_of, cut_of, info_of, has_open, infos_of_chunk, rows_of_chunk, Holds}
-use Rattle.dr_timeline.specs.Pieces.{rows_held}
-use Rattle.dr_answer.specs.Pieces.{rows_in}
 
 -- the rows of a range
 abbrev pub rows_of_range : Schema → List Event → RangeInfo → List Row
@@ -90,13 +88,13 @@ flat-all : {A : Type 0} (f : A → List Row) (xs : List A) → flat_map f xs ≡
 flat-all f [] = refl
 flat-all f (x ∷ xs) = ap (λ rs. f x ++ rs) (flat-all f xs)
 
-pub held-rows : (schema : Schema) (es : List Event) (held : List (List Row)) (ranges : List RangeInfo) → held ≡ map (rows_of_range schema es) ranges → rows_held held ≡ rows_over schema es ranges
+pub held-rows : (schema : Schema) (es : List Event) (held : List (List Row)) (ranges : List RangeInfo) → held ≡ map (rows_of_range schema es) ranges → all_rows held ≡ rows_over schema es ranges
 held-rows schema es held ranges h = ap all_rows h ∙ sym (flat-all (rows_of_range schema es) ranges)
 
-pub lent-rows : (pieces : List (Bor (List Row))) (held : List (List Row)) → map (λ p. p.now) pieces ≡ held → rows_in pieces ≡ rows_held held
-lent-rows pieces held h = flat-all (λ (p : Bor (List Row)). p.now) pieces ∙ ap all_rows h
-
 -- ---- the span of events
+
+abbrev span_of_row : Row → Option (ℤ × ℤ)
+span_of_row r = Some (r.key.time, r.key.time)
 
 pushed : (from : Option (ℤ × ℤ)) (rows : List Row) (r : Row) → fold wider from (map span_of_row (rows ++ r ∷ [])) ≡ wider (fold wider from (map span_of_row rows)) (span_of_row r)
 pushed from [] r = refl

@@ -2,6 +2,8 @@
 //! Whatever the cuts, the answer to a matching query is that over the raw events, one by one.
 #![tactic(auto)]
 
+mod answering;
+mod chunk_of;
 mod outcome;
 mod planned;
 mod snapshot;
@@ -9,9 +11,11 @@ mod span;
 mod stats;
 mod timeline;
 mod timeline_error;
-mod unrolled;
 
+pub use dr_answers::AnswerError;
+pub use dr_ask::{Query, QueryError};
 pub use dr_cuts::RangeInfo;
+pub use dr_merge::{Fragment, Job, Purpose, work};
 pub use outcome::Outcome;
 pub use snapshot::Snapshot;
 pub use stats::Stats;

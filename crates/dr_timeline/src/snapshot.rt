@@ -1,21 +1,23 @@
 ghost use Rattle.std.specs.Prelude.{◌≡◌, ◌↔◌, ◌++◌, IfOk, IsTrue, List, true, length, map, option_map, slice_get};
 ghost use Rattle.dr_base.specs.declared.event.Event.{Event};
-ghost use Rattle.dr_query.specs.AnswerRefusal.{Answers};
-ghost use Rattle.dr_query.specs.Answer.{answer};
-ghost use Rattle.dr_query.specs.Groups.{span};
-ghost use Rattle.dr_query.specs.Matching.{is_matching};
-ghost use Rattle.dr_query.specs.MadeFor.{MadeFor};
+ghost use Rattle.dr_answers.specs.AnswerRefusal.{Answers};
+ghost use Rattle.dr_answers.specs.Answer.{answer};
+ghost use Rattle.dr_answers.specs.Span.{span};
+ghost use Rattle.dr_ask.specs.Asked.{asked};
+ghost use Rattle.dr_ask.specs.Matching.{is_matching};
+ghost use Rattle.dr_ask.specs.MadeFor.{MadeFor};
 ghost use Rattle.dr_rollup.specs.Unrolled.{unrolled};
 ghost use Rattle.dr_cuts.specs.Segments.{rows_of};
 ghost use Rattle.dr_cuts.specs.RawAnswer.{raw_answer};
 
+use crate::answering::answer;
 use crate::span::span_of;
-use crate::unrolled::unrolled_rows;
-use dr_answer::answer;
+use dr_answers::AnswerError;
+use dr_ask::Query;
 use dr_base::{Event, Row};
 use dr_chunks::{PinnedRanges, RangeRows, Stream};
 use dr_cuts::RangeInfo;
-use dr_query::{AnswerError, Query};
+use dr_partial::Partial;
 use dr_schema::Schema;
 use std::alloc::{AllocError, Global};
 use std::marker::Model;
@@ -83,32 +85,38 @@ impl Snapshot {
         begins_with(&self.stream, &other.stream)
     }
 
-    /// The answer to a query that was made for the schema, as JSON text: `[{"result":{..},"timestamp":".."}]`, keys in
-    /// ascending byte order, without spaces (Apache Druid documentation, timeseries queries).
+    /// The answer to a query that was made for the schema, as JSON text without spaces, keys in ascending byte order: of a
+    /// timeseries `[{"result":{..},"timestamp":".."}]`, of a groupBy `[{"event":{..},"timestamp":"..","version":"v1"}]`
+    /// (Apache Druid documentation, timeseries and groupBy queries).
     ///
     /// Where the query matches, it is byte for byte the answer over the raw events, truncated, filtered, grouped and
-    /// folded one by one, whatever the ranges. Refusals: 81 `ResultTooLarge` where there are over 100000 groups.
+    /// folded one by one, whatever the ranges. Refusals: 81 `ResultTooLarge` where there are over 100000 groups. It takes
+    /// expected time by the rows and the bytes of their dimension values, by the events for their span, and what sorting
+    /// the groups takes; and memory by the groups and the rows of open ranges.
     pub fn answer_one(&self, query: &Query) -> Result<Vec<u8>, AnswerError>
-        requires { MadeFor self.now.schema query.now }
-        ensures own_rows { Answers (λ text. text.items) result (answer query.now (rows_of self.now)) }
-        ensures raw_where_matching { is_matching query.now ≡ true
-            → Answers (λ text. text.items) result (raw_answer self.now.schema query.now self.now.stream) }
+        requires { MadeFor self.now.schema (asked query.now) }
+        ensures own_rows { Answers (λ text. text.items) result (answer (asked query.now) (rows_of self.now)) }
+        ensures raw_where_matching { is_matching (asked query.now) ≡ true
+            → Answers (λ text. text.items) result (raw_answer self.now.schema (asked query.now) self.now.stream) }
     {
         let alloc = self.stream.allocator();
         let rows = self.pinned.rows(alloc)?;
         let pieces = slices(alloc, &rows)?;
-        answer(alloc, query, &pieces)
+        let partial = Partial::of_rows(alloc, query, &pieces)?;
+        answer(alloc, query, partial, self.span())
     }
 
     /// The answer to a query that was made for the schema over the raw events, each as a row of its own: truncated,
-    /// filtered, grouped and folded one by one. Text and refusals are those of `answer_one`.
+    /// filtered, grouped and folded one by one. Text, refusals and cost are those of `answer_one`, with the events in the
+    /// place of the rows.
     pub fn audit(&self, query: &Query) -> Result<Vec<u8>, AnswerError>
-        requires { MadeFor self.now.schema query.now }
-        ensures { Answers (λ text. text.items) result (raw_answer self.now.schema query.now self.now.stream) }
+        requires { MadeFor self.now.schema (asked query.now) }
+        ensures { Answers (λ text. text.items) result (raw_answer self.now.schema (asked query.now) self.now.stream) }
     {
         let alloc = self.stream.allocator();
-        let rows = unrolled_rows(alloc, &self.schema, &self.stream)?;
-        answer(alloc, query, &[rows.as_slice()])
+        let pieces = self.stream.pieces(alloc)?;
+        let partial = Partial::of_events(alloc, query, &self.schema, &pieces)?;
+        answer(alloc, query, partial, self.span())
     }
 }
 

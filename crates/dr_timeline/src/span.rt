@@ -1,6 +1,6 @@
 ghost use Rattle.std.specs.Prelude.{◌≡◌, Some, map};
 ghost use Rattle.std.specs.List.{AllByRecursion};
-ghost use Rattle.dr_query.specs.Groups.{span, wider as wider_of};
+ghost use Rattle.dr_answers.specs.Span.{span, wider as wider_of};
 ghost use Rattle.dr_gran.specs.Truncation.{truncation};
 ghost use Rattle.dr_time.specs.Instant.{IsInstant};
 ghost use Rattle.dr_schema.specs.Fits.{FitsSchema};

@@ -16,7 +16,7 @@ use crate::planned::{job_over, least_version, place_of_job};
 use crate::snapshot::Snapshot;
 use crate::stats::Stats;
 use crate::timeline_error::TimelineError;
-use crate::unrolled::chunk_start;
+use crate::chunk_of::chunk_start;
 use dr_base::Event;
 use dr_chunks::{Chunks, PinnedRanges, SealedRange, Stream};
 use dr_merge::{Fragment, Job, Purpose, SharedFragment};

@@ -1,5 +1,5 @@
 use Rattle.std.proofs.Common.{◌≡◌, take, map}
-use Rattle.dr_query.specs.Groups.{span}
+use Rattle.dr_answers.specs.Span.{span}
 use Rattle.dr_rollup.specs.Unrolled.{unrolled}
 use Rattle.dr_timeline.proofs.span.span_of.Given as goal
 

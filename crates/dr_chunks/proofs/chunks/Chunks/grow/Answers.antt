@@ -1,13 +1,13 @@
-use Rattle.std.proofs.Common.{◌≡◌, ◌∙◌, sym, ap, subst, refl, Some, w64}
+use Rattle.std.proofs.Common.{◌≡◌, ◌∙◌, sym, ap, subst, w64}
 use Rattle.std.proofs.lemmas.Int.{to_z-of_z}
 use Rattle.std.proofs.lemmas.Result.{on_ok_weaker, on_err_weaker}
 use Rattle.std.proofs.lemmas.Map.Steps.{set_value_same}
 use Rattle.std.specs.List.{AllByRecursion}
-use Rattle.std.specs.Map.{values_of, lookup, set_value}
-use Rattle.std.specs.BTreeMap.{is_at, insert_entry}
+use Rattle.std.specs.Map.{values_of, set_value}
+use Rattle.std.specs.BTreeMap.{is_at}
 use Rattle.std.specs.Ordering.{int_cmp}
 use Rattle.dr_chunks.specs.declared.chunk.Chunk.{Chunk}
-use Rattle.dr_chunks.specs.Held.{no_chunk, at_start, chunk_at, chunk_in, grown, is_full, seals_of, with_one}
+use Rattle.dr_chunks.specs.Held.{no_chunk, at_start, chunk_in, grown, is_full, seals_of, with_one}
 use Rattle.dr_chunks.proofs.Places.{written-over, keyed-written, kept-start, same-start, grown-start, looked-up, chunk_at-in, chunk_at-none, put-new, keyed-put}
 use Rattle.dr_chunks.proofs.chunks.Chunks.grow.Goals as goal
 

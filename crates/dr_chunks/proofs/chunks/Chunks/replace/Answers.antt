@@ -1,9 +1,7 @@
-use Rattle.std.proofs.Common.{◌≡◌, ◌∙◌, sym, ap, subst, refl, Some, IfSome, length, ◌+◌, ◌≤◌, w64}
+use Rattle.std.proofs.Common.{◌≡◌, ◌∙◌, sym, ap, subst, refl, w64}
 use Rattle.std.proofs.lemmas.Int.{to_z-of_z}
 use Rattle.std.specs.List.{AllByRecursion}
-use Rattle.std.specs.Map.{values_of, lookup}
-use Rattle.std.specs.BTreeMap.{is_at}
-use Rattle.std.specs.Ordering.{int_cmp}
+use Rattle.std.specs.Map.{values_of}
 use Rattle.dr_chunks.specs.declared.sealed_range.SealedRange.{SealedRange}
 use Rattle.std.proofs.Common.{List}
 use Rattle.dr_chunks.specs.Held.{at_start, chunk_in, with_range}

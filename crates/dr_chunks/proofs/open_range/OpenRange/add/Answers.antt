@@ -1,4 +1,4 @@
-use Rattle.std.proofs.Common.{◌≡◌, ◌≤◌, ◌<◌, ap, subst, length, arith, Some, IfSome}
+use Rattle.std.proofs.Common.{◌≡◌, ap, subst, length, arith, IfSome}
 use Rattle.std.proofs.lemmas.Result.{on_ok_weaker}
 use Rattle.dr_rollup.specs.OpenRows.{OpenRows, rows_with}
 use Rattle.dr_chunks.specs.Open.{index_of, kept, rows_kept}

@@ -1,5 +1,5 @@
 use Rattle.std.proofs.Common.{◌∙◌, ap, map}
-use Rattle.dr_query.specs.Groups.{span}
+use Rattle.dr_answers.specs.Span.{span}
 use Rattle.dr_cuts.specs.Segments.{Pinned}
 use Rattle.dr_rollup.specs.Unrolled.{unrolled}
 use Rattle.dr_timeline.proofs.snapshot.Snapshot.span.Goals as goal
