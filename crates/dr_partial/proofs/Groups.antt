@@ -1,5 +1,7 @@
 -- The groups of a query are those that its partial result gives.
-use Rattle.std.proofs.Common.{◌≡◌, ◌∙◌, sym, refl, ap, subst, ℤ, Bool, true, false, true≢false, cond, List, [], ◌∷◌, ◌++◌, Option, None, Some, unwrap_or, map, filter}
+use Rattle.std.proofs.Common.{◌≡◌, ◌∙◌, sym, refl, ap, subst, ℤ, Bool, true, false, true≢false, cond, List, [], ◌∷◌, ◌++◌, Option, None, Some, unwrap_or, map, filter, arith}
+use Rattle.std.specs.Prelude.{FitsSigned}
+use Rattle.std.specs.Int.{w64}
 use Rattle.std.specs.Prelude.{if◌then◌else◌}
 use Rattle.std.proofs.lemmas.List.{map-append, append-nil}
 use Rattle.std.proofs.lemmas.List.Sums.{fold-append}
@@ -13,7 +15,7 @@ use Rattle.dr_agg.specs.declared.kind.Kind.{Kind}
 use Rattle.dr_agg.specs.declared.kind.Kind.TheVariants.{Count, LongSum, LongMin, LongMax}
 use Rattle.dr_agg.specs.Combination.{combine_of, unit_of, fold_of, combine_columns}
 use Rattle.dr_agg.specs.Rollup.{rows_at, combined, together, IsRising, joined, add_row, rollup_onto, rollup}
-use Rattle.dr_agg.proofs.ColumnLaws.{combine_of-assoc, combine_of-exchange}
+use Rattle.dr_agg.proofs.ColumnLaws.{combine_of-assoc, combine_of-exchange, combine_of-unit}
 use Rattle.dr_agg.proofs.KeyOrder.{itself, less_back, above_differs}
 use Rattle.dr_agg.proofs.RollupLaws.{IsRollup-rollup, IsRising-rollup}
 use Rattle.dr_rollup.specs.Entries.{same_keys}
@@ -34,17 +36,17 @@ fold_first : (k : Kind) (a b : ℤ) (values : List ℤ) → fold (combine_of k) 
 fold_first k a b [] = refl
 fold_first k a b (v ∷ values) = ap (λ c. fold (combine_of k) c values) (combine_of-exchange k a b v) ∙ fold_first k (combine_of k a v) b values
 
-units : (k : Kind) → combine_of k (unit_of k) (unit_of k) ≡ unit_of k
-units Count = refl
-units LongSum = refl
-units LongMin = refl
-units LongMax = refl
+unit_fits : (k : Kind) → FitsSigned w64 (unit_of k)
+unit_fits Count = search arith
+unit_fits LongSum = search arith
+unit_fits LongMin = search arith
+unit_fits LongMax = search arith
 
 -- the unit changes nothing behind a fold
 unit_behind : (k : Kind) (values : List ℤ) (v : ℤ) → combine_of k (fold_of k values) (combine_of k (unit_of k) v) ≡ combine_of k (fold_of k values) v
 unit_behind k values v =
     sym (combine_of-assoc k (fold_of k values) (unit_of k) v)
-    ∙ ap (λ c. combine_of k c v) (sym (fold_first k (unit_of k) (unit_of k) values) ∙ ap (λ c. fold (combine_of k) c values) (units k))
+    ∙ ap (λ c. combine_of k c v) (sym (fold_first k (unit_of k) (unit_of k) values) ∙ ap (λ c. fold (combine_of k) c values) (combine_of-unit k (unit_of k) (unit_fits k)))
 
 folded_push : (a : Aggregation) (rows : List Row) (r : Row) → combine_of a.kind (folded a rows) (folded a (r ∷ [])) ≡ folded a (rows ++ r ∷ [])
 folded_push a rows r =
@@ -146,20 +148,20 @@ only_ones (x ∷ xs) up = (
 
 -- ---- their keys
 
-keys-add_row : (kinds : List Kind) (rows : List Row) (r : Row) → map (λ g. g.key) (add_row true kinds rows r) ≡ with_group (map (λ g. g.key) rows) r.key
+keys-add_row : (ks : List Kind) (rows : List Row) (r : Row) → map (λ g. g.key) (add_row true ks rows r) ≡ with_group (map (λ g. g.key) rows) r.key
 unfolding add_row
-keys-add_row kinds [] r = refl
-keys-add_row kinds (x ∷ xs) r =
-    elim (key_cmp r.key x.key) as (λ o. map (λ (g : Row). g.key) (match_ordering o (r ∷ x ∷ xs) (joined kinds x r ∷ xs) (x ∷ add_row true kinds xs r)) ≡ match_ordering o (r.key ∷ x.key ∷ map (λ (g : Row). g.key) xs) (x.key ∷ map (λ (g : Row). g.key) xs) (x.key ∷ with_group (map (λ (g : Row). g.key) xs) r.key)) [
+keys-add_row ks [] r = refl
+keys-add_row ks (x ∷ xs) r =
+    elim (key_cmp r.key x.key) as (λ o. map (λ (g : Row). g.key) (match_ordering o (r ∷ x ∷ xs) (joined ks x r ∷ xs) (x ∷ add_row true ks xs r)) ≡ match_ordering o (r.key ∷ x.key ∷ map (λ (g : Row). g.key) xs) (x.key ∷ map (λ (g : Row). g.key) xs) (x.key ∷ with_group (map (λ (g : Row). g.key) xs) r.key)) [
       | Less ↦ refl
       | Equal ↦ refl
-      | Greater ↦ ap (λ l. x.key ∷ l) (keys-add_row kinds xs r)
+      | Greater ↦ ap (λ l. x.key ∷ l) (keys-add_row ks xs r)
     ]
 
-keys-rollup_onto : (kinds : List Kind) (rows es : List Row) → map (λ g. g.key) (rollup_onto true kinds rows es) ≡ fold with_group (map (λ g. g.key) rows) (map (λ g. g.key) es)
+keys-rollup_onto : (ks : List Kind) (rows es : List Row) → map (λ g. g.key) (rollup_onto true ks rows es) ≡ fold with_group (map (λ g. g.key) rows) (map (λ g. g.key) es)
 unfolding rollup_onto
-keys-rollup_onto kinds rows [] = refl
-keys-rollup_onto kinds rows (e ∷ es) = keys-rollup_onto kinds (add_row true kinds rows e) es ∙ ap (λ l. fold with_group l (map (λ g. g.key) es)) (keys-add_row kinds rows e)
+keys-rollup_onto ks rows [] = refl
+keys-rollup_onto ks rows (e ∷ es) = keys-rollup_onto ks (add_row true ks rows e) es ∙ ap (λ l. fold with_group l (map (λ g. g.key) es)) (keys-add_row ks rows e)
 
 module _ (q : Asked) (rows : List Row) where
   keys_alone : (some : List Row) → map (λ (g : Row). g.key) (map (alone q) some) ≡ map (λ (r : Row). group_of q (dimensions_by q.shape) r.key) some
