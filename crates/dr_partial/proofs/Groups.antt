@@ -163,6 +163,18 @@ unfolding rollup_onto
 keys-rollup_onto ks rows [] = refl
 keys-rollup_onto ks rows (e ∷ es) = keys-rollup_onto ks (add_row true ks rows e) es ∙ ap (λ l. fold with_group l (map (λ g. g.key) es)) (keys-add_row ks rows e)
 
+-- the folds of the first row
+abbrev pub first_metrics : List Row → Option (List ℤ)
+first_metrics [] = None
+first_metrics (g ∷ gs) = Some g.metrics
+
+pub values-first : (b : ℤ) (some : List Row) → values_at b some ≡ first_metrics (rows_at (record { time = b; dims = [] }) some)
+values-first b [] = refl
+values-first b (g ∷ gs) =
+    let k : Key = record { time = b; dims = [] } in
+    ap (λ (t : Bool). if t then Some g.metrics else values_at b gs) (parts-same_keys k g.key)
+    ∙ (elim (eq_by_cmp key_cmp k g.key) as (λ t. (if t then Some g.metrics else values_at b gs) ≡ first_metrics (cond t (g ∷ rows_at k gs) (rows_at k gs))) [ true ↦ refl | false ↦ values-first b gs ])
+
 module _ (q : Asked) (rows : List Row) where
   keys_alone : (some : List Row) → map (λ (g : Row). g.key) (map (alone q) some) ≡ map (λ (r : Row). group_of q (dimensions_by q.shape) r.key) some
   keys_alone [] = refl
@@ -182,17 +194,6 @@ module _ (q : Asked) (rows : List Row) where
       ∙ each_result (partial q rows) (implied (λ g. rows_at g.key (partial q rows) ≡ g ∷ []) (λ g. group q rows g.key ≡ result_row g) (group_is q rows) (partial q rows) (only_ones (partial q rows) (IsRising-rollup (kinds_in q.aggregations) (map (alone q) (selected q rows)))))
 
   -- ---- buckets that are filled
-
-  abbrev first_metrics : List Row → Option (List ℤ)
-  first_metrics [] = None
-  first_metrics (g ∷ gs) = Some g.metrics
-
-  values-first : (b : ℤ) (some : List Row) → values_at b some ≡ first_metrics (rows_at (record { time = b; dims = [] }) some)
-  values-first b [] = refl
-  values-first b (g ∷ gs) =
-      let k : Key = record { time = b; dims = [] } in
-      ap (λ (t : Bool). if t then Some g.metrics else values_at b gs) (parts-same_keys k g.key)
-      ∙ (elim (eq_by_cmp key_cmp k g.key) as (λ t. (if t then Some g.metrics else values_at b gs) ≡ first_metrics (cond t (g ∷ rows_at k gs) (rows_at k gs))) [ true ↦ refl | false ↦ values-first b gs ])
 
   whole-values : (some : List Row) → unwrap_or (first_metrics (whole q some)) (folds q.aggregations []) ≡ folds q.aggregations some
   whole-values [] = refl
