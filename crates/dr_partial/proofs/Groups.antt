@@ -1,5 +1,5 @@
 -- The groups of a query are those that its partial result gives.
-use Rattle.std.proofs.Common.{◌≡◌, ◌∙◌, sym, refl, ap, subst, ℤ, Bool, true, false, true≢false, cond, List, [], ◌∷◌, ◌++◌, Option, None, Some, unwrap_or, map, filter, arith}
+use Rattle.std.proofs.Common.{◌≡◌, ◌∙◌, sym, refl, ap, ℤ, Bool, true, false, cond, List, [], ◌∷◌, ◌++◌, Option, None, Some, unwrap_or, map, filter, arith}
 use Rattle.std.specs.Prelude.{FitsSigned}
 use Rattle.std.specs.Int.{w64}
 use Rattle.std.specs.Prelude.{if◌then◌else◌}
@@ -14,16 +14,14 @@ use Rattle.dr_base.specs.Order.{key_cmp}
 use Rattle.dr_agg.specs.declared.kind.Kind.{Kind}
 use Rattle.dr_agg.specs.declared.kind.Kind.TheVariants.{Count, LongSum, LongMin, LongMax}
 use Rattle.dr_agg.specs.Combination.{combine_of, unit_of, fold_of, combine_columns}
-use Rattle.dr_agg.specs.Rollup.{rows_at, combined, together, IsRising, joined, add_row, rollup_onto, rollup}
+use Rattle.dr_agg.specs.Rollup.{rows_at, combined, together, IsRising, joined, add_row, rollup_onto}
 use Rattle.dr_agg.proofs.ColumnLaws.{combine_of-assoc, combine_of-exchange, combine_of-unit}
 use Rattle.dr_agg.proofs.KeyOrder.{itself, less_back, above_differs}
 use Rattle.dr_agg.proofs.RollupLaws.{IsRollup-rollup, IsRising-rollup}
-use Rattle.dr_rollup.specs.Entries.{same_keys}
 use Rattle.dr_rollup.proofs.Keys.{parts-same_keys}
 use Rattle.dr_rollup.proofs.Rows.{same_keys-comm}
 use Rattle.dr_ask.specs.declared.aggregation.Aggregation.{Aggregation}
 use Rattle.dr_ask.specs.Asked.{Asked, AskedShape, timeseries, group_by, dimensions_by}
-use Rattle.dr_answers.specs.declared.result_row.ResultRow.{ResultRow}
 use Rattle.dr_answers.specs.Fold.{reading_in, folded, folds}
 use Rattle.dr_answers.specs.Groups.{group_of, is_same_group, with_group, groups_of, filled_in, filled, keys_by, group, groups}
 use Rattle.dr_answers.specs.Selection.{selected}
@@ -141,9 +139,9 @@ only_ones : (rows : List Row) → IsRising rows → AllByRecursion (λ g. rows_a
 only_ones [] up = tt
 only_ones (x ∷ xs) up = (
   ap (λ o. cond (is_eq o) (x ∷ rows_at x.key xs) (rows_at x.key xs)) (itself x.key)
-  ∙ ap (λ l. x ∷ l) (none_at x.key xs (implied (λ y. key_cmp x.key y.key ≡ Less) (λ y. eq_by_cmp key_cmp x.key y.key ≡ false) (λ y h. above_differs x.key x.key y.key (itself x.key) h) xs up.0)),
+      ∙ ap (λ l. x ∷ l) (none_at x.key xs (implied (λ y. key_cmp x.key y.key ≡ Less) (λ y. eq_by_cmp key_cmp x.key y.key ≡ false) (λ y h. above_differs x.key x.key y.key (itself x.key) h) xs up.0)),
   both (λ y. key_cmp x.key y.key ≡ Less) (λ g. rows_at g.key xs ≡ g ∷ []) (λ g. rows_at g.key (x ∷ xs) ≡ g ∷ [])
-    (λ g less one. ap (λ o. cond (is_eq o) (x ∷ rows_at g.key xs) (rows_at g.key xs)) (less_back x.key g.key less) ∙ one) xs up.0 (only_ones xs up.1),
+      (λ g less one. ap (λ o. cond (is_eq o) (x ∷ rows_at g.key xs) (rows_at g.key xs)) (less_back x.key g.key less) ∙ one) xs up.0 (only_ones xs up.1),
 )
 
 -- ---- their keys

@@ -1,6 +1,5 @@
 -- A partial result, once all rows are added.
-use Rattle.std.proofs.Common.{◌≡◌, ◌∙◌, sym, refl, ap, subst, ℕ, ℤ, pos, Bool, true, false, true≢false, cond, List, [], ◌∷◌, ◌++◌, map, length, Option, None, Some, IfSome, unwrap_or, if◌then◌else◌, arith, inl}
-use Rattle.std.specs.Prelude.{◌≤ℤ◌, filter}
+use Rattle.std.proofs.Common.{◌≡◌, ◌∙◌, sym, refl, ap, subst, ℤ, pos, Bool, true, false, true≢false, cond, List, [], ◌∷◌, map, length, Option, None, Some, IfSome, unwrap_or, if◌then◌else◌, arith, inl}
 use Rattle.std.proofs.lemmas.Int.{ints}
 use Rattle.std.proofs.lemmas.List.{length-map}
 use Rattle.std.proofs.lemmas.List.Folds.{flat_map-map}
@@ -11,7 +10,7 @@ use Rattle.dr_base.specs.declared.row.Row.{Row}
 use Rattle.dr_base.specs.declared.event.Event.{Event}
 use Rattle.dr_base.specs.Order.{key_cmp}
 use Rattle.std.specs.Ordering.{eq_by_cmp}
-use Rattle.dr_time.specs.Instant.{IsInstant, first_instant, last_instant}
+use Rattle.dr_time.specs.Instant.{IsInstant}
 use Rattle.dr_time.specs.Printed.{IsPrintable}
 use Rattle.dr_time.specs.Union.{union_start}
 use Rattle.dr_gran.specs.Step.{is_all}
