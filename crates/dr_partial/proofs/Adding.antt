@@ -1,5 +1,5 @@
 -- Groups with one row more.
-use Rattle.std.proofs.Common.{◌≡◌, ◌∙◌, sym, refl, ap, subst, ℕ, suc, ◌<◌, ℤ, true, false, cond, List, [], ◌∷◌, ◌++◌, map, length, slice_get, slice_set, Some, Result, Ok, Err, OnOk, arith}
+use Rattle.std.proofs.Common.{◌≡◌, ◌∙◌, sym, refl, ap, subst, ℕ, suc, true, false, cond, List, [], ◌∷◌, ◌++◌, map, length, Result, Ok, Err, OnOk, arith}
 use Rattle.std.specs.List.{AllByRecursion, IsDistinct}
 use Rattle.std.specs.declared.cmp.Ordering.TheVariants.{Less, Equal, Greater}
 use Rattle.std.specs.Ordering.{is_eq}
@@ -7,10 +7,10 @@ use Rattle.dr_base.specs.declared.key.Key.{Key}
 use Rattle.dr_base.specs.declared.row.Row.{Row}
 use Rattle.dr_base.specs.Order.{key_cmp}
 use Rattle.dr_agg.specs.declared.kind.Kind.{Kind}
-use Rattle.dr_agg.specs.Combination.{combine_columns, FitsColumns}
-use Rattle.dr_agg.specs.Rollup.{rows_at, together, IsRollup, rollup, rollup_onto, add_row}
+use Rattle.dr_agg.specs.Combination.{FitsColumns}
+use Rattle.dr_agg.specs.Rollup.{rows_at, together, IsRollup, rollup, add_row}
 use Rattle.dr_agg.proofs.KeyOrder.{key_cmp_total}
-use Rattle.dr_agg.proofs.RollupLaws.{IsRollup-rollup, same_rollup, rollup_onto_push}
+use Rattle.dr_agg.proofs.RollupLaws.{IsRollup-rollup, same_rollup}
 use Rattle.dr_rollup.specs.Entries.{same_keys, HasKeyAt, NoneHas}
 use Rattle.dr_rollup.specs.Sound as rows
 use Rattle.dr_rollup.proofs.Growing.{sound-combined, rows-combined, sound-added, rows-added}

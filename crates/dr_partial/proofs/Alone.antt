@@ -1,5 +1,5 @@
 -- What aggregations fold to over a row alone, one by one.
-use Rattle.std.proofs.Common.{◌≡◌, ◌∙◌, sym, refl, ap, ℕ, zero, suc, ◌+◌, ◌<◌, ℤ, pos, List, [], ◌∷◌, map, length, drop, get_or, arith}
+use Rattle.std.proofs.Common.{◌≡◌, ◌∙◌, sym, ap, ℕ, zero, suc, ◌+◌, ◌<◌, ℤ, pos, List, [], ◌∷◌, length, drop, get_or, arith}
 use Rattle.std.proofs.lemmas.List.{drop_more, length-map}
 use Rattle.dr_agg.specs.declared.kind.Kind.{Kind}
 use Rattle.dr_ask.specs.declared.aggregation.Aggregation.{Aggregation}

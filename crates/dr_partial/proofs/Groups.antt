@@ -1,5 +1,7 @@
 -- The groups of a query are those that its partial result gives.
-use Rattle.std.proofs.Common.{◌≡◌, ◌∙◌, sym, refl, ap, subst, ℤ, Bool, true, false, true≢false, cond, List, [], ◌∷◌, ◌++◌, Option, None, Some, unwrap_or, map, filter}
+use Rattle.std.proofs.Common.{◌≡◌, ◌∙◌, sym, refl, ap, ℤ, Bool, true, false, cond, List, [], ◌∷◌, ◌++◌, Option, None, Some, unwrap_or, map, filter, arith}
+use Rattle.std.specs.Prelude.{FitsSigned}
+use Rattle.std.specs.Int.{w64}
 use Rattle.std.specs.Prelude.{if◌then◌else◌}
 use Rattle.std.proofs.lemmas.List.{map-append, append-nil}
 use Rattle.std.proofs.lemmas.List.Sums.{fold-append}
@@ -12,16 +14,14 @@ use Rattle.dr_base.specs.Order.{key_cmp}
 use Rattle.dr_agg.specs.declared.kind.Kind.{Kind}
 use Rattle.dr_agg.specs.declared.kind.Kind.TheVariants.{Count, LongSum, LongMin, LongMax}
 use Rattle.dr_agg.specs.Combination.{combine_of, unit_of, fold_of, combine_columns}
-use Rattle.dr_agg.specs.Rollup.{rows_at, combined, together, IsRising, joined, add_row, rollup_onto, rollup}
-use Rattle.dr_agg.proofs.ColumnLaws.{combine_of-assoc, combine_of-exchange}
+use Rattle.dr_agg.specs.Rollup.{rows_at, combined, together, IsRising, joined, add_row, rollup_onto}
+use Rattle.dr_agg.proofs.ColumnLaws.{combine_of-assoc, combine_of-exchange, combine_of-unit}
 use Rattle.dr_agg.proofs.KeyOrder.{itself, less_back, above_differs}
 use Rattle.dr_agg.proofs.RollupLaws.{IsRollup-rollup, IsRising-rollup}
-use Rattle.dr_rollup.specs.Entries.{same_keys}
 use Rattle.dr_rollup.proofs.Keys.{parts-same_keys}
 use Rattle.dr_rollup.proofs.Rows.{same_keys-comm}
 use Rattle.dr_ask.specs.declared.aggregation.Aggregation.{Aggregation}
 use Rattle.dr_ask.specs.Asked.{Asked, AskedShape, timeseries, group_by, dimensions_by}
-use Rattle.dr_answers.specs.declared.result_row.ResultRow.{ResultRow}
 use Rattle.dr_answers.specs.Fold.{reading_in, folded, folds}
 use Rattle.dr_answers.specs.Groups.{group_of, is_same_group, with_group, groups_of, filled_in, filled, keys_by, group, groups}
 use Rattle.dr_answers.specs.Selection.{selected}
@@ -34,17 +34,17 @@ fold_first : (k : Kind) (a b : ℤ) (values : List ℤ) → fold (combine_of k) 
 fold_first k a b [] = refl
 fold_first k a b (v ∷ values) = ap (λ c. fold (combine_of k) c values) (combine_of-exchange k a b v) ∙ fold_first k (combine_of k a v) b values
 
-units : (k : Kind) → combine_of k (unit_of k) (unit_of k) ≡ unit_of k
-units Count = refl
-units LongSum = refl
-units LongMin = refl
-units LongMax = refl
+unit_fits : (k : Kind) → FitsSigned w64 (unit_of k)
+unit_fits Count = search arith
+unit_fits LongSum = search arith
+unit_fits LongMin = search arith
+unit_fits LongMax = search arith
 
 -- the unit changes nothing behind a fold
 unit_behind : (k : Kind) (values : List ℤ) (v : ℤ) → combine_of k (fold_of k values) (combine_of k (unit_of k) v) ≡ combine_of k (fold_of k values) v
 unit_behind k values v =
     sym (combine_of-assoc k (fold_of k values) (unit_of k) v)
-    ∙ ap (λ c. combine_of k c v) (sym (fold_first k (unit_of k) (unit_of k) values) ∙ ap (λ c. fold (combine_of k) c values) (units k))
+    ∙ ap (λ c. combine_of k c v) (sym (fold_first k (unit_of k) (unit_of k) values) ∙ ap (λ c. fold (combine_of k) c values) (combine_of-unit k (unit_of k) (unit_fits k)))
 
 folded_push : (a : Aggregation) (rows : List Row) (r : Row) → combine_of a.kind (folded a rows) (folded a (r ∷ [])) ≡ folded a (rows ++ r ∷ [])
 folded_push a rows r =
@@ -139,27 +139,39 @@ only_ones : (rows : List Row) → IsRising rows → AllByRecursion (λ g. rows_a
 only_ones [] up = tt
 only_ones (x ∷ xs) up = (
   ap (λ o. cond (is_eq o) (x ∷ rows_at x.key xs) (rows_at x.key xs)) (itself x.key)
-  ∙ ap (λ l. x ∷ l) (none_at x.key xs (implied (λ y. key_cmp x.key y.key ≡ Less) (λ y. eq_by_cmp key_cmp x.key y.key ≡ false) (λ y h. above_differs x.key x.key y.key (itself x.key) h) xs up.0)),
+      ∙ ap (λ l. x ∷ l) (none_at x.key xs (implied (λ y. key_cmp x.key y.key ≡ Less) (λ y. eq_by_cmp key_cmp x.key y.key ≡ false) (λ y h. above_differs x.key x.key y.key (itself x.key) h) xs up.0)),
   both (λ y. key_cmp x.key y.key ≡ Less) (λ g. rows_at g.key xs ≡ g ∷ []) (λ g. rows_at g.key (x ∷ xs) ≡ g ∷ [])
-    (λ g less one. ap (λ o. cond (is_eq o) (x ∷ rows_at g.key xs) (rows_at g.key xs)) (less_back x.key g.key less) ∙ one) xs up.0 (only_ones xs up.1),
+      (λ g less one. ap (λ o. cond (is_eq o) (x ∷ rows_at g.key xs) (rows_at g.key xs)) (less_back x.key g.key less) ∙ one) xs up.0 (only_ones xs up.1),
 )
 
 -- ---- their keys
 
-keys-add_row : (kinds : List Kind) (rows : List Row) (r : Row) → map (λ g. g.key) (add_row true kinds rows r) ≡ with_group (map (λ g. g.key) rows) r.key
+keys-add_row : (ks : List Kind) (rows : List Row) (r : Row) → map (λ g. g.key) (add_row true ks rows r) ≡ with_group (map (λ g. g.key) rows) r.key
 unfolding add_row
-keys-add_row kinds [] r = refl
-keys-add_row kinds (x ∷ xs) r =
-    elim (key_cmp r.key x.key) as (λ o. map (λ (g : Row). g.key) (match_ordering o (r ∷ x ∷ xs) (joined kinds x r ∷ xs) (x ∷ add_row true kinds xs r)) ≡ match_ordering o (r.key ∷ x.key ∷ map (λ (g : Row). g.key) xs) (x.key ∷ map (λ (g : Row). g.key) xs) (x.key ∷ with_group (map (λ (g : Row). g.key) xs) r.key)) [
+keys-add_row ks [] r = refl
+keys-add_row ks (x ∷ xs) r =
+    elim (key_cmp r.key x.key) as (λ o. map (λ (g : Row). g.key) (match_ordering o (r ∷ x ∷ xs) (joined ks x r ∷ xs) (x ∷ add_row true ks xs r)) ≡ match_ordering o (r.key ∷ x.key ∷ map (λ (g : Row). g.key) xs) (x.key ∷ map (λ (g : Row). g.key) xs) (x.key ∷ with_group (map (λ (g : Row). g.key) xs) r.key)) [
       | Less ↦ refl
       | Equal ↦ refl
-      | Greater ↦ ap (λ l. x.key ∷ l) (keys-add_row kinds xs r)
+      | Greater ↦ ap (λ l. x.key ∷ l) (keys-add_row ks xs r)
     ]
 
-keys-rollup_onto : (kinds : List Kind) (rows es : List Row) → map (λ g. g.key) (rollup_onto true kinds rows es) ≡ fold with_group (map (λ g. g.key) rows) (map (λ g. g.key) es)
+keys-rollup_onto : (ks : List Kind) (rows es : List Row) → map (λ g. g.key) (rollup_onto true ks rows es) ≡ fold with_group (map (λ g. g.key) rows) (map (λ g. g.key) es)
 unfolding rollup_onto
-keys-rollup_onto kinds rows [] = refl
-keys-rollup_onto kinds rows (e ∷ es) = keys-rollup_onto kinds (add_row true kinds rows e) es ∙ ap (λ l. fold with_group l (map (λ g. g.key) es)) (keys-add_row kinds rows e)
+keys-rollup_onto ks rows [] = refl
+keys-rollup_onto ks rows (e ∷ es) = keys-rollup_onto ks (add_row true ks rows e) es ∙ ap (λ l. fold with_group l (map (λ g. g.key) es)) (keys-add_row ks rows e)
+
+-- the folds of the first row
+abbrev pub first_metrics : List Row → Option (List ℤ)
+first_metrics [] = None
+first_metrics (g ∷ gs) = Some g.metrics
+
+pub values-first : (b : ℤ) (some : List Row) → values_at b some ≡ first_metrics (rows_at (record { time = b; dims = [] }) some)
+values-first b [] = refl
+values-first b (g ∷ gs) =
+    let k : Key = record { time = b; dims = [] } in
+    ap (λ (t : Bool). if t then Some g.metrics else values_at b gs) (parts-same_keys k g.key)
+    ∙ (elim (eq_by_cmp key_cmp k g.key) as (λ t. (if t then Some g.metrics else values_at b gs) ≡ first_metrics (cond t (g ∷ rows_at k gs) (rows_at k gs))) [ true ↦ refl | false ↦ values-first b gs ])
 
 module _ (q : Asked) (rows : List Row) where
   keys_alone : (some : List Row) → map (λ (g : Row). g.key) (map (alone q) some) ≡ map (λ (r : Row). group_of q (dimensions_by q.shape) r.key) some
@@ -180,17 +192,6 @@ module _ (q : Asked) (rows : List Row) where
       ∙ each_result (partial q rows) (implied (λ g. rows_at g.key (partial q rows) ≡ g ∷ []) (λ g. group q rows g.key ≡ result_row g) (group_is q rows) (partial q rows) (only_ones (partial q rows) (IsRising-rollup (kinds_in q.aggregations) (map (alone q) (selected q rows)))))
 
   -- ---- buckets that are filled
-
-  abbrev first_metrics : List Row → Option (List ℤ)
-  first_metrics [] = None
-  first_metrics (g ∷ gs) = Some g.metrics
-
-  values-first : (b : ℤ) (some : List Row) → values_at b some ≡ first_metrics (rows_at (record { time = b; dims = [] }) some)
-  values-first b [] = refl
-  values-first b (g ∷ gs) =
-      let k : Key = record { time = b; dims = [] } in
-      ap (λ (t : Bool). if t then Some g.metrics else values_at b gs) (parts-same_keys k g.key)
-      ∙ (elim (eq_by_cmp key_cmp k g.key) as (λ t. (if t then Some g.metrics else values_at b gs) ≡ first_metrics (cond t (g ∷ rows_at k gs) (rows_at k gs))) [ true ↦ refl | false ↦ values-first b gs ])
 
   whole-values : (some : List Row) → unwrap_or (first_metrics (whole q some)) (folds q.aggregations []) ≡ folds q.aggregations some
   whole-values [] = refl

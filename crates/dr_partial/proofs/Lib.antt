@@ -2,3 +2,4 @@ pub mod Alone
 pub mod Adding
 pub mod Groups
 pub mod Pieces
+pub mod Made

@@ -1,9 +1,9 @@
 -- Rows that are added one after another.
-use Rattle.std.proofs.Common.{◌≡◌, ◌∙◌, sym, refl, ap, subst, ℕ, ◌+◌, ◌<◌, ℤ, Bool, true, false, cond, List, [], ◌∷◌, ◌++◌, map, length, take, get_or, Result, Ok, Err, OnOk, Option, None, Some}
+use Rattle.std.proofs.Common.{◌≡◌, ◌∙◌, sym, refl, ap, subst, ℕ, zero, suc, ◌+◌, ◌<◌, Bool, true, false, cond, List, [], ◌∷◌, ◌++◌, map, length, take, get_or, Result, Ok, Err, OnOk, Option, None, Some, arith}
 use Rattle.std.proofs.lemmas.List.{map-append, append-nil, take_more}
 use Rattle.std.proofs.lemmas.List.Elements.{filter-append}
-use Rattle.std.specs.List.{AllByRecursion}
-use Rattle.dr_base.specs.declared.key.Key.{Key}
+use Rattle.std.proofs.lemmas.List.Concat.{flat_map-cons}
+use Rattle.std.specs.List.{AllByRecursion, flat_map}
 use Rattle.dr_base.specs.declared.row.Row.{Row}
 use Rattle.dr_agg.specs.declared.kind.Kind.{Kind}
 use Rattle.dr_agg.specs.declared.kind.Kind.TheVariants.{Count, LongSum, LongMin, LongMax}
@@ -58,24 +58,47 @@ module _ (q : Asked) where
   -- a row that isn't selected
   pub passed-over : (before : List Row) (r : Row) → selects q r.key ≡ false → IsSound (kinds_in q.aggregations) before → AddsAll q before (r ∷ []) before
   unfolding rollup_onto
-  passed-over before r no so = record { sound = so; groups = ap (λ b. rollup_onto true (kinds_in q.aggregations) (in_order before) (map (alone q) (cond b (r ∷ []) []))) (sym no) }
+  passed-over before r not_taken so = record { sound = so; groups = ap (λ b. rollup_onto true (kinds_in q.aggregations) (in_order before) (map (alone q) (cond b (r ∷ []) []))) (sym not_taken) }
 
   -- and one that is
   added-one : (before after : List Row) (r : Row) → selects q r.key ≡ true → Adds (kinds_in q.aggregations) before (alone q r) after → AddsAll q before (r ∷ []) after
   unfolding rollup_onto
-  added-one before after r yes adds = record {
+  added-one before after r taken adds = record {
     sound = adds.sound;
-    groups = adds.groups ∙ ap (λ b. rollup_onto true (kinds_in q.aggregations) (in_order before) (map (alone q) (cond b (r ∷ []) []))) (sym yes);
+    groups = adds.groups ∙ ap (λ b. rollup_onto true (kinds_in q.aggregations) (in_order before) (map (alone q) (cond b (r ∷ []) []))) (sym taken);
   }
 
   pub added : {E : Type 0} (before after : List Row) (r : Row) → selects q r.key ≡ true → (result : Result (Unit {0}) E)
       → OnOk result (Adds (kinds_in q.aggregations) before (record { key = group_of q (dimensions_by q.shape) r.key; metrics = folds_alone q.aggregations r.metrics }) after)
       → OnOk result (AddsAll q before (r ∷ []) after)
-  added before after r yes (Err e) adds = tt
-  added before after r yes (Ok u) adds =
-      added-one before after r yes (subst (λ m. Adds (kinds_in q.aggregations) before (record { key = group_of q (dimensions_by q.shape) r.key; metrics = m }) after) (folds_bare q.aggregations r) adds)
+  added before after r taken (Err e) adds = tt
+  added before after r taken (Ok u) adds =
+      added-one before after r taken (subst (λ m. Adds (kinds_in q.aggregations) before (record { key = group_of q (dimensions_by q.shape) r.key; metrics = m }) after) (folds_bare q.aggregations r) adds)
 
-  -- a loop's step
-  pub next-row : (before between after rows : List Row) (i : ℕ) (r : Row) → i < length rows → r ≡ get_or rows i r → AddsAll q before (take i rows) between → AddsAll q between (r ∷ []) after → AddsAll q before (take (i + 1) rows) after
-  next-row before between after rows i r lt is first second =
-      subst (λ l. AddsAll q before l after) (ap (λ x. take i rows ++ x ∷ []) is ∙ sym (take_more rows i r lt)) (more-rows before between after (take i rows) (r ∷ []) first second)
+  -- a loop's step over what becomes rows, one behind another
+  module _ {X : Type 0} (rows_of : List X → List Row) (behind : (a b : List X) → rows_of (a ++ b) ≡ rows_of a ++ rows_of b) where
+    pub next : (before between after : List Row) (xs : List X) (i : ℕ) (x : X) → i < length xs → x ≡ get_or xs i x
+        → AddsAll q before (rows_of (take i xs)) between → AddsAll q between (rows_of (x ∷ [])) after → AddsAll q before (rows_of (take (i + 1) xs)) after
+    next before between after xs i x lt is first second =
+        let split : rows_of (take i xs) ++ rows_of (x ∷ []) ≡ rows_of (take (i + 1) xs) = sym (behind (take i xs) (x ∷ [])) ∙ ap (λ y. rows_of (take i xs ++ y ∷ [])) is ∙ ap rows_of (sym (take_more xs i x lt)) in
+        subst (λ l. AddsAll q before l after) split (more-rows before between after (rows_of (take i xs)) (rows_of (x ∷ [])) first second)
+
+-- ---- pieces
+
+module _ {X A : Type 0} (f : X → List A) where
+  pub only-piece : (x : X) → f x ≡ flat_map f (x ∷ [])
+  only-piece x = sym (append-nil (f x)) ∙ sym (flat_map-cons f x [])
+
+  module _ (P : A → Type 0) where
+    left : (a b : List A) → AllByRecursion P (a ++ b) → AllByRecursion P a
+    left [] b all = tt
+    left (x ∷ a) b all = (all.0, left a b all.1)
+
+    right : (a b : List A) → AllByRecursion P (a ++ b) → AllByRecursion P b
+    right [] b all = all
+    right (x ∷ a) b all = right a b all.1
+
+    pub in-piece : (xs : List X) (i : ℕ) (x : X) → i < length xs → x ≡ get_or xs i x → AllByRecursion P (flat_map f xs) → AllByRecursion P (f x)
+    in-piece [] i x lt is all = absurd (omega (arith, lt))
+    in-piece (y ∷ xs) zero x lt is all = subst (λ z. AllByRecursion P (f z)) (sym is) (left (f y) (flat_map f xs) (subst (AllByRecursion P) (flat_map-cons f y xs) all))
+    in-piece (y ∷ xs) (suc i) x lt is all = in-piece xs i x (omega (arith, lt)) is (right (f y) (flat_map f xs) (subst (AllByRecursion P) (flat_map-cons f y xs) all))

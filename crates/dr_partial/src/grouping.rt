@@ -65,11 +65,7 @@ fn combine(
 }
 
 // Adds a group.
-fn put(
-    groups: &mut IndexMap<Key, Numbers>,
-    key: Key,
-    values: Numbers,
-) -> Result<(), AllocError>
+fn put(groups: &mut IndexMap<Key, Numbers>, key: Key, values: Numbers) -> Result<(), AllocError>
     requires { NoneHas key (map row_of groups.old.entries) }
     ensures { OnOk result (map row_of groups.new.entries ≡ map row_of groups.old.entries ++ record { key = key; metrics = values } ∷ []) }
 {

@@ -1,7 +1,6 @@
 ghost use Rattle.std.specs.Prelude.{◌≡◌, ◌∷◌, [], map, OnOk};
-ghost use Rattle.std.specs.List.{AllByRecursion};
+ghost use Rattle.std.specs.List.{AllByRecursion, flat_map};
 ghost use Rattle.dr_time.specs.Instant.{IsInstant};
-ghost use Rattle.dr_agg.specs.Rollup.{all_rows};
 ghost use Rattle.dr_rollup.specs.Entries.{row_of};
 ghost use Rattle.dr_ask.specs.Asked.{asked, asked_shape, dimensions_by};
 ghost use Rattle.dr_answers.specs.Groups.{group_of};
@@ -23,9 +22,9 @@ pub fn add_pieces(
     query: &Query,
     pieces: &[&[Row]],
 ) -> Result<(), AllocError>
-    requires instants { AllByRecursion (λ r. IsInstant r.key.time) (all_rows (map (λ p. p.now) pieces.now)) }
+    requires instants { AllByRecursion (λ r. IsInstant r.key.time) (flat_map (λ p. p.now) pieces.now) }
     requires sound { IsSound (kinds_in query.now.aggregations) (map row_of groups.old.entries) }
-    ensures { OnOk result (AddsAll (asked query.now) (map row_of groups.old.entries) (all_rows (map (λ p. p.now) pieces.now)) (map row_of groups.new.entries)) }
+    ensures { OnOk result (AddsAll (asked query.now) (map row_of groups.old.entries) (flat_map (λ p. p.now) pieces.now) (map row_of groups.new.entries)) }
 {
     for piece in pieces {
         add_rows(groups, group, query, piece)?;

@@ -1,4 +1,4 @@
-use Rattle.std.proofs.Common.{◌≡◌, ◌∙◌, ◌<◌, ap, sym, rules, FitsSigned, w64, get_or, pos, map, length, subst, ℤ, List}
+use Rattle.std.proofs.Common.{◌≡◌, ◌∙◌, ◌<◌, sym, rules, FitsSigned, w64, get_or, pos, length, subst, ℤ, List}
 use Rattle.std.proofs.lemmas.Int.{to_z-of_z}
 use Rattle.std.proofs.lemmas.List.{length-map}
 use Rattle.dr_agg.specs.declared.kind.Kind.{Kind}

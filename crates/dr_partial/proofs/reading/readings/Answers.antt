@@ -1,5 +1,5 @@
 -- What an aggregation folds to goes behind what those before it fold to.
-use Rattle.std.proofs.Common.{◌≡◌, ◌∙◌, sym, ap, ℤ, List, ◌+◌, ◌∷◌, ◌++◌, [], drop, append_assoc, rules, FitsSigned, w64}
+use Rattle.std.proofs.Common.{◌∙◌, sym, ap, ℤ, List, ◌+◌, ◌∷◌, ◌++◌, [], drop, append_assoc, rules, FitsSigned, w64}
 use Rattle.std.proofs.lemmas.Int.{to_z-of_z}
 use Rattle.dr_answers.specs.Fold.{folded}
 use Rattle.dr_partial.specs.Grouped.{bare, folds_alone}

@@ -1,4 +1,4 @@
-use Rattle.std.proofs.Common.{◌≡◌, ◌∙◌, sym, ap, map, rules, FitsSigned, w64}
+use Rattle.std.proofs.Common.{◌∙◌, sym, map, rules, FitsSigned, w64}
 use Rattle.std.proofs.lemmas.Int.{to_z-of_z}
 use Rattle.dr_rollup.specs.Entries.{row_of}
 use Rattle.dr_ask.specs.Asked.{asked}
