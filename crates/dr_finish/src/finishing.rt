@@ -18,8 +18,11 @@ use std::alloc::Global;
 
 /// The groups that a query gives, in their order, from its partial result over some rows and the span of these rows, from the
 /// least to the greatest time, both included, in milliseconds since the epoch (Apache Druid documentation, timeseries and
-/// groupBy queries, having and limitSpec). Refusals: 81 `ResultTooLarge` where there are over 100000 groups or buckets before
-/// having, offset and limit.
+/// groupBy queries, having and limitSpec). The buckets of a timeseries are filled, unless it skips empty ones, and turned round
+/// where it is descending; the groups of a groupBy are those that its having keeps, in the order of its limitSpec, without the
+/// first ones that its offset leaves out; of either there are at most as many as its limit. Refusals: 81 `ResultTooLarge` where
+/// there are over 100000 groups or buckets before having, offset and limit; 0 `NoMemory` may come in the place of any other
+/// answer.
 ///
 /// The values of a group are moved and not copied, but for those of the buckets of a timeseries that doesn't skip empty ones.
 /// A timeseries takes time and memory by its groups or buckets, and for each bucket that is filled what looking it up takes;
