@@ -59,16 +59,24 @@ fn write_event(
     out.key("event")?;
     write_members(out, outputs, group)?;
     write_stamp(out, stamp)?;
-    write_text(out, "version", "v1")?;
+    write_version(out)?;
     out.end_object()
 }
 
+/// Writes the start of the bucket.
 fn write_stamp(out: &mut Writer, stamp: &Stamp) -> Result<(), AllocError>
     ensures { Adds result out.old out.new (member_tokens (codes "timestamp") (Some (string (instant_text stamp.now.time)))) }
 {
     write_text(out, "timestamp", stamp.text.as_str())
 }
 
+fn write_version(out: &mut Writer) -> Result<(), AllocError>
+    ensures { Adds result out.old out.new (member_tokens (codes "version") (Some (string (codes "v1")))) }
+{
+    write_text(out, "version", "v1")
+}
+
+/// Writes a member that is a text.
 fn write_text(out: &mut Writer, name: &str, text: &str) -> Result<(), AllocError>
     ensures { Adds result out.old out.new (member_tokens name.now (Some (string text.now))) }
 {
@@ -87,6 +95,7 @@ fn write_members(out: &mut Writer, outputs: &[Output], group: &ResultRow) -> Res
     out.end_object()
 }
 
+/// Writes an output under its name, where the group has a value of it.
 fn write_member(out: &mut Writer, output: &Output, group: &ResultRow) -> Result<(), AllocError>
     ensures { Adds result out.old out.new (member_tokens output.now.name (data_at group.now output.now.place)) }
 {

@@ -19,8 +19,11 @@ use std::alloc::{AllocError, Global};
 
 /// The text of the groups that a query gives, as JSON in UTF-8 without spaces, keys in ascending byte order, an empty dimension
 /// value as `null` (RFC 8259; Apache Druid documentation, timeseries and groupBy queries): of a timeseries
-/// `[{"result":{..},"timestamp":".."}]`, of a groupBy `[{"event":{..},"timestamp":"..","version":"v1"}]`. The only error is that
-/// memory ran out.
+/// `[{"result":{..},"timestamp":".."}]`, of a groupBy `[{"event":{..},"timestamp":"..","version":"v1"}]`. An output that a
+/// group has no value of is left out. The only error is that memory ran out.
+///
+/// It takes time by the bytes of the text and, once, by n log n in the outputs. The text grows in one buffer; beside it there are
+/// the outputs in the order of their names, and the text of one time.
 pub fn text_of(alloc: Global, query: &Query, groups: &[ResultRow]) -> Result<Vec<u8>, AllocError>
     requires distinct { IsDistinct bytes_eq (outputs (asked query.now)) }
     requires printable { AllByRecursion (λ g. IsPrintable g.time) groups.now }
@@ -32,7 +35,7 @@ pub fn text_of(alloc: Global, query: &Query, groups: &[ResultRow]) -> Result<Vec
     Ok(out.into_inner())
 }
 
-/// Writes the list of the groups. The text of a time is kept for the groups behind it with the same time.
+/// Writes the list of the groups. The text of a time is kept for the groups with the same time that follow.
 fn write_groups(
     alloc: Global,
     out: &mut Writer,
