@@ -8,3 +8,5 @@ pub mod RankLemmas
 pub mod ReadingLemmas
 pub mod OpenLemmas
 pub mod DictionaryLemmas
+pub mod SpellingLemmas
+pub mod WholeLemmas
