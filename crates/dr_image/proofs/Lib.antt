@@ -10,3 +10,5 @@ pub mod OpenLemmas
 pub mod DictionaryLemmas
 pub mod SpellingLemmas
 pub mod WholeLemmas
+pub mod ListingLemmas
+pub mod TableLemmas

@@ -9,3 +9,4 @@ pub mod Parts
 pub mod Starts
 pub mod Opening
 pub mod Checked
+pub mod Laws
