@@ -12,3 +12,4 @@ pub mod SpellingLemmas
 pub mod WholeLemmas
 pub mod ListingLemmas
 pub mod TableLemmas
+pub mod OrderLemmas
