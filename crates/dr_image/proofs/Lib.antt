@@ -13,3 +13,4 @@ pub mod WholeLemmas
 pub mod ListingLemmas
 pub mod TableLemmas
 pub mod OrderLemmas
+pub mod OpenedLemmas

@@ -2,7 +2,9 @@
 use Rattle.std.proofs.Common.{◌≡◌, refl, ℕ, Bool, true, false, List, Result, Ok, Err}
 use Rattle.dr_base.specs.Reading.{◌>>=◌}
 use Rattle.dr_image.specs.declared.image_error.ImageError.{ImageError}
+use Rattle.dr_image.specs.declared.image_error.ImageError.TheVariants.{DigestMismatch}
 use Rattle.dr_image.specs.Table.{Table}
+use Rattle.dr_image.specs.Layout.{read_table}
 use Rattle.dr_image.specs.Opening.{unless, framed, filled, open_of, has_digest}
 use Rattle.dr_image.specs.Checked.{AreChecked, Opens}
 
@@ -41,6 +43,21 @@ pub record IsOpen (bytes : List ℕ) : Type 0 where
   pub frame : framed bytes ≡ Ok tt
   pub undamaged : has_digest bytes ≡ true
   pub checked : AreChecked bytes
+
+abbrev got : Table → Result Table ImageError
+got t = Ok t
+
+table_same : (t u : Table) → got t ≡ got u → t ≡ u
+table_same t u e = cc
+
+-- the columns are those that are read
+pub opened_as : (bytes : List ℕ) (t : Table) → open_of bytes ≡ Ok t → read_table bytes ≡ t
+unfolding open_of
+opened_as bytes t h =
+    let a = goes_by (framed bytes) _ t h in
+    let b = passed_by DigestMismatch (has_digest bytes) _ t a.rest_is in
+    let c = goes_by (filled bytes) _ t b.rest_is in
+    table_same (read_table bytes) t c.rest_is
 
 pub opened : (bytes : List ℕ) (t : Table) → open_of bytes ≡ Ok t → IsOpen bytes
 unfolding open_of

@@ -71,7 +71,7 @@ at_from x a k b bs front e = ap (λ n. x ++ drop n bs) (sym e) ∙ ap (λ z. x +
 pub at_by : (x : List ℕ) (a k b : ℕ) (bs : List ℕ) → x ≡ take k (drop a bs) → a + k ≡ b → At x a b bs
 at_by x a k b bs e sum = at_from x a k b bs (fronts_by x k (drop a bs) e) sum
 
-length-words : (n : ℕ) (bs : List ℕ) → length (words n bs) ≡ n
+pub length-words : (n : ℕ) (bs : List ℕ) → length (words n bs) ≡ n
 length-words n bs = length-map (first_chunks 4 n bs) word ∙ length-first_chunks 4 n bs
 
 -- ---- a dimension
@@ -237,7 +237,7 @@ header_rollup : (bytes : List ℕ) → (header_of bytes).rollup ≡ (word_at w16
 unfolding header_of
 header_rollup bytes = refl
 
-header_numbers : (bytes : List ℕ) → header_of bytes ≡ record { rollup = word_at w16 6 bytes == 1; chunk = cast_signed w64 (word_at w64 16 bytes); from = word_at w64 24 bytes; to = word_at w64 32 bytes; dims = word_at w16 40 bytes; metrics = word_at w16 42 bytes; rows = word_at w32 44 bytes }
+pub header_numbers : (bytes : List ℕ) → header_of bytes ≡ record { rollup = word_at w16 6 bytes == 1; chunk = cast_signed w64 (word_at w64 16 bytes); from = word_at w64 24 bytes; to = word_at w64 32 bytes; dims = word_at w16 40 bytes; metrics = word_at w16 42 bytes; rows = word_at w32 44 bytes }
 unfolding header_of
 header_numbers bytes = refl
 
