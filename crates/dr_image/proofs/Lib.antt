@@ -14,3 +14,4 @@ pub mod ListingLemmas
 pub mod TableLemmas
 pub mod OrderLemmas
 pub mod OpenedLemmas
+pub mod RowLemmas
