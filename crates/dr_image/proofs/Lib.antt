@@ -15,3 +15,4 @@ pub mod TableLemmas
 pub mod OrderLemmas
 pub mod OpenedLemmas
 pub mod RowLemmas
+pub mod DecodingLemmas
