@@ -65,7 +65,7 @@ skip : (k : ℕ) (xs ys rest : List ℕ) → k ≡ length xs → drop k ((xs ++ 
 skip k xs ys rest e =
     ap (drop k) (append_assoc xs ys rest) ∙ ap (λ m. drop m (xs ++ (ys ++ rest))) e ∙ drop-append-le (length xs) xs (ys ++ rest) (omega arith) ∙ ap (λ z. z ++ (ys ++ rest)) (drop_all (length xs) xs (omega arith))
 
-skip_on : (a k b : ℕ) (z xs ys rest : List ℕ) → drop a z ≡ (xs ++ ys) ++ rest → k ≡ length xs → a + k ≡ b → drop b z ≡ ys ++ rest
+pub skip_on : (a k b : ℕ) (z xs ys rest : List ℕ) → drop a z ≡ (xs ++ ys) ++ rest → k ≡ length xs → a + k ≡ b → drop b z ≡ ys ++ rest
 skip_on a k b z xs ys rest at e sum = ap (λ m. drop m z) (sym sum) ∙ sym (drop-drop k a z) ∙ ap (drop k) at ∙ skip k xs ys rest e
 
 first : (k : ℕ) (xs ys rest : List ℕ) → k ≡ length xs → take k ((xs ++ ys) ++ rest) ≡ xs
@@ -161,17 +161,14 @@ pub record AreParts (n : ℕ) (cs : List Column) (rest : List ℕ) : Type 0 wher
   pub are : parts_of (length cs) n (flat_map bytes_of_column cs ++ rest) ≡ map part_for cs
   pub fill : parts_fill (length cs) n (flat_map bytes_of_column cs ++ rest) ≡ true
 
-length-column : (n : ℕ) (c : Column) → IsSpelled n c → length (bytes_of_column c) ≡ 8 + 8 * length c.dictionary + length (joined c.dictionary) + 8 * n
+pub length-column : (n : ℕ) (c : Column) → length c.numbers ≡ n → length (joined c.lists) ≡ n → length c.lists ≡ length c.dictionary → length (bytes_of_column c) ≡ 8 + 8 * length c.dictionary + length (joined c.dictionary) + 8 * n
 unfolding bytes_of_column four_bytes
-length-column n c spelled =
+length-column n c long all lists =
     let e1 : List ℕ = spelled_words (ends_from 0 c.dictionary) in
     let e2 : List ℕ = spelled_words (ends_from 0 c.lists) in
     let r : List ℕ = spelled_words (joined c.lists) in
     let ns : List ℕ = spelled_words c.numbers in
     let ds : List ℕ = joined c.dictionary in
-    let long = spelled.long in
-    let all = spelled.all_rows in
-    let lists = spelled.lists in
     omega (arith, long, all, lists, length-append e1 (ds ++ (ns ++ (e2 ++ r))), length-append ds (ns ++ (e2 ++ r)), length-append ns (e2 ++ r), length-append e2 r,
         length-spelled_words (ends_from 0 c.dictionary), length-spelled_words (ends_from 0 c.lists), length-spelled_words (joined c.lists), length-spelled_words c.numbers,
         length-ends 0 c.dictionary, length-ends 0 c.lists)
@@ -189,7 +186,7 @@ parts_read n (c ∷ cs) rest all last =
     let here : part_of n z ≡ part_for c = ap (part_of n) e ∙ one.is in
     let on : drop (part_size n z) z ≡ y ++ rest = (λ i. drop (part_size n (e i)) (e i)) ∙ one.behind_it in
     let size : part_size n z ≡ 8 + 8 * length c.dictionary + length (joined c.dictionary) + 8 * n = ap (part_size n) e ∙ one.size in
-    let room : part_size n z + 32 ≤ length z = omega (arith, size, length-column n c all.0, ap length e, length-append (bytes_of_column c) (y ++ rest), length-append y rest, last) in
+    let room : part_size n z + 32 ≤ length z = omega (arith, size, length-column n c all.0.long all.0.all_rows all.0.lists, ap length e, length-append (bytes_of_column c) (y ++ rest), length-append y rest, last) in
     record {
       are = (λ i. here i ∷ parts_of (length cs) n (on i)) ∙ ap (λ k. part_for c ∷ k) more.are;
       fill = and_from _ _ (le-leb _ _ room) (ap (parts_fill (length cs) n) on ∙ more.fill);

@@ -16,3 +16,5 @@ pub mod OrderLemmas
 pub mod OpenedLemmas
 pub mod RowLemmas
 pub mod DecodingLemmas
+pub mod EncodedLemmas
+pub mod LawLemmas

@@ -44,10 +44,10 @@ pub record IsOpen (bytes : List ℕ) : Type 0 where
   pub undamaged : has_digest bytes ≡ true
   pub checked : AreChecked bytes
 
-abbrev got : Table → Result Table ImageError
+abbrev pub got : Table → Result Table ImageError
 got t = Ok t
 
-table_same : (t u : Table) → got t ≡ got u → t ≡ u
+pub table_same : (t u : Table) → got t ≡ got u → t ≡ u
 table_same t u e = cc
 
 -- the columns are those that are read

@@ -86,7 +86,7 @@ unfolding metrics_of
 metrics_fit zero n bs fits = tt
 metrics_fit (suc m) n bs fits = (longs_fit n bs fits, metrics_fit m n (drop (8 * n) bs) (bytes-drop (8 * n) bs fits))
 
-fits_at : (zs : List ℤ) (i : ℕ) → AllByRecursion (FitsSigned w64) zs → FitsSigned w64 (get_or zs i (pos 0))
+pub fits_at : (zs : List ℤ) (i : ℕ) → AllByRecursion (FitsSigned w64) zs → FitsSigned w64 (get_or zs i (pos 0))
 fits_at [] i all = search rules
 fits_at (z ∷ zs) zero all = all.0
 fits_at (z ∷ zs) (suc i) all = fits_at zs i all.1

@@ -312,7 +312,7 @@ columns_at bytes fits headed checked =
       left = filled.left;
     }
 
-seam : (xs ys : List ℕ) (n : ℕ) → length (xs ++ ys) ≡ n → length ys ≡ 32 → (take (n - 32) (xs ++ ys) ≡ xs) × (drop (n - 32) (xs ++ ys) ≡ ys)
+pub seam : (xs ys : List ℕ) (n : ℕ) → length (xs ++ ys) ≡ n → length ys ≡ 32 → (take (n - 32) (xs ++ ys) ≡ xs) × (drop (n - 32) (xs ++ ys) ≡ ys)
 seam xs ys n all last =
     let e : n - 32 ≡ length xs = omega (arith, length-append xs ys) in
     (ap (λ k. take k (xs ++ ys)) e ∙ take-append-le (length xs) xs ys (omega arith) ∙ take_all (length xs) xs (omega arith),
