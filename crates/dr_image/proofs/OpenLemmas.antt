@@ -6,7 +6,7 @@ use Rattle.dr_image.specs.declared.image_error.ImageError.TheVariants.{DigestMis
 use Rattle.dr_image.specs.Table.{Table}
 use Rattle.dr_image.specs.Layout.{read_table}
 use Rattle.dr_image.specs.Opening.{unless, framed, filled, open_of, has_digest}
-use Rattle.dr_image.specs.Checked.{AreChecked, Opens}
+use Rattle.dr_image.specs.Checked.{AreChecked}
 
 -- a check that is passed, and what follows it
 pub record IsPassed {A : Type 0} (b : Bool) (rest : Result A ImageError) (x : A) : Type 0 where
@@ -67,7 +67,6 @@ opened bytes t h =
     let c = goes_by _ _ _ b.rest_is in
     record { frame = a.first_is; undamaged = b.passes; checked = checked_by bytes c.first c.first_is }
 
-pub opens_by : (bytes : List ℕ) (u : Unit {0}) → framed bytes ≡ Ok tt → has_digest bytes ≡ true → filled bytes ≡ Ok u → Opens bytes
+pub opens_with : (bytes : List ℕ) (u : Unit {0}) → framed bytes ≡ Ok tt → has_digest bytes ≡ true → filled bytes ≡ Ok u → open_of bytes ≡ Ok (read_table bytes)
 unfolding open_of
-opens_by bytes u frame undamaged right =
-    record { opens = rw (frame, undamaged, right) refl; checked = checked_by bytes u right }
+opens_with bytes u frame undamaged right = rw (frame, undamaged, right) refl

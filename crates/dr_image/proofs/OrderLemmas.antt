@@ -1,5 +1,5 @@
 -- How rows compare: by the numbers of their values as by the values themselves. And what order says of their times.
-use Rattle.std.proofs.Common.{◌≡◌, ◌∙◌, sym, refl, ap, subst, ℕ, ℤ, pos, zero, suc, ◌+◌, ◌-◌, ◌<◌, ◌≤◌, ◌≤ℤ◌, ◌<ℤ◌, Bool, true, false, cond, ◌&&◌, List, [], ◌∷◌, length, map, get_or, arith, true≢false, nat_lt, ◌==◌}
+use Rattle.std.proofs.Common.{◌≡◌, ◌∙◌, sym, refl, ap, subst, ℕ, ℤ, pos, zero, suc, ◌+◌, ◌-◌, ◌<◌, ◌≤◌, ◌≤ℤ◌, ◌<ℤ◌, Bool, true, false, cond, ◌&&◌, List, [], ◌∷◌, length, map, get_or, arith, true≢false, nat_lt, ◌==◌, slice_get, Some, All}
 use Rattle.std.specs.List.{list_all, range_with_len, AllByRecursion}
 use Rattle.std.specs.declared.cmp.Ordering.{Ordering}
 use Rattle.std.specs.declared.cmp.Ordering.TheVariants.{Less, Equal, Greater}
@@ -8,6 +8,8 @@ use Rattle.std.specs.Cmp.Lexicographic.{slice_cmp, nat_list_cmp_total}
 use Rattle.std.proofs.lemmas.Cmp.{tied_itself, nat_cmp_total, int_ranked}
 use Rattle.std.proofs.lemmas.Bool.{and_parts, lt-ltb, ltb-true, ltb-false}
 use Rattle.std.proofs.lemmas.Int.{ints}
+use Rattle.std.proofs.lemmas.Option.{get_or_from_slice_get}
+use Rattle.std.proofs.lemmas.List.{get_or_default}
 use Rattle.std.proofs.lemmas.List.FromFn.{length-range_with_len, get_or-range_with_len}
 use Rattle.dr_image.specs.Table.{Column, Table, value_at, row_at, rows_of}
 use Rattle.dr_image.specs.Sealed.{each_next, goes_on, may_follow}
@@ -123,3 +125,20 @@ times_up rollup times parts i (suc k) fit lt =
     let b = next_up rollup times parts (i + k) fit (omega arith) in
     let e : get_or times (i + suc k) (pos 0) ≡ get_or times (i + k + 1) (pos 0) = ap (λ n. get_or times n (pos 0)) (omega arith) in
     omega (arith, ints, a, b, e)
+
+pub least_is : (rollup : Bool) (times : List ℤ) (parts : List Part) (z : ℤ) → ranks_fit rollup times parts ≡ true → slice_get times 0 ≡ Some z → All (λ t. z ≤ℤ t) times
+least_is rollup times parts z fit at k d lt =
+    let first : get_or times 0 (pos 0) ≡ z = get_or_from_slice_get times 0 z (pos 0) at in
+    let here : get_or times k d ≡ get_or times k (pos 0) = get_or_default times k d (pos 0) lt in
+    let place : get_or times (0 + k) (pos 0) ≡ get_or times k (pos 0) = ap (λ n. get_or times n (pos 0)) (omega arith) in
+    let up = times_up rollup times parts 0 k fit (omega (arith, lt)) in
+    omega (arith, ints, first, here, place, up)
+
+pub greatest_is : (rollup : Bool) (times : List ℤ) (parts : List Part) (z : ℤ) → ranks_fit rollup times parts ≡ true → slice_get times (length times - 1) ≡ Some z → All (λ t. t ≤ℤ z) times
+greatest_is rollup times parts z fit at k d lt =
+    let left : ℕ = length times - 1 - k in
+    let last : get_or times (length times - 1) (pos 0) ≡ z = get_or_from_slice_get times (length times - 1) z (pos 0) at in
+    let here : get_or times k d ≡ get_or times k (pos 0) = get_or_default times k d (pos 0) lt in
+    let place : get_or times (k + left) (pos 0) ≡ get_or times (length times - 1) (pos 0) = ap (λ n. get_or times n (pos 0)) (omega (arith, lt)) in
+    let up = times_up rollup times parts k left fit (omega (arith, lt)) in
+    omega (arith, ints, last, here, place, up)

@@ -15,6 +15,10 @@ pub record IsImageOf (bytes : List ℕ) (s : Sealed) : Type 0 where
   pub few : length bytes ≤ 1073741824
   pub is : bytes ≡ image s
 
+pub record IsImage (bytes : List ℕ) : Type 0 where
+  pub sealed : Sealed
+  pub is : IsImageOf bytes sealed
+
 -- what opens is the image of what it is opened as
 abbrev pub OpenedIsImage : Type 0
 OpenedIsImage = (bytes : List ℕ) (t : Table) → All (λ b. b < 256) bytes → open_of bytes ≡ Ok t → IsImageOf bytes (sealed_by t)
