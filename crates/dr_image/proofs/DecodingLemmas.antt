@@ -1,18 +1,16 @@
 -- The columns that are read from the bytes of columns are these columns.
-use Rattle.std.proofs.Common.{◌≡◌, ◌∙◌, sym, refl, ap, subst, ℕ, ℤ, pos, zero, suc, ◌+◌, ◌-◌, ◌*◌, ◌^◌, ◌<◌, ◌≤◌, Bool, true, false, ◌&&◌, ◌==◌, FitsSigned, List, [], ◌∷◌, ◌++◌, length, map, take, drop, get_or, arith, nat_le, mul-suc, lit<, if◌then◌else◌}
-use Rattle.std.specs.List.{flat_map, list_all, AllByRecursion}
-use Rattle.std.specs.Int.{w16, w32, w64, to_le_bytes, from_le_bytes, cast_signed}
-use Rattle.std.proofs.lemmas.Nat.{from_le_bytes-to_le_bytes_2, from_le_bytes-to_le_bytes_4, from_le_bytes-to_le_bytes_8}
+use Rattle.std.proofs.Common.{◌≡◌, ◌∙◌, sym, refl, ap, ℕ, ℤ, zero, suc, ◌+◌, ◌-◌, ◌*◌, ◌^◌, ◌<◌, ◌≤◌, true, FitsSigned, List, [], ◌∷◌, ◌++◌, length, map, take, drop, arith, mul-suc, lit<}
+use Rattle.std.specs.List.{flat_map, AllByRecursion}
+use Rattle.std.specs.Int.{w32, w64, to_le_bytes, from_le_bytes}
+use Rattle.std.proofs.lemmas.Nat.{from_le_bytes-to_le_bytes_4}
 use Rattle.std.proofs.lemmas.Bool.{and_from, le-leb, eq-eqb}
-use Rattle.std.proofs.lemmas.List.{length-map, length-append, append_assoc, append-nil, drop-drop, drop_all, take_all, take-append-le, drop-append-le}
-use Rattle.dr_image.specs.declared.header.Header.{Header}
-use Rattle.dr_image.specs.Words.{word, words, long, longs, word_at, four_bytes, eight_bytes, spelled_words, spelled_longs}
+use Rattle.std.proofs.lemmas.List.{length-append, append_assoc, append-nil, drop-drop, drop_all, take_all, take-append-le, drop-append-le}
+use Rattle.dr_image.specs.Words.{words, long, longs, word_at, four_bytes, spelled_words, spelled_longs}
 use Rattle.dr_image.specs.Pieces.{pieces, ends_from, ends_fit}
-use Rattle.dr_image.specs.Table.{Column, Table}
-use Rattle.dr_image.specs.Image.{joined, magic, bytes_of_column, data_of, head_of, bytes_of, with_digest}
-use Rattle.dr_image.specs.Layout.{Part, header_of, metrics_at, dims_at, values_in, texts_in, part_with, part_of, part_size, parts_of, parts_in, behind, parts_fill, metrics_of, column_in, read_table}
-use Rattle.dr_image.proofs.SpellingLemmas.{AreWords, words_read, longs_read, length-spelled_words, length-spelled_longs, long_eight}
-use Rattle.dr_image.proofs.TableLemmas.{maps}
+use Rattle.dr_image.specs.Table.{Column}
+use Rattle.dr_image.specs.Image.{joined, bytes_of_column}
+use Rattle.dr_image.specs.Layout.{Part, values_in, texts_in, part_with, part_of, part_size, parts_of, parts_fill, metrics_of}
+use Rattle.dr_image.proofs.SpellingLemmas.{AreWords, words_read, longs_read, length-spelled_words, length-spelled_longs}
 
 -- ---- pieces
 
@@ -146,7 +144,7 @@ column_read n c rest spelled =
     let body : drop 8 z ≡ body_of p ++ rest = body_read c rest in
     let got : IsPart n v t (body_of p ++ rest) rest p =
     part_read n v t p rest (ends_words 0 c.dictionary (omega (arith, texts))) spelled.numbers (ends_words 0 c.lists (omega (arith, all, rows))) spelled.listed
-        (sym (length-ends 0 c.dictionary)) refl (sym spelled.long) (sym (length-ends 0 c.lists ∙ spelled.lists)) (sym all) in
+    (sym (length-ends 0 c.dictionary)) refl (sym spelled.long) (sym (length-ends 0 c.lists ∙ spelled.lists)) (sym all) in
     let size : 8 + 8 * values_in z + texts_in z + 8 * n ≡ 8 + 8 * v + t + 8 * n = λ i. 8 + 8 * values i + sizes i + 8 * n in
     let sum : 8 + (8 * v + t + 8 * n) ≡ 8 + 8 * v + t + 8 * n = omega arith in
     record {
@@ -169,9 +167,22 @@ length-column n c long all lists =
     let r : List ℕ = spelled_words (joined c.lists) in
     let ns : List ℕ = spelled_words c.numbers in
     let ds : List ℕ = joined c.dictionary in
-    omega (arith, long, all, lists, length-append e1 (ds ++ (ns ++ (e2 ++ r))), length-append ds (ns ++ (e2 ++ r)), length-append ns (e2 ++ r), length-append e2 r,
-        length-spelled_words (ends_from 0 c.dictionary), length-spelled_words (ends_from 0 c.lists), length-spelled_words (joined c.lists), length-spelled_words c.numbers,
-        length-ends 0 c.dictionary, length-ends 0 c.lists)
+    omega (
+      arith,
+      long,
+      all,
+      lists,
+      length-append e1 (ds ++ (ns ++ (e2 ++ r))),
+      length-append ds (ns ++ (e2 ++ r)),
+      length-append ns (e2 ++ r),
+      length-append e2 r,
+      length-spelled_words (ends_from 0 c.dictionary),
+      length-spelled_words (ends_from 0 c.lists),
+      length-spelled_words (joined c.lists),
+      length-spelled_words c.numbers,
+      length-ends 0 c.dictionary,
+      length-ends 0 c.lists,
+    )
 
 pub parts_read : (n : ℕ) (cs : List Column) (rest : List ℕ) → AllByRecursion (IsSpelled n) cs → length rest ≡ 32 → AreParts n cs rest
 unfolding parts_of parts_fill
@@ -204,6 +215,7 @@ metrics_read n (zs ∷ zss) rest all =
     let here : longs n z ≡ zs = (λ i. longs (sym long i) (append_assoc (spelled_longs zs) y rest i)) ∙ longs_read zs (y ++ rest) all.0.1 in
     let on : drop (8 * n) z ≡ y ++ rest = skip (8 * n) (spelled_longs zs) y rest size in
     let more = metrics_read n zss rest all.1 in
-    let sum : 8 * n + 8 * n * length zss ≡ 8 * n * suc (length zss) = (let m = mul-suc (8 * n) (length zss) in omega (arith, m)) in
-    ((λ i. here i ∷ metrics_of (length zss) n (on i)) ∙ ap (λ k. zs ∷ k) more.0,
-        ap (λ k. drop k z) (sym sum) ∙ sym (drop-drop (8 * n * length zss) (8 * n) z) ∙ ap (drop (8 * n * length zss)) on ∙ more.1)
+    let sum : 8 * n + 8 * n * length zss ≡ 8 * n * suc (length zss) = (let m = mul-suc (8 * n) (length zss) in omega (arith, m)) in (
+      (λ i. here i ∷ metrics_of (length zss) n (on i)) ∙ ap (λ k. zs ∷ k) more.0,
+      ap (λ k. drop k z) (sym sum) ∙ sym (drop-drop (8 * n * length zss) (8 * n) z) ∙ ap (drop (8 * n * length zss)) on ∙ more.1,
+    )

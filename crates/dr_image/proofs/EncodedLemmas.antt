@@ -1,33 +1,31 @@
 -- Each image of at most 2^30 bytes opens, as the columns that were written.
-use Rattle.std.proofs.Common.{◌≡◌, ◌∙◌, sym, refl, ap, subst, ℕ, ℤ, pos, zero, suc, ◌+◌, ◌-◌, ◌*◌, ◌^◌, ◌<◌, ◌≤◌, ◌≤ℤ◌, Bool, true, false, cond, ◌&&◌, ◌||◌, ◌==◌, FitsSigned, List, [], ◌∷◌, ◌++◌, length, map, take, drop, get_or, bytes_eq, arith, lit<, nat_le, nat_lt, if◌then◌else◌, All, IsUtf8, Ok, not}
+use Rattle.std.proofs.Common.{◌≡◌, ◌∙◌, sym, refl, ap, subst, ℕ, ℤ, pos, zero, suc, ◌+◌, ◌-◌, ◌*◌, ◌^◌, ◌<◌, ◌≤◌, ◌≤ℤ◌, Bool, true, false, cond, ◌||◌, ◌==◌, FitsSigned, List, [], ◌∷◌, ◌++◌, length, map, take, drop, get_or, arith, lit<, nat_le, nat_lt, if◌then◌else◌, IsUtf8, Ok}
 use Rattle.std.specs.Prelude.{int_le}
 use Rattle.std.specs.List.{flat_map, list_all, range_with_len, AllByRecursion}
-use Rattle.std.specs.Int.{w16, w32, w64, to_le_bytes, from_le_bytes, cast_signed, to_be_bytes}
+use Rattle.std.specs.Int.{w16, w32, w64, to_le_bytes, from_le_bytes}
 use Rattle.std.specs.Cmp.Lexicographic.{bytes_decides}
 use Rattle.std.proofs.lemmas.Str.{IsUtf8-nil}
 use Rattle.std.proofs.lemmas.Int.{ints}
 use Rattle.std.proofs.lemmas.Nat.{from_le_bytes-to_le_bytes_2, from_le_bytes-to_le_bytes_4, from_le_bytes-to_le_bytes_8}
 use Rattle.std.proofs.lemmas.Bool.{and_from, le-leb, lt-ltb, eq-eqb, true_from_ne_false}
-use Rattle.std.proofs.lemmas.List.{length-map, length-append, append_assoc, get_or-map, drop-drop, length-drop}
+use Rattle.std.proofs.lemmas.List.{length-map, length-append, append_assoc, drop-drop, length-drop}
 use Rattle.std.proofs.lemmas.List.Elements.{recursion_from_All}
 use Rattle.std.proofs.lemmas.List.FromFn.{length-map-range_with_len}
 use Rattle.sha2.specs.Sha256.{sha256, digest_bytes}
-use Rattle.dr_base.specs.Reading.{◌>>=◌}
 use Rattle.dr_base.specs.declared.row.Row.{Row}
 use Rattle.dr_time.specs.Instant.{IsInstant, first_instant, last_instant}
 use Rattle.dr_image.specs.declared.header.Header.{Header}
-use Rattle.dr_image.specs.Words.{word, words, long, longs, word_at, four_bytes, eight_bytes, spelled_words, spelled_longs}
-use Rattle.dr_image.specs.Pieces.{pieces, ends_from, ends_fit}
+use Rattle.dr_image.specs.Words.{long, longs, word_at, eight_bytes, spelled_longs}
+use Rattle.dr_image.specs.Pieces.{pieces, ends_from}
 use Rattle.dr_image.specs.Table.{Column, Table, rows_of}
 use Rattle.dr_image.specs.Sealed.{Sealed, HasImage, IsRowOf, each_next, may_follow}
-use Rattle.dr_image.specs.Image.{joined, rows_with, lists_of, magic, bytes_of_column, data_of, head_of, bytes_of, image, column_of, values_of, metric_of, table_of}
+use Rattle.dr_image.specs.Image.{joined, rows_with, magic, bytes_of_column, data_of, head_of, bytes_of, image, column_of, values_of, metric_of, table_of}
 use Rattle.dr_image.specs.Layout.{Part, header_of, metrics_at, dims_at, parts_of, parts_in, parts_fill, metrics_of, column_in, read_table}
-use Rattle.dr_image.specs.Opening.{headed, framed, filled, open_of, is_version, is_length, counts_fit, columns_fill, has_digest, is_dictionary, numbers_fit, is_instant, times_fit, ranks_fit, is_index, is_row_list, row_lists_fit, texts_fit}
+use Rattle.dr_image.specs.Opening.{headed, framed, filled, open_of, is_version, is_length, counts_fit, columns_fill, has_digest, is_dictionary, numbers_fit, is_instant, times_fit, ranks_fit, is_index, row_lists_fit, texts_fit}
 use Rattle.dr_image.proofs.SpellingLemmas.{AreWords, longs_read, length-spelled_longs, long_eight}
-use Rattle.dr_image.proofs.WholeLemmas.{seam, header_numbers}
-use Rattle.dr_image.proofs.ReadingLemmas.{all_at}
+use Rattle.dr_image.proofs.WholeLemmas.{seam}
 use Rattle.dr_image.proofs.ListingLemmas.{total_all}
-use Rattle.dr_image.proofs.TableLemmas.{IsListed, maps}
+use Rattle.dr_image.proofs.TableLemmas.{IsListed}
 use Rattle.dr_image.proofs.OrderLemmas.{order_is}
 use Rattle.dr_image.proofs.OpenedLemmas.{fits_at}
 use Rattle.dr_image.proofs.RowLemmas.{listed_values, times_long, rows_again, row_lists_of, joined_total}
@@ -263,11 +261,11 @@ counts_ok t written =
     let some = written.some_row in
     let range = written.range in
     and_from _ _ (le-leb 1 n some)
-        (and_from _ _ (le-leb 1 (length t.dims) written.some_dimension)
-            (and_from _ _ (le-leb (length t.dims) 64 written.few_dimensions)
-                (and_from _ _ (le-leb (length t.metrics) 64 written.few_metrics)
-                    (and_from _ _ (lt-ltb t.from t.to (omega (arith, some, range)))
-                        (and_from _ _ (le-leb n (t.to - t.from) range) (events t.rollup refl))))))
+    (and_from _ _ (le-leb 1 (length t.dims) written.some_dimension)
+    (and_from _ _ (le-leb (length t.dims) 64 written.few_dimensions)
+    (and_from _ _ (le-leb (length t.metrics) 64 written.few_metrics)
+    (and_from _ _ (lt-ltb t.from t.to (omega (arith, some, range)))
+    (and_from _ _ (le-leb n (t.to - t.from) range) (events t.rollup refl))))))
   where
     events : (b : Bool) → t.rollup ≡ b → (b || (length t.times == t.to - t.from)) ≡ true
     events true e = refl
@@ -284,9 +282,9 @@ is_framed t rest written last =
     let l : ℕ = word_at w64 8 z in
     let counts : counts_fit (header_of z) ≡ true = ap counts_fit (header_read t rest written) ∙ counts_ok t written in
     framed_ok z
-        (headed_ok z (le-leb 16 (length z) (omega (arith, long))) (eq-eqb _ _ w.0) (and_from _ _ (eq-eqb _ _ w.1) w.2) (le-leb l (length z) (omega (arith, same)))
-            (and_from _ _ (le-leb (length z) l (omega (arith, same))) (and_from _ _ (le-leb 80 l (omega (arith, said))) (le-leb l 1073741824 (omega (arith, said, size))))) counts)
-        (is_read t rest written last).fills
+    (headed_ok z (le-leb 16 (length z) (omega (arith, long))) (eq-eqb _ _ w.0) (and_from _ _ (eq-eqb _ _ w.1) w.2) (le-leb l (length z) (omega (arith, same)))
+    (and_from _ _ (le-leb (length z) l (omega (arith, same))) (and_from _ _ (le-leb 80 l (omega (arith, said))) (le-leb l 1073741824 (omega (arith, said, size))))) counts)
+    (is_read t rest written last).fills
 
 -- ---- the contents
 
@@ -306,7 +304,7 @@ index_ok : (n : ℕ) (c : Column) → IsListed n c → is_index (part_for c) ≡
 index_ok n c listed =
     let e : pieces 0 (ends_from 0 c.lists) (joined c.lists) ≡ c.lists = pieces_of_ends 0 c.lists (joined c.lists) refl in
     and_from _ _ (ends_of_fit 0 (length (joined c.lists)) c.lists (omega arith))
-        (ap (row_lists_fit 0 c.numbers) (e ∙ listed.lists) ∙ row_lists_of 0 (length c.dictionary) c.numbers (λ v lt. listed.used v (omega (arith, lt))))
+    (ap (row_lists_fit 0 c.numbers) (e ∙ listed.lists) ∙ row_lists_of 0 (length c.dictionary) c.numbers (λ v lt. listed.used v (omega (arith, lt))))
 
 filled_ok : (z : List ℕ) → list_all is_dictionary (parts_in z) ≡ true → list_all numbers_fit (parts_in z) ≡ true → times_fit (read_table z).chunk (read_table z).times ≡ true
     → ranks_fit (read_table z).rollup (read_table z).times (parts_in z) ≡ true → list_all is_index (parts_in z) ≡ true → filled z ≡ Ok tt
@@ -318,10 +316,10 @@ is_filled t z written got =
     let n : ℕ = length t.times in
     let parts = got.parts in
     filled_ok z (ap (list_all is_dictionary) parts ∙ all_of_map is_dictionary (IsListed n) part_for (dictionary_ok n) t.dims written.dims)
-        (ap (list_all numbers_fit) parts ∙ all_of_map numbers_fit (IsListed n) part_for (numbers_ok n) t.dims written.dims)
-        (ap (λ (k : Table). times_fit k.chunk k.times) got.table ∙ written.instants)
-        ((λ i. ranks_fit (got.table i).rollup (got.table i).times (parts i)) ∙ sym (order_is t (map part_for t.dims) written.some_row (columns_back t.dims) written.dims) ∙ written.order)
-        (ap (list_all is_index) parts ∙ all_of_map is_index (IsListed n) part_for (index_ok n) t.dims written.dims)
+    (ap (list_all numbers_fit) parts ∙ all_of_map numbers_fit (IsListed n) part_for (numbers_ok n) t.dims written.dims)
+    (ap (λ (k : Table). times_fit k.chunk k.times) got.table ∙ written.instants)
+    ((λ i. ranks_fit (got.table i).rollup (got.table i).times (parts i)) ∙ sym (order_is t (map part_for t.dims) written.some_row (columns_back t.dims) written.dims) ∙ written.order)
+    (ap (list_all is_index) parts ∙ all_of_map is_index (IsListed n) part_for (index_ok n) t.dims written.dims)
 
 digest_ok : (body : List ℕ) → has_digest (body ++ sha256 body) ≡ true
 digest_ok body =
@@ -374,9 +372,10 @@ listed_dim s d rows =
     subst (λ (n : ℕ). IsListed n (column_of vs)) (length-map s.rows (λ (r : Row). get_or r.key.dims d [])) (listed_values vs utf8)
 
 metric_fits : (s : Sealed) (m : ℕ) → AllByRecursion (IsRowOf s) s.rows → (length (metric_of m s.rows) ≡ length s.rows) × AllByRecursion (FitsSigned w64) (metric_of m s.rows)
-metric_fits s m rows =
-    (length-map s.rows (λ (r : Row). get_or r.metrics m (pos 0)),
-        from_each (IsRowOf s) (FitsSigned w64) (λ (r : Row). get_or r.metrics m (pos 0)) (λ r is. fits_at r.metrics m (recursion_from_All (FitsSigned w64) r.metrics is.in_range)) s.rows rows)
+metric_fits s m rows = (
+  length-map s.rows (λ (r : Row). get_or r.metrics m (pos 0)),
+  from_each (IsRowOf s) (FitsSigned w64) (λ (r : Row). get_or r.metrics m (pos 0)) (λ r is. fits_at r.metrics m (recursion_from_All (FitsSigned w64) r.metrics is.in_range)) s.rows rows,
+)
 
 all_instants : (s : Sealed) (rows : List Row) → AllByRecursion (IsRowOf s) rows → list_all is_instant (map (λ (r : Row). r.key.time) rows) ≡ true
 all_instants s [] all = refl

@@ -1,16 +1,15 @@
 -- Reading and writing agree.
 use Rattle.std.proofs.Common.{◌≡◌, ◌∙◌, sym, ap, subst, ℕ, ◌≤◌, List, length, Result, Ok, Err, IsOk, IfOk, true, refl}
-use Rattle.dr_image.specs.Table.{Table}
-use Rattle.dr_image.specs.Sealed.{Sealed, HasImage}
+use Rattle.dr_image.specs.Sealed.{Sealed}
 use Rattle.dr_image.specs.Image.{image, table_of}
 use Rattle.dr_image.specs.Opening.{framed, has_digest, filled, open_of}
 use Rattle.dr_image.specs.Laws.{sealed_by, IsImageOf, IsImage, ImagesDiffer}
-use Rattle.dr_image.proofs.OpenLemmas.{got, table_same, opened, opened_as, IsOpen, opens_with}
+use Rattle.dr_image.proofs.OpenLemmas.{got, table_same, opened, opened_as, opens_with}
 use Rattle.dr_image.proofs.OpenedLemmas.{opened_is_image}
 use Rattle.dr_image.proofs.SpellingLemmas.{AreBytes}
 use Rattle.dr_image.specs.Layout.{read_table}
 use Rattle.dr_image.specs.Parts.{outcome}
-use Rattle.dr_image.specs.Checked.{AreChecked, Opens}
+use Rattle.dr_image.specs.Checked.{Opens}
 use Rattle.dr_image.proofs.RowLemmas.{sealed_again}
 use Rattle.dr_image.proofs.EncodedLemmas.{image_opens}
 

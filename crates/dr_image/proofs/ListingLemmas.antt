@@ -1,8 +1,8 @@
 -- Row lists: that lists of rows with their values, as many rows as there are in all, are the row lists.
-use Rattle.std.proofs.Common.{◌≡◌, ◌∙◌, sym, refl, ap, subst, ℕ, zero, suc, ◌+◌, ◌-◌, ◌<◌, ◌≤◌, Bool, true, false, cond, List, [], ◌∷◌, ◌++◌, length, map, drop, get_or, arith, ◌⊎◌, inl, inr, true≢false}
+use Rattle.std.proofs.Common.{◌≡◌, ◌∙◌, sym, refl, ap, subst, ℕ, zero, suc, ◌+◌, ◌<◌, ◌≤◌, Bool, true, false, cond, List, [], ◌∷◌, ◌++◌, length, map, drop, get_or, arith, ◌⊎◌, inl, inr, true≢false}
 use Rattle.std.specs.Prelude.{nat_le, nat_lt, ◌==◌, ◌&&◌}
 use Rattle.std.specs.List.{list_all, range_with_len}
-use Rattle.std.proofs.lemmas.Bool.{and_parts, and_from, leb-true, ltb-true, eqb-true, le-leb, lt-ltb, eq-eqb, ne_eqb, cases_eq}
+use Rattle.std.proofs.lemmas.Bool.{and_parts, and_from, leb-true, ltb-true, eqb-true, le-leb, eq-eqb, ne_eqb, cases_eq}
 use Rattle.std.proofs.lemmas.List.{length-drop, length-append, get_or-drop, drop-drop, nil_from_length}
 use Rattle.dr_image.specs.Image.{rows_with, lists_of, joined}
 use Rattle.dr_image.specs.Opening.{rows_have, is_row_list, row_lists_fit}
@@ -65,8 +65,8 @@ sub_of i v (n ∷ ns) (r ∷ rs) numbers at fit =
     let here : n ≡ get_or numbers i 0 = ap (λ (xs : List ℕ). get_or xs 0 0) at ∙ get_or-drop i numbers 0 0 ∙ ap (λ k. get_or numbers k 0) (omega arith) in
     let rest : ns ≡ drop (i + 1) numbers = ap (drop 1) at ∙ drop-drop 1 i numbers in
     either (cases_eq r i)
-        (λ e. sub_here i v n r ns rs e (here ∙ ap (λ k. get_or numbers k 0) (sym e) ∙ value) (sub_of (i + 1) v ns rs numbers rest (ap (λ k. rows_have (k + 1) v numbers rs) (sym e) ∙ m.1)))
-        (λ ne. sub_later i v n ns (r ∷ rs) (sub_of (i + 1) v ns (r ∷ rs) numbers rest (and_from _ _ (le-leb (i + 1) r (omega (arith, le, ne))) p.1)))
+    (λ e. sub_here i v n r ns rs e (here ∙ ap (λ k. get_or numbers k 0) (sym e) ∙ value) (sub_of (i + 1) v ns rs numbers rest (ap (λ k. rows_have (k + 1) v numbers rs) (sym e) ∙ m.1)))
+    (λ ne. sub_later i v n ns (r ∷ rs) (sub_of (i + 1) v ns (r ∷ rs) numbers rest (and_from _ _ (le-leb (i + 1) r (omega (arith, le, ne))) p.1)))
 
 -- ---- how many rows there are in all
 
@@ -115,16 +115,16 @@ total_few start zero n ns = omega arith
 total_few start (suc k) n ns =
     let rest = total_few (start + 1) k n ns in
     either (cases_eq n start)
-        (λ e. let a = counts_one start n ns e in let b = total_out (start + 1) k n ns (omega arith) in omega arith)
-        (λ ne. let a = counts_not start n ns ne in omega arith)
+    (λ e. let a = counts_one start n ns e in let b = total_out (start + 1) k n ns (omega arith) in omega arith)
+    (λ ne. let a = counts_not start n ns ne in omega arith)
 
 total_in : (start k n : ℕ) (ns : List ℕ) → start ≤ n → n < start + k → total start k (n ∷ ns) ≡ suc (total start k ns)
 unfolding total
 total_in start zero n ns le lt = absurd (omega arith)
 total_in start (suc k) n ns le lt =
     either (cases_eq n start)
-        (λ e. let a = counts_one start n ns e in let b = total_out (start + 1) k n ns (omega arith) in omega arith)
-        (λ ne. let a = counts_not start n ns ne in let b = total_in (start + 1) k n ns (omega arith) (omega arith) in omega arith)
+    (λ e. let a = counts_one start n ns e in let b = total_out (start + 1) k n ns (omega arith) in omega arith)
+    (λ ne. let a = counts_not start n ns ne in let b = total_in (start + 1) k n ns (omega arith) (omega arith) in omega arith)
 
 pub total_le : (k : ℕ) (ns : List ℕ) → total 0 k ns ≤ length ns
 total_le k [] = let e = total-nil 0 k in omega arith

@@ -1,7 +1,7 @@
 -- What opens as an image is one: the columns that are read are those of rows that have it.
-use Rattle.std.proofs.Common.{◌≡◌, ◌∙◌, sym, refl, ap, subst, ℕ, ℤ, pos, zero, suc, ◌+◌, ◌-◌, ◌*◌, ◌^◌, ◌<◌, ◌≤◌, ◌≤ℤ◌, Bool, true, false, ◌||◌, ◌&&◌, ◌==◌, FitsSigned, List, [], ◌∷◌, length, map, take, drop, get_or, arith, true≢false, lit<, All, IsUtf8, Ok, Fits, rules, ◌⊎◌, inl, inr}
-use Rattle.std.specs.List.{list_all, range_with_len, AllByRecursion}
-use Rattle.std.specs.Int.{w16, w32, w64, from_le_bytes, cast_signed}
+use Rattle.std.proofs.Common.{◌≡◌, ◌∙◌, sym, refl, ap, subst, ℕ, ℤ, pos, zero, suc, ◌+◌, ◌-◌, ◌*◌, ◌^◌, ◌<◌, ◌≤◌, ◌≤ℤ◌, true, false, ◌||◌, ◌&&◌, ◌==◌, FitsSigned, List, [], ◌∷◌, length, map, take, drop, get_or, arith, All, IsUtf8, Ok, rules, ◌⊎◌, inl, inr}
+use Rattle.std.specs.List.{list_all, AllByRecursion}
+use Rattle.std.specs.Int.{w64, from_le_bytes}
 use Rattle.std.specs.Simd.{first_chunks}
 use Rattle.std.specs.Prelude.{nat_le, nat_lt, int_le}
 use Rattle.std.specs.Str.{is_utf8}
@@ -9,27 +9,26 @@ use Rattle.std.proofs.lemmas.Str.{IsUtf8-from_is_utf8}
 use Rattle.std.proofs.lemmas.Int.{ints}
 use mir.ValLaws.{to_z-Fits}
 use Rattle.std.proofs.lemmas.Bool.{and_parts, eqb-true, cases_lt}
-use Rattle.std.proofs.lemmas.List.{length-map, length-drop, get_or_past}
+use Rattle.std.proofs.lemmas.List.{length-map, get_or_past}
 use Rattle.std.proofs.lemmas.List.Elements.{All-from_recursion, recursion_from_All, All-from_get_or}
 use Rattle.std.proofs.lemmas.List.FromFn.{length-map-range_with_len, get_or-map-range_with_len}
-use Rattle.dr_base.specs.declared.row.Row.{Row}
 use Rattle.dr_time.specs.Instant.{IsInstant, first_instant, last_instant}
 use Rattle.dr_image.specs.declared.header.Header.{Header}
-use Rattle.dr_image.specs.Words.{word, words, long, longs, word_at}
+use Rattle.dr_image.specs.Words.{long, longs, word_at}
 use Rattle.dr_image.specs.Table.{Column, Table, no_column, value_at, row_at, rows_of}
-use Rattle.dr_image.specs.Sealed.{Sealed, IsRowOf, HasImage, each_next, may_follow}
-use Rattle.dr_image.specs.Image.{image, bytes_of, table_of}
+use Rattle.dr_image.specs.Sealed.{IsRowOf, HasImage}
+use Rattle.dr_image.specs.Image.{bytes_of}
 use Rattle.dr_image.specs.Layout.{Part, header_of, rows_in, metrics_at, dims_at, part_of, values_in, parts_in, metrics_of, behind, column_in, read_table}
 use Rattle.dr_image.specs.Parts.{no_part}
-use Rattle.dr_image.specs.Opening.{open_of, counts_fit, is_instant, times_fit, ranks_fit, is_dictionary}
+use Rattle.dr_image.specs.Opening.{open_of, counts_fit, is_instant}
 use Rattle.dr_image.specs.Checked.{AreChecked, column_at}
 use Rattle.dr_image.specs.Laws.{sealed_by, IsImageOf}
 use Rattle.dr_image.proofs.SpellingLemmas.{AreBytes, bytes-drop, bytes-take, eight_fit}
-use Rattle.dr_image.proofs.LayoutLemmas.{Counts, counted, length-parts_in, length-metrics_in, length-first_chunks, times_seen, seen_metric, rollup_in, chunk_in, from_in, to_in}
+use Rattle.dr_image.proofs.LayoutLemmas.{counted, length-parts_in, length-metrics_in, length-first_chunks, times_seen, seen_metric, rollup_in, from_in, to_in}
 use Rattle.dr_image.proofs.StartLemmas.{get_or-parts_of}
 use Rattle.dr_image.proofs.ReadingLemmas.{all_at, dims_seen, column_is, has_dictionary, has_index, has_numbers}
 use Rattle.dr_image.proofs.OpenLemmas.{IsOpen, opened, opened_as}
-use Rattle.dr_image.proofs.WholeLemmas.{IsHeaded, headed_by, whole, length-words, header_numbers}
+use Rattle.dr_image.proofs.WholeLemmas.{headed_by, whole, length-words, header_numbers}
 use Rattle.dr_image.proofs.TableLemmas.{IsListed, IsTable, listed_by, table_again}
 use Rattle.dr_image.proofs.OrderLemmas.{order_is, times_up}
 
@@ -58,7 +57,7 @@ listed_part bytes d checked lt =
     let b : length p.rows ≡ h.rows = ap (λ (k : Part). length k.rows) is ∙ l.1 in
     let c : length p.list_ends ≡ length p.ends = ap (λ (k : Part). length k.list_ends) is ∙ l.2 ∙ sym (ap (λ (k : Part). length k.ends) is) in
     subst (IsListed h.rows) (sym (column_is bytes d p lt refl))
-        (listed_by h.rows p (has_dictionary bytes d p checked lt refl) (has_numbers bytes d p checked lt refl) (has_index bytes d p checked lt refl) a b c)
+    (listed_by h.rows p (has_dictionary bytes d p checked lt refl) (has_numbers bytes d p checked lt refl) (has_index bytes d p checked lt refl) a b c)
 
 pub is_table : (bytes : List ℕ) → AreChecked bytes → IsTable (read_table bytes)
 is_table bytes checked =
@@ -67,8 +66,8 @@ is_table bytes checked =
     record {
       columns = λ d lt. subst (λ (k : ℕ). IsListed k (column_at (read_table bytes) d)) (sym n) (listed_part bytes d checked (omega (arith, dims_seen bytes, lt)));
       metrics = λ m lt.
-        ap length (sym (seen_metric bytes h m refl (omega (arith, length-metrics_in bytes h refl, lt))))
-        ∙ length-map (first_chunks 8 h.rows (drop (48 + 8 * h.rows + 8 * h.rows * m) bytes)) long ∙ length-first_chunks 8 h.rows (drop (48 + 8 * h.rows + 8 * h.rows * m) bytes) ∙ sym n;
+          ap length (sym (seen_metric bytes h m refl (omega (arith, length-metrics_in bytes h refl, lt))))
+          ∙ length-map (first_chunks 8 h.rows (drop (48 + 8 * h.rows + 8 * h.rows * m) bytes)) long ∙ length-first_chunks 8 h.rows (drop (48 + 8 * h.rows + 8 * h.rows * m) bytes) ∙ sym n;
     }
 
 pub all_listed : (t : Table) → IsTable t → AllByRecursion (IsListed (length t.times)) t.dims
@@ -123,7 +122,7 @@ times_checked bytes checked =
       chunk = instant_by t.chunk a.0;
       each = λ i lt. instant_by _ (all_at is_instant t.times i (pos 0) b.0 lt);
       in_chunk = λ i lt. (let e : get_or t.times (0 + i) (pos 0) ≡ get_or t.times i (pos 0) = ap (λ k. get_or t.times k (pos 0)) (omega arith) in
-        let up = times_up t.rollup t.times (parts_in bytes) 0 i checked.ranks (omega (arith, lt)) in omega (arith, ints, first, up, e));
+          let up = times_up t.rollup t.times (parts_in bytes) 0 i checked.ranks (omega (arith, lt)) in omega (arith, ints, first, up, e));
     }
 
 row_is_of : (bytes : List ℕ) → AreBytes bytes → AreChecked bytes → (i : ℕ) → i < length (read_table bytes).times → IsRowOf (sealed_by (read_table bytes)) (row_at (read_table bytes) i)
@@ -144,8 +143,8 @@ rows_are_of : (bytes : List ℕ) → AreBytes bytes → AreChecked bytes → All
 rows_are_of bytes fits checked =
     let t : Table = read_table bytes in
     All-from_get_or (IsRowOf (sealed_by t)) (rows_of t) (row_at t 0) (λ i lt.
-        let below : i < length t.times = omega (arith, lt, length-map-range_with_len (row_at t) 0 (length t.times)) in
-        subst (IsRowOf (sealed_by t)) (sym (get_or-map-range_with_len (row_at t) 0 (length t.times) i i (row_at t 0) below (omega arith))) (row_is_of bytes fits checked i below))
+    let below : i < length t.times = omega (arith, lt, length-map-range_with_len (row_at t) 0 (length t.times)) in
+    subst (IsRowOf (sealed_by t)) (sym (get_or-map-range_with_len (row_at t) 0 (length t.times) i i (row_at t 0) below (omega arith))) (row_is_of bytes fits checked i below))
 
 wide_fits : (at : ℕ) (bytes : List ℕ) → AreBytes bytes → word_at w64 at bytes < 2 ^ 64
 unfolding word_at

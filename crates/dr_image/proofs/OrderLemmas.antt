@@ -1,12 +1,12 @@
 -- How rows compare: by the numbers of their values as by the values themselves. And what order says of their times.
-use Rattle.std.proofs.Common.{◌≡◌, ◌∙◌, sym, refl, ap, subst, ℕ, ℤ, pos, zero, suc, ◌+◌, ◌-◌, ◌<◌, ◌≤◌, ◌≤ℤ◌, ◌<ℤ◌, Bool, true, false, cond, ◌&&◌, List, [], ◌∷◌, length, map, get_or, arith, true≢false, nat_lt, ◌==◌, slice_get, Some, All}
+use Rattle.std.proofs.Common.{◌≡◌, ◌∙◌, sym, refl, ap, ℕ, ℤ, pos, zero, suc, ◌+◌, ◌-◌, ◌<◌, ◌≤◌, ◌≤ℤ◌, ◌<ℤ◌, Bool, true, false, cond, ◌&&◌, List, [], ◌∷◌, length, map, get_or, arith, true≢false, nat_lt, ◌==◌, slice_get, Some, All}
 use Rattle.std.specs.List.{list_all, range_with_len, AllByRecursion}
 use Rattle.std.specs.declared.cmp.Ordering.{Ordering}
 use Rattle.std.specs.declared.cmp.Ordering.TheVariants.{Less, Equal, Greater}
 use Rattle.std.specs.Ordering.{nat_cmp, int_cmp, ordering_then, ordering_reverse, MatchOrdering}
 use Rattle.std.specs.Cmp.Lexicographic.{slice_cmp, nat_list_cmp_total}
 use Rattle.std.proofs.lemmas.Cmp.{tied_itself, nat_cmp_total, int_ranked}
-use Rattle.std.proofs.lemmas.Bool.{and_parts, lt-ltb, ltb-true, ltb-false}
+use Rattle.std.proofs.lemmas.Bool.{lt-ltb, ltb-true, ltb-false}
 use Rattle.std.proofs.lemmas.Int.{ints}
 use Rattle.std.proofs.lemmas.Option.{get_or_from_slice_get}
 use Rattle.std.proofs.lemmas.List.{get_or_default}
@@ -48,9 +48,9 @@ by_order {P} a b f g h = at (nat_lt a b) (nat_lt b a) refl refl
 pub place_cmp : (ds : List (List ℕ)) (a b : ℕ) → each_next is_below ds ≡ true → a < length ds → b < length ds → cmp_at ds a b ≡ nat_cmp a b
 place_cmp ds a b up low high =
     by_order a b
-        (λ lt. below_at ds a b up lt high ∙ sym (nat_below a b lt))
-        (λ e. ap (λ k. cmp_at ds a k) (sym e) ∙ tied_itself nat_list_cmp_total (get_or ds a []) ∙ sym (tied_itself nat_cmp_total a) ∙ ap (nat_cmp a) e)
-        (λ gt. nat_list_cmp_total.antisymm (get_or ds a []) (get_or ds b []) ∙ ap ordering_reverse (below_at ds b a up gt low ∙ sym (nat_below b a gt)) ∙ sym (nat_cmp_total.antisymm a b))
+    (λ lt. below_at ds a b up lt high ∙ sym (nat_below a b lt))
+    (λ e. ap (λ k. cmp_at ds a k) (sym e) ∙ tied_itself nat_list_cmp_total (get_or ds a []) ∙ sym (tied_itself nat_cmp_total a) ∙ ap (nat_cmp a) e)
+    (λ gt. nat_list_cmp_total.antisymm (get_or ds a []) (get_or ds b []) ∙ ap ordering_reverse (below_at ds b a up gt low ∙ sym (nat_below b a gt)) ∙ sym (nat_cmp_total.antisymm a b))
 
 dims_cmp : (n i j : ℕ) (cs : List Column) → AllByRecursion (IsListed n) cs → i < n → j < n
     → slice_cmp (slice_cmp nat_cmp) (map (λ c. value_at c i) cs) (map (λ c. value_at c j) cs) ≡ slice_cmp nat_cmp (map (λ (c : Column). get_or c.numbers i 0) cs) (map (λ (c : Column). get_or c.numbers j 0) cs)

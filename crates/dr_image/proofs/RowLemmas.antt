@@ -1,18 +1,15 @@
 -- The columns of rows have what is checked of columns, and stand for the rows.
-use Rattle.std.proofs.Common.{◌≡◌, ◌∙◌, sym, refl, ap, subst, ℕ, ℤ, pos, zero, suc, ◌+◌, ◌-◌, ◌<◌, ◌≤◌, Bool, true, false, cond, ◌&&◌, List, [], ◌∷◌, ◌++◌, length, map, drop, get_or, bytes_eq, arith, All, IsUtf8, ◌==◌, nat_lt, nat_le}
-use Rattle.std.specs.List.{list_all, list_any, range_with_len, AllByRecursion}
+use Rattle.std.proofs.Common.{◌≡◌, ◌∙◌, sym, refl, ap, subst, ℕ, pos, zero, suc, ◌+◌, ◌<◌, ◌≤◌, Bool, true, false, cond, List, [], ◌∷◌, length, map, drop, get_or, bytes_eq, arith, IsUtf8, ◌==◌}
+use Rattle.std.specs.List.{list_all, range_with_len, AllByRecursion}
 use Rattle.std.specs.Str.{is_utf8}
-use Rattle.std.specs.Ordering.{is_lt, nat_cmp}
-use Rattle.std.specs.Cmp.Lexicographic.{slice_cmp}
 use Rattle.std.proofs.lemmas.Str.{is_utf8-from_IsUtf8}
 use Rattle.std.proofs.lemmas.Bool.{and_parts, and_from, lt-ltb, le-leb, eq-eqb, eqb-true}
 use Rattle.std.proofs.lemmas.List.{length-map, get_or-map, get_or_default, length-append, get_or-drop, drop-drop, length-drop}
 use Rattle.std.proofs.lemmas.List.FromFn.{length-map-range_with_len, fill_by_all}
 use Rattle.dr_base.specs.declared.row.Row.{Row}
-use Rattle.dr_base.specs.declared.key.Key.{Key}
-use Rattle.dr_image.specs.Table.{Column, Table, value_at, row_at, rows_of}
-use Rattle.dr_image.specs.Sealed.{Sealed, HasImage, IsRowOf, each_next}
-use Rattle.dr_image.specs.Image.{with_value, dictionary_of, number_in, rows_with, lists_of, joined, column_of, values_of, metric_of, table_of}
+use Rattle.dr_image.specs.Table.{Table, value_at, row_at, rows_of}
+use Rattle.dr_image.specs.Sealed.{Sealed, HasImage, IsRowOf}
+use Rattle.dr_image.specs.Image.{with_value, dictionary_of, number_in, rows_with, joined, column_of, values_of, metric_of, table_of}
 use Rattle.dr_image.specs.Opening.{is_below, rows_have, is_row_list, row_lists_fit}
 use Rattle.dr_image.specs.Laws.{sealed_by}
 use Rattle.dr_image.proofs.DictionaryLemmas.{dictionary_ascends, any_dictionary, number_at_place, IsPlaced, placed}
@@ -112,8 +109,8 @@ rows_again s has =
     let x : Row = row_at t 0 in
     let long = times_long s in
     sym (fill_by_all (row_at t) s.rows n x (sym long) (λ k lt.
-        let below : k < length s.rows = omega (arith, lt, long) in
-        row_again s k (get_or s.rows k x) below (get_or_default s.rows k (get_or s.rows k x) x below) (has.rows k x below)))
+    let below : k < length s.rows = omega (arith, lt, long) in
+    row_again s k (get_or s.rows k x) below (get_or_default s.rows k (get_or s.rows k x) x below) (has.rows k x below)))
 
 pub sealed_again : (s : Sealed) → HasImage s → sealed_by (table_of s) ≡ s
 unfolding table_of

@@ -1,12 +1,11 @@
 -- Numbers that were read are written back, and numbers that were written are read back.
-use Rattle.std.proofs.Common.{◌≡◌, ◌∙◌, sym, refl, ap, ℕ, ℤ, zero, suc, ◌+◌, ◌*◌, ◌^◌, ◌<◌, ◌≤◌, FitsSigned, List, [], ◌∷◌, ◌++◌, length, map, take, drop, get_or, arith, lit<}
-use Rattle.std.specs.List.{flat_map, AllByRecursion}
+use Rattle.std.proofs.Common.{◌≡◌, ◌∙◌, sym, refl, ap, ℕ, ℤ, zero, suc, ◌+◌, ◌*◌, ◌^◌, ◌<◌, ◌≤◌, FitsSigned, List, [], ◌∷◌, ◌++◌, length, take, drop, get_or, arith, lit<}
+use Rattle.std.specs.List.{AllByRecursion}
 use Rattle.std.specs.Int.{w16, w32, w64, from_le_bytes, to_le_bytes, cast_signed, cast_unsigned}
-use Rattle.std.specs.Simd.{first_chunks}
 use Rattle.std.proofs.lemmas.Nat.{le_bytes_2, le_bytes_4, le_bytes_8, from_le_bytes-to_le_bytes_4, from_le_bytes-to_le_bytes_8}
 use Rattle.std.proofs.lemmas.Int.{of_z-to_z, to_z-of_z}
 use mir.ValLaws.{of_z_fits}
-use Rattle.std.proofs.lemmas.List.{drop-drop, take-append-drop, append_assoc, length-drop, length-take, get_or-drop, length-append}
+use Rattle.std.proofs.lemmas.List.{drop-drop, take-append-drop, append_assoc, length-drop, length-take, get_or-drop}
 use Rattle.dr_image.specs.Words.{word, words, long, longs, word_at, four_bytes, eight_bytes, spelled_words, spelled_longs}
 
 abbrev pub AreBytes : List ℕ → Type 0
@@ -79,14 +78,14 @@ unfolding spelled_words
 fronts_words zero bs le fits = refl
 fronts_words (suc n) bs le fits =
     fronts_then (four_bytes (word (take 4 bs))) (spelled_words (words n (drop 4 bs))) 4 (4 * n) (4 * suc n) bs (fronts_by _ 4 bs (word_back bs (omega arith) fits))
-        (fronts_words n (drop 4 bs) (omega (arith, length-drop 4 bs)) (bytes-drop 4 bs fits)) (omega arith)
+    (fronts_words n (drop 4 bs) (omega (arith, length-drop 4 bs)) (bytes-drop 4 bs fits)) (omega arith)
 
 pub fronts_longs : (n : ℕ) (bs : List ℕ) → 8 * n ≤ length bs → AreBytes bs → Fronts (spelled_longs (longs n bs)) (8 * n) bs
 unfolding spelled_longs
 fronts_longs zero bs le fits = refl
 fronts_longs (suc n) bs le fits =
     fronts_then (eight_bytes (long (take 8 bs))) (spelled_longs (longs n (drop 8 bs))) 8 (8 * n) (8 * suc n) bs (fronts_by _ 8 bs (long_back bs (omega arith) fits))
-        (fronts_longs n (drop 8 bs) (omega (arith, length-drop 8 bs)) (bytes-drop 8 bs fits)) (omega arith)
+    (fronts_longs n (drop 8 bs) (omega (arith, length-drop 8 bs)) (bytes-drop 8 bs fits)) (omega arith)
 
 -- ---- written and read
 

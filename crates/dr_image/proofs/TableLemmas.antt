@@ -1,15 +1,15 @@
 -- Columns that were checked are those of the rows that are read from them.
-use Rattle.std.proofs.Common.{◌≡◌, ◌∙◌, sym, refl, ap, subst, ℕ, ℤ, pos, zero, suc, ◌+◌, ◌-◌, ◌<◌, ◌≤◌, Bool, true, false, ◌||◌, List, [], ◌∷◌, ◌++◌, length, map, get_or, bytes_eq, arith, true≢false}
+use Rattle.std.proofs.Common.{◌≡◌, ◌∙◌, sym, refl, ap, ℕ, pos, zero, suc, ◌<◌, Bool, true, false, ◌||◌, List, [], ◌∷◌, length, map, get_or, bytes_eq, arith}
 use Rattle.std.specs.List.{list_all, list_any, range_with_len}
 use Rattle.std.specs.Str.{is_utf8}
 use Rattle.std.specs.Cmp.Lexicographic.{bytes_decides}
-use Rattle.std.proofs.lemmas.Bool.{and_parts, or_right, true_from_ne_false, false_from_ne_true}
-use Rattle.std.proofs.lemmas.List.{length-map, get_or-map, same_lists, ext_get_or}
-use Rattle.std.proofs.lemmas.List.FromFn.{length-range_with_len, length-map-range_with_len, get_or-map-range_with_len, fill_by_all}
+use Rattle.std.proofs.lemmas.Bool.{and_parts, or_right}
+use Rattle.std.proofs.lemmas.List.{get_or-map}
+use Rattle.std.proofs.lemmas.List.FromFn.{length-map-range_with_len, get_or-map-range_with_len, fill_by_all}
 use Rattle.dr_base.specs.declared.row.Row.{Row}
 use Rattle.dr_image.specs.Pieces.{pieces, ends_fit}
 use Rattle.dr_image.specs.Table.{Column, Table, no_column, value_at, row_at, rows_of}
-use Rattle.dr_image.specs.Sealed.{Sealed, each_next}
+use Rattle.dr_image.specs.Sealed.{each_next}
 use Rattle.dr_image.specs.Image.{joined, dictionary_of, number_in, lists_of, column_by, column_of, values_of, metric_of, table_of}
 use Rattle.dr_image.specs.Layout.{Part, column_in}
 use Rattle.dr_image.specs.Opening.{is_below, is_dictionary, numbers_fit, is_index, texts_fit, row_lists_fit}
@@ -18,7 +18,7 @@ use Rattle.dr_image.specs.Laws.{sealed_by}
 use Rattle.dr_image.proofs.PieceLemmas.{length-pieces}
 use Rattle.dr_image.proofs.WholeLemmas.{joined_pieces}
 use Rattle.dr_image.proofs.DictionaryLemmas.{dictionary_is, number_at_place, IsPlaced, placed}
-use Rattle.dr_image.proofs.ReadingLemmas.{number_known, length-texts}
+use Rattle.dr_image.proofs.ReadingLemmas.{number_known}
 use Rattle.dr_image.proofs.ListingLemmas.{HasRow, lists_are, row_of_value}
 
 -- ---- lists

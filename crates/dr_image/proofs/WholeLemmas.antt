@@ -1,31 +1,28 @@
 -- Bytes that open as an image are the bytes of the columns that are read from them.
-use Rattle.std.proofs.Common.{◌≡◌, ◌∙◌, sym, refl, ap, subst, ℕ, ℤ, zero, suc, ◌+◌, ◌-◌, ◌*◌, ◌<◌, ◌≤◌, Bool, true, false, List, [], ◌∷◌, ◌++◌, length, map, take, drop, get_or, bytes_eq, arith, cond, mul-suc, Ok, Result, if◌then◌else◌}
-use Rattle.std.specs.Prelude.{nat_le, ◌==◌, ◌&&◌}
+use Rattle.std.proofs.Common.{◌≡◌, ◌∙◌, sym, refl, ap, ℕ, zero, suc, ◌+◌, ◌-◌, ◌*◌, ◌≤◌, true, List, [], ◌∷◌, ◌++◌, length, map, take, drop, arith, cond, mul-suc, Ok, Result}
+use Rattle.std.specs.Prelude.{nat_le, ◌==◌}
 use Rattle.std.specs.List.{flat_map, list_all}
 use Rattle.std.specs.Int.{w16, w32, w64, to_le_bytes, cast_signed}
 use Rattle.std.specs.Simd.{first_chunks}
 use Rattle.std.specs.Cmp.Lexicographic.{bytes_decides}
 use Rattle.std.proofs.lemmas.Bool.{and_parts, leb-true, eqb-true}
-use Rattle.std.proofs.lemmas.List.{drop-drop, drop_all, take-append-drop, append_assoc, append-nil, length-drop, length-take, length-take-le, length-append, length-map, take-append-le, drop-append-le, take_all}
+use Rattle.std.proofs.lemmas.List.{drop-drop, drop_all, take-append-drop, append_assoc, length-drop, length-take, length-append, length-map, take-append-le, drop-append-le, take_all}
 use Rattle.sha2.specs.Sha256.{sha256}
-use Rattle.dr_base.specs.Reading.{◌>>=◌}
 use Rattle.dr_image.specs.declared.header.Header.{Header}
 use Rattle.dr_image.specs.declared.image_error.ImageError.{ImageError}
 use Rattle.dr_image.specs.declared.image_error.ImageError.TheVariants.{Truncated, BadMagic, BadVersion, BadLength}
 use Rattle.dr_image.specs.Words.{word, words, longs, word_at, four_bytes, eight_bytes, spelled_words, spelled_longs}
 use Rattle.dr_image.specs.Pieces.{pieces, ends_from, ends_fit}
-use Rattle.dr_image.specs.Table.{Column, Table}
-use Rattle.dr_image.specs.Image.{joined, magic, bytes_of_column, data_of, head_of, bytes_of, with_digest}
+use Rattle.dr_image.specs.Table.{Table}
+use Rattle.dr_image.specs.Image.{joined, magic, bytes_of_column, data_of, head_of, bytes_of}
 use Rattle.dr_image.specs.Layout.{Part, header_of, metrics_at, dims_at, values_in, texts_in, part_with, part_of, part_size, parts_of, parts_in, behind, parts_fill, metrics_of, column_in, read_table}
-use Rattle.dr_image.specs.Opening.{headed, framed, is_version, is_length, counts_fit, columns_fill, has_digest, is_dictionary, is_index}
-use Rattle.dr_image.proofs.SpellingLemmas.{AreBytes, bytes-drop, bytes-take, Fronts, fronts_by, fronts_words, fronts_longs, two_back, four_back, eight_back, signed_back}
+use Rattle.dr_image.specs.Opening.{headed, framed, is_version, is_length, counts_fit, columns_fill, is_dictionary, is_index}
+use Rattle.dr_image.proofs.SpellingLemmas.{AreBytes, bytes-drop, Fronts, fronts_by, fronts_words, fronts_longs, two_back, four_back, eight_back, signed_back}
 use Rattle.dr_image.proofs.PieceLemmas.{length-pieces}
 use Rattle.dr_image.proofs.LayoutLemmas.{length-first_chunks, length-parts_in, length-metrics_in, times_seen, rollup_in, chunk_in, from_in, to_in}
-use Rattle.dr_image.proofs.OpenLemmas.{IsPassed, passed_by, passed_last, goes_by, IsOpen}
-use Rattle.dr_image.proofs.StartLemmas.{length-parts_of}
+use Rattle.dr_image.proofs.OpenLemmas.{passed_by, passed_last, goes_by, IsOpen}
 use Rattle.dr_image.proofs.ReadingLemmas.{dims_seen}
 use Rattle.dr_image.specs.Checked.{AreChecked}
-use Rattle.dr_image.specs.Opening.{open_of}
 
 -- ---- pieces
 
@@ -314,9 +311,10 @@ columns_at bytes fits headed checked =
 
 pub seam : (xs ys : List ℕ) (n : ℕ) → length (xs ++ ys) ≡ n → length ys ≡ 32 → (take (n - 32) (xs ++ ys) ≡ xs) × (drop (n - 32) (xs ++ ys) ≡ ys)
 seam xs ys n all last =
-    let e : n - 32 ≡ length xs = omega (arith, length-append xs ys) in
-    (ap (λ k. take k (xs ++ ys)) e ∙ take-append-le (length xs) xs ys (omega arith) ∙ take_all (length xs) xs (omega arith),
-        ap (λ k. drop k (xs ++ ys)) e ∙ drop-append-le (length xs) xs ys (omega arith) ∙ ap (λ k. k ++ ys) (drop_all (length xs) xs (omega arith)))
+    let e : n - 32 ≡ length xs = omega (arith, length-append xs ys) in (
+      ap (λ k. take k (xs ++ ys)) e ∙ take-append-le (length xs) xs ys (omega arith) ∙ take_all (length xs) xs (omega arith),
+      ap (λ k. drop k (xs ++ ys)) e ∙ drop-append-le (length xs) xs ys (omega arith) ∙ ap (λ k. k ++ ys) (drop_all (length xs) xs (omega arith)),
+    )
 
 pub whole : (bytes : List ℕ) → AreBytes bytes → IsOpen bytes → bytes ≡ bytes_of (read_table bytes)
 unfolding bytes_of

@@ -9,7 +9,9 @@ ghost use Rattle.dr_image.specs.Checked.{column_at};
 use crate::image_error::ImageError;
 use crate::layout::Layout;
 use crate::opening::{check_contents, is_undamaged};
-use crate::reading::{greatest_time, least_time, list_of, metric_at, number_at, time_at, value_of, values_of};
+use crate::reading::{
+    greatest_time, least_time, list_of, metric_at, number_at, time_at, value_of, values_of,
+};
 use dr_base::{Key, Numbers, Row, Text, Texts};
 use std::alloc::{AllocError, Global};
 use std::marker::Model;
