@@ -188,7 +188,7 @@ dictionary_is ds vs up alike = same_ascending ds (dictionary_of vs) up (dictiona
 
 -- ---- places
 
-above_at : (x : List ℕ) (ys : List (List ℕ)) (n : ℕ) → AllAbove x ys → n < length ys → is_below x (get_or ys n []) ≡ true
+pub above_at : (x : List ℕ) (ys : List (List ℕ)) (n : ℕ) → AllAbove x ys → n < length ys → is_below x (get_or ys n []) ≡ true
 above_at x [] n all lt = absurd (omega arith)
 above_at x (y ∷ ys) zero all lt = all.0
 above_at x (y ∷ ys) (suc n) all lt = above_at x ys n all.1 (omega arith)

@@ -85,7 +85,7 @@ pub metric_within : (c m metrics : ℕ) → m < metrics → c * m + c ≤ c * me
 metric_within c m metrics lt = let le = mul-le-mul_left c lt in let e = mul-suc c m in omega arith
 
 -- as many times as rows
-length-first_chunks : (k n : ℕ) (bytes : List ℕ) → length (first_chunks k n bytes) ≡ n
+pub length-first_chunks : (k n : ℕ) (bytes : List ℕ) → length (first_chunks k n bytes) ≡ n
 length-first_chunks k zero bytes = refl
 length-first_chunks k (suc n) bytes = ap suc (length-first_chunks k n (drop k bytes))
 

@@ -8,3 +8,13 @@ pub mod RankLemmas
 pub mod ReadingLemmas
 pub mod OpenLemmas
 pub mod DictionaryLemmas
+pub mod SpellingLemmas
+pub mod WholeLemmas
+pub mod ListingLemmas
+pub mod TableLemmas
+pub mod OrderLemmas
+pub mod OpenedLemmas
+pub mod RowLemmas
+pub mod DecodingLemmas
+pub mod EncodedLemmas
+pub mod LawLemmas

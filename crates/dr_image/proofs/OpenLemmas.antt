@@ -2,9 +2,11 @@
 use Rattle.std.proofs.Common.{◌≡◌, refl, ℕ, Bool, true, false, List, Result, Ok, Err}
 use Rattle.dr_base.specs.Reading.{◌>>=◌}
 use Rattle.dr_image.specs.declared.image_error.ImageError.{ImageError}
+use Rattle.dr_image.specs.declared.image_error.ImageError.TheVariants.{DigestMismatch}
 use Rattle.dr_image.specs.Table.{Table}
+use Rattle.dr_image.specs.Layout.{read_table}
 use Rattle.dr_image.specs.Opening.{unless, framed, filled, open_of, has_digest}
-use Rattle.dr_image.specs.Checked.{AreChecked, Opens}
+use Rattle.dr_image.specs.Checked.{AreChecked}
 
 -- a check that is passed, and what follows it
 pub record IsPassed {A : Type 0} (b : Bool) (rest : Result A ImageError) (x : A) : Type 0 where
@@ -42,6 +44,21 @@ pub record IsOpen (bytes : List ℕ) : Type 0 where
   pub undamaged : has_digest bytes ≡ true
   pub checked : AreChecked bytes
 
+abbrev pub got : Table → Result Table ImageError
+got t = Ok t
+
+pub table_same : (t u : Table) → got t ≡ got u → t ≡ u
+table_same t u e = cc
+
+-- the columns are those that are read
+pub opened_as : (bytes : List ℕ) (t : Table) → open_of bytes ≡ Ok t → read_table bytes ≡ t
+unfolding open_of
+opened_as bytes t h =
+    let a = goes_by (framed bytes) _ t h in
+    let b = passed_by DigestMismatch (has_digest bytes) _ t a.rest_is in
+    let c = goes_by (filled bytes) _ t b.rest_is in
+    table_same (read_table bytes) t c.rest_is
+
 pub opened : (bytes : List ℕ) (t : Table) → open_of bytes ≡ Ok t → IsOpen bytes
 unfolding open_of
 opened bytes t h =
@@ -50,7 +67,6 @@ opened bytes t h =
     let c = goes_by _ _ _ b.rest_is in
     record { frame = a.first_is; undamaged = b.passes; checked = checked_by bytes c.first c.first_is }
 
-pub opens_by : (bytes : List ℕ) (u : Unit {0}) → framed bytes ≡ Ok tt → has_digest bytes ≡ true → filled bytes ≡ Ok u → Opens bytes
+pub opens_with : (bytes : List ℕ) (u : Unit {0}) → framed bytes ≡ Ok tt → has_digest bytes ≡ true → filled bytes ≡ Ok u → open_of bytes ≡ Ok (read_table bytes)
 unfolding open_of
-opens_by bytes u frame undamaged right =
-    record { opens = rw (frame, undamaged, right) refl; checked = checked_by bytes u right }
+opens_with bytes u frame undamaged right = rw (frame, undamaged, right) refl

@@ -3,6 +3,7 @@ use Rattle.std.specs.Prelude.{◌≡◌, true, Ok, ℕ, List, get_or}
 use Rattle.std.specs.List.{list_all}
 use Rattle.dr_image.specs.Layout.{parts_in, read_table}
 use Rattle.dr_image.specs.Table.{Column, Table, no_column}
+use Rattle.dr_image.specs.Laws.{sealed_by, IsImageOf}
 use Rattle.dr_image.specs.Opening.{is_dictionary, numbers_fit, is_index, times_fit, ranks_fit, open_of}
 
 pub record AreChecked (bytes : List ℕ) : Type 0 where
@@ -16,7 +17,8 @@ pub record AreChecked (bytes : List ℕ) : Type 0 where
 abbrev pub column_at : Table → ℕ → Column
 column_at t d = get_or t.dims d no_column
 
--- the bytes open as an image
+-- the bytes open as an image, and are the one of what is read from them
 pub record Opens (bytes : List ℕ) : Type 0 where
   pub opens : open_of bytes ≡ Ok (read_table bytes)
   pub checked : AreChecked bytes
+  pub image : IsImageOf bytes (sealed_by (read_table bytes))

@@ -8,4 +8,5 @@ pub mod Layout
 pub mod Parts
 pub mod Starts
 pub mod Opening
+pub mod Laws
 pub mod Checked

@@ -6,6 +6,7 @@ mod contents;
 mod framing;
 mod header;
 mod image_error;
+mod laws;
 mod layout;
 mod opening;
 mod part;
@@ -16,4 +17,5 @@ mod segment_view;
 mod words;
 
 pub use image_error::ImageError;
+pub use laws::{columns_are_of_rows, image_opens, images_differ, opened_is_image};
 pub use segment_view::SegmentView;

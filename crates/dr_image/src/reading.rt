@@ -1,4 +1,4 @@
-ghost use Rattle.std.specs.Prelude.{◌≡◌, ◌<◌, [], true, Some, length, map, slice_get, get_or};
+ghost use Rattle.std.specs.Prelude.{◌≡◌, ◌-◌, ◌<◌, ◌≤◌, ◌≤ℤ◌, All, [], true, Some, length, map, slice_get, get_or};
 ghost use Rattle.dr_image.specs.Words.{word, long};
 ghost use Rattle.dr_image.specs.Pieces.{pieces};
 ghost use Rattle.dr_image.specs.Table.{value_at};
@@ -20,6 +20,26 @@ pub(crate) fn time_at(layout: &Layout, i: usize) -> i64
     ensures { slice_get (read_table layout.now.bytes.now).times i ≡ Some result }
 {
     signed(&layout.times()[i])
+}
+
+// The time of the first row, which is the least.
+pub(crate) fn least_time(layout: &Layout) -> i64
+    requires some { 1 ≤ length (read_table layout.now.bytes.now).times }
+    requires checked { AreChecked layout.now.bytes.now }
+    ensures value { slice_get (read_table layout.now.bytes.now).times 0 ≡ Some result }
+    ensures least { All (λ t. result ≤ℤ t) (read_table layout.now.bytes.now).times }
+{
+    time_at(layout, 0)
+}
+
+// The time of the last row, which is the greatest.
+#[tactic(auto, using(crate::proofs::LayoutLemmas::times_seen))]
+pub(crate) fn greatest_time(layout: &Layout) -> i64
+    requires checked { AreChecked layout.now.bytes.now }
+    ensures value { slice_get (read_table layout.now.bytes.now).times (length (read_table layout.now.bytes.now).times - 1) ≡ Some result }
+    ensures greatest { All (λ t. t ≤ℤ result) (read_table layout.now.bytes.now).times }
+{
+    time_at(layout, layout.rows() - 1)
 }
 
 // The value of a row in a metric.

@@ -1,13 +1,17 @@
-ghost use Rattle.std.specs.Prelude.{◌≡◌, ◌-◌, ◌<◌, ◌≤◌, [], pos, Ok, Some, length, map, slice_get, get_or, IfOk};
+ghost use Rattle.std.specs.Prelude.{◌≡◌, ◌-◌, ◌<◌, ◌≤◌, ◌≤ℤ◌, All, [], pos, Ok, Some, length, map, slice_get, get_or, IfOk};
 ghost use Rattle.dr_image.specs.Words.{word, long};
 ghost use Rattle.dr_image.specs.Table.{row_at, value_at};
+ghost use Rattle.dr_image.specs.Sealed.{Sealed};
 ghost use Rattle.dr_image.specs.Opening.{open_of};
+ghost use Rattle.dr_image.specs.Laws.{sealed_by, IsImage, IsImageOf};
 ghost use Rattle.dr_image.specs.Checked.{column_at};
 
 use crate::image_error::ImageError;
 use crate::layout::Layout;
 use crate::opening::{check_contents, is_undamaged};
-use crate::reading::{list_of, metric_at, number_at, time_at, value_of, values_of};
+use crate::reading::{
+    greatest_time, least_time, list_of, metric_at, number_at, time_at, value_of, values_of,
+};
 use dr_base::{Key, Numbers, Row, Text, Texts};
 use std::alloc::{AllocError, Global};
 use std::marker::Model;
@@ -47,6 +51,17 @@ impl<'a> SegmentView<'a> {
         }
         check_contents(&layout)?;
         Ok(SegmentView { layout })
+    }
+
+    /// A view of bytes that are known to be an image of at most 1073741824 bytes, as those that were just written: what `open`
+    /// gives. It reads the numbers in front and the two at the front of each dimension, and no other byte.
+    pub fn of_image(bytes: &'a [u8]) -> SegmentView<'a>
+        requires { IsImage bytes.now }
+        ensures value { open_of bytes.now ≡ Ok result }
+        ensures rows { (s : Sealed) → IsImageOf bytes.now s → sealed_by result ≡ s }
+    {
+        let layout = Layout::of(bytes).unwrap();
+        SegmentView { layout }
     }
 
     /// How many rows there are, at least one.
@@ -174,27 +189,30 @@ impl<'a> SegmentView<'a> {
         self.layout.metric(m)
     }
 
-    /// The bytes of the image.
+    /// The bytes, which are the image of what the other readers give.
     pub fn as_bytes(&self) -> &'a [u8]
-        ensures { open_of result.now ≡ Ok self.now }
+        ensures opens { open_of result.now ≡ Ok self.now }
+        ensures image { IsImageOf result.now (sealed_by self.now) }
     {
         self.layout.bytes()
     }
 
     /// The least time, that of the first row.
     pub fn min_time(&self) -> i64
-        ensures { slice_get self.now.times 0 ≡ Some result }
+        ensures value { slice_get self.now.times 0 ≡ Some result }
+        ensures least { All (λ t. result ≤ℤ t) self.now.times }
     {
         let count = self.row_count();
         prove!(0 < count);
-        self.time(0)
+        least_time(&self.layout)
     }
 
     /// The greatest time, that of the last row.
     pub fn max_time(&self) -> i64
-        ensures { slice_get self.now.times (length self.now.times - 1) ≡ Some result }
+        ensures value { slice_get self.now.times (length self.now.times - 1) ≡ Some result }
+        ensures greatest { All (λ t. t ≤ℤ result) self.now.times }
     {
-        self.time(self.row_count() - 1)
+        greatest_time(&self.layout)
     }
 
     /// A row, by its number from 0, in memory of its own. It takes time by the columns and by the bytes of the row's texts. The
