@@ -1,6 +1,7 @@
 -- Each answer of a run is the raw answer, over the definitions alone.
 use Rattle.std.proofs.Common.{◌≡◌, ◌∙◌, sym, refl, ap, subst, inl, inr, ℕ, ℤ, ◌≤◌, Bool, true, false, List, [], ◌∷◌, ◌++◌, length, Some, None, zero, suc, cond, nat_le, arith}
-use Rattle.std.specs.Prelude.{Option, nat_eq}
+use Rattle.std.specs.Prelude.{Option, Ok, nat_eq}
+use Rattle.dr_base.specs.Reading.{◌>>=◌, passed}
 use Rattle.std.specs.List.{AllByRecursion, slice_get}
 use Rattle.std.proofs.lemmas.List.{append-nil}
 use Rattle.std.proofs.lemmas.Bool.Decides.{nat_tests}
@@ -9,11 +10,12 @@ use Rattle.dr_base.specs.declared.row.Row.{Row}
 use Rattle.dr_agg.specs.Rollup.{rollup_onto}
 use Rattle.dr_schema.specs.declared.schema.Schema.{Schema}
 use Rattle.dr_schema.specs.WellFormed.{IsWellFormed}
-use Rattle.dr_query.specs.declared.query.Query.{Query}
-use Rattle.dr_query.specs.Answer.{answer}
-use Rattle.dr_query.specs.Matching.{is_matching}
-use Rattle.dr_query.specs.MadeFor.{MadeFor}
+use Rattle.dr_ask.specs.Asked.{Asked, asked}
+use Rattle.dr_ask.specs.Matching.{is_matching}
+use Rattle.dr_ask.specs.MadeFor.{MadeFor}
+use Rattle.dr_answers.specs.Answer.{answer}
 use Rattle.dr_merge.specs.declared.job.Job.{Job}
+use Rattle.dr_core.specs.declared.core_error.CoreError.TheVariants.{Timeline}
 use Rattle.dr_core.specs.declared.step.Step.{Step}
 use Rattle.dr_core.specs.declared.step.Step.TheVariants.{Accept, Seal, Plan, Commit, Pin, Ask, Audit}
 use Rattle.dr_core.specs.declared.reply.Reply.{Reply}
@@ -27,15 +29,16 @@ use Rattle.dr_cuts.specs.RawAnswer.{raw_answer}
 use Rattle.dr_cuts.specs.State.{State, Cut, AreCuts}
 use Rattle.dr_timeline.specs.Standing.{place_of}
 use Rattle.dr_timeline.specs.Steps.{accepted, with_event, sealed_at, open_in, committed}
-use Rattle.dr_timeline.specs.Stepping.{commit_at, commit}
+use Rattle.dr_timeline.specs.Stepping.{commit_at}
 use Rattle.dr_cuts.specs.Segments.{Pinned, pinned, infos, rows_over, rows_of}
 use Rattle.dr_timeline.specs.CoreState.{CoreState, empty_core, with_timeline, with_job, with_pin}
-use Rattle.dr_core.specs.Run.{FitsStep, Moves, told, found, taken, RunFrom, reply_to}
+use Rattle.dr_core.specs.Run.{FitsStep, Moves, told, taken, RunFrom, reply_to}
+use Rattle.dr_core.specs.Steps.{commit_job, given}
 use Rattle.dr_core.specs.Headline.{accepted_by, pinned_by, IsRaw, AnswersRaw, AnswersFrom, AnswersAreRaw}
 use Rattle.dr_core.proofs.CutSteps.{cuts-opened, cuts-after_seal, cuts-after_merge}
 use Rattle.dr_cuts.proofs.Matching.{answer-cut_rows}
 use Rattle.dr_timeline.proofs.Placing.{place_of-stands}
-use Rattle.dr_core.proofs.Running.{told-if, told-unless, found-each}
+use Rattle.dr_core.proofs.Running.{told-if, told-unless, told-given, told-with, with_answer}
 
 -- ---- an event that may seal
 
@@ -151,12 +154,15 @@ seal-run schema es ess old k some h =
     recut schema es ess old (sealed_at k old.timeline) refl refl
     (cuts-after_seal old.timeline k old.timeline.serials h.are_cuts (λ none. let empty = ap (λ (l : List Event). nat_eq (length l) 0) none in cc)) h
 
-pub commit-run : (schema : Schema) (es : List Event) (ess : List (List Event)) (old : CoreState) (n : ℕ) (job : Job) (place : Option ℕ) → place_of old.timeline job ≡ place → IsRunSoFar schema es ess old
-    → Follows schema es ess (Commit n) (told (λ a. (Committed a.0, with_timeline a.1 old)) old (commit_at old.timeline job place))
-commit-run schema es ess old n job None is h = refused-run schema es ess old (Commit n) Stale h
-commit-run schema es ess old n job (Some place) is h =
-    told-if (Follows schema es ess (Commit n)) (λ (a : ℕ × State). (Committed a.0, with_timeline a.1 old)) old _ CommitsFull _ (λ _. refused-run schema es ess old (Commit n) CommitsFull h)
+commit-at : (schema : Schema) (es : List Event) (ess : List (List Event)) (old : CoreState) (n : ℕ) (job : Job) (place : Option ℕ) → place_of old.timeline job ≡ place → IsRunSoFar schema es ess old
+    → Follows schema es ess (Commit n) (told (λ (a : ℕ × CoreState). (Committed a.0, a.1)) old (passed Timeline (commit_at old.timeline job place) >>= with_answer old))
+commit-at schema es ess old n job None is h = refused-run schema es ess old (Commit n) Stale h
+commit-at schema es ess old n job (Some place) is h =
+    told-if (Follows schema es ess (Commit n)) (λ (a : ℕ × CoreState). (Committed a.0, a.1)) (with_answer old) old _ CommitsFull _ (λ _. refused-run schema es ess old (Commit n) CommitsFull h)
     (λ _. recut schema es ess old (committed old.timeline job place) refl refl (cuts-after_merge old.timeline job place h.are_cuts (place_of-stands old.timeline job place is)) h)
+
+pub commit-run : (schema : Schema) (es : List Event) (ess : List (List Event)) (old : CoreState) (n : ℕ) (job : Job) → IsRunSoFar schema es ess old → Follows schema es ess (Commit n) (told (λ (a : ℕ × CoreState). (Committed a.0, a.1)) old (commit_job job old))
+commit-run schema es ess old n job h = commit-at schema es ess old n job (place_of old.timeline job) refl h
 
 -- what is pinned now
 pub pin-now : (schema : Schema) (es : List Event) (ess : List (List Event)) (c : CoreState) → IsRunSoFar schema es ess c → IsPin schema es (pinned c.timeline)
@@ -182,22 +188,21 @@ pin-run schema es ess old h = record {
 pub as-before : (schema : Schema) (es : List Event) (ess : List (List Event)) (c : CoreState) → IsRunSoFar schema es ess c → IsRunSoFar schema (es ++ []) (ess ++ []) c
 as-before schema es ess c h = stays schema es ess c [] [] refl refl h
 
-taken-run : (schema : Schema) (es : List Event) (ess : List (List Event)) (old : CoreState) (s : Step) → 1 ≤ schema.limits.max_rows_in_memory → IsRunSoFar schema es ess old → Follows schema es ess s (taken old s)
+pub taken-run : (schema : Schema) (es : List Event) (ess : List (List Event)) (old : CoreState) (s : Step) → 1 ≤ schema.limits.max_rows_in_memory → IsRunSoFar schema es ess old → Follows schema es ess s (taken old s)
 taken-run schema es ess old (Accept e) least h =
-    told-if (Follows schema es ess (Accept e)) (λ (a : ℕ × State). (Accepted a.0, with_timeline a.1 old)) old _ StreamFull _ (λ _. refused-run schema es ess old (Accept e) StreamFull h) (λ _. accept-run schema es ess old e least h)
+    told-if (Follows schema es ess (Accept e)) (λ (a : ℕ × CoreState). (Accepted a.0, a.1)) (with_answer old) old _ StreamFull _ (λ _. refused-run schema es ess old (Accept e) StreamFull h) (λ _. accept-run schema es ess old e least h)
 taken-run schema es ess old (Seal k) least h =
-    told-if (Follows schema es ess (Seal k)) (λ t. (Sealed, with_timeline t old)) old _ NothingToSeal _ (λ _. refused-run schema es ess old (Seal k) NothingToSeal h) (λ some. seal-run schema es ess old k some h)
+    told-if (Follows schema es ess (Seal k)) (λ new. (Sealed, new)) (λ t. Ok (with_timeline t old)) old _ NothingToSeal _ (λ _. refused-run schema es ess old (Seal k) NothingToSeal h) (λ some. seal-run schema es ess old k some h)
 taken-run schema es ess old (Plan k lo hi purpose) least h =
-    told-unless (Follows schema es ess (Plan k lo hi purpose)) (λ job. (JobGiven (length old.jobs), with_job job old)) old _ NoSuchRange _ (refused-run schema es ess old (Plan k lo hi purpose) NoSuchRange h)
+    told-unless (Follows schema es ess (Plan k lo hi purpose)) (λ (a : ℕ × CoreState). (JobGiven a.0, a.1)) (λ job. Ok (length old.jobs, with_job job old)) old _ NoSuchRange _ (refused-run schema es ess old (Plan k lo hi purpose) NoSuchRange h)
     (as-before schema es ess _ (record { schema_is = h.schema_is; stream_is = h.stream_is; are_cuts = h.are_cuts; pins = h.pins }))
 taken-run schema es ess old (Commit n) least h =
-    found-each (Follows schema es ess (Commit n)) (λ job. told (λ a. (Committed a.0, with_timeline a.1 old)) old (commit old.timeline job)) old (slice_get old.jobs n) (as-before schema es ess old h)
-    (λ job. commit-run schema es ess old n job (place_of old.timeline job) refl h)
+    told-with (Follows schema es ess (Commit n)) (λ (a : ℕ × CoreState). (Committed a.0, a.1)) (λ job. commit_job job old) old (slice_get old.jobs n) (as-before schema es ess old h) (λ job. commit-run schema es ess old n job h)
 taken-run schema es ess old Pin least h = pin-run schema es ess old h
 taken-run schema es ess old (Ask n q) least h =
-    found-each (Follows schema es ess (Ask n q)) (λ p. (reply_to (answer q (rows_of p)), old)) old (slice_get old.pins n) (as-before schema es ess old h) (λ p. as-before schema es ess old h)
+    told-given (Follows schema es ess (Ask n q)) (λ p. (reply_to (answer (asked q) (rows_of p)), old)) old (slice_get old.pins n) (as-before schema es ess old h) (λ p. as-before schema es ess old h)
 taken-run schema es ess old (Audit n q) least h =
-    found-each (Follows schema es ess (Audit n q)) (λ p. (reply_to (raw_answer p.schema q p.stream), old)) old (slice_get old.pins n) (as-before schema es ess old h) (λ p. as-before schema es ess old h)
+    told-given (Follows schema es ess (Audit n q)) (λ p. (reply_to (raw_answer p.schema (asked q) p.stream), old)) old (slice_get old.pins n) (as-before schema es ess old h) (λ p. as-before schema es ess old h)
 
 pub moves-run : (schema : Schema) (es : List Event) (ess : List (List Event)) (old new : CoreState) (s : Step) (r : Reply) → 1 ≤ schema.limits.max_rows_in_memory → Moves old s r new → IsRunSoFar schema es ess old → IsRunSoFar schema (es ++ accepted_by s r) (ess ++ pinned_by es s r) new
 moves-run schema es ess old new s r least (inl h) g = coe 0 1 (i. Follows schema es ess s ((sym h.0) i, (sym h.1) i)) (taken-run schema es ess old s least g)
@@ -206,19 +211,19 @@ moves-run schema es ess old new s r least (inr h) g = coe 0 1 (i. Follows schema
 -- ---- the answers
 
 -- the answer on a snapshot
-pub pin-raw : (schema : Schema) (es : List Event) (p : Pinned) (q : Query) → IsPin schema es p → MadeFor schema q → is_matching q ≡ true → answer q (rows_of p) ≡ raw_answer schema q es
+pub pin-raw : (schema : Schema) (es : List Event) (p : Pinned) (q : Asked) → IsPin schema es p → MadeFor schema q → is_matching q ≡ true → answer q (rows_of p) ≡ raw_answer schema q es
 pin-raw schema es p q pin made matches =
     ap (answer q) (λ i. rows_over (pin.schema_is i) (pin.stream_is i) (pin.ranges_are i)) ∙ answer-cut_rows schema q es pin.cuts pin.are_cuts made matches
 
-asked : (schema : Schema) (ess : List (List Event)) (ps : List Pinned) (n : ℕ) (q : Query) (c : CoreState) → ArePins schema ess ps → MadeFor schema q → is_matching q ≡ true
-    → IsRaw schema q (slice_get ess n) (found (λ p. (reply_to (answer q (rows_of p)), c)) c (slice_get ps n)).0
-asked schema [] [] n q c pins made matches = inl refl
-asked schema [] (p ∷ ps) n q c pins made matches = absurd pins
-asked schema (es ∷ ess) [] n q c pins made matches = absurd pins
-asked schema (es ∷ ess) (p ∷ ps) zero q c pins made matches = inl (ap reply_to (pin-raw schema es p q pins.0 made matches))
-asked schema (es ∷ ess) (p ∷ ps) (suc n) q c pins made matches = asked schema ess ps n q c pins.1 made matches
+ask-raw : (schema : Schema) (ess : List (List Event)) (ps : List Pinned) (n : ℕ) (q : Asked) (c : CoreState) → ArePins schema ess ps → MadeFor schema q → is_matching q ≡ true
+    → IsRaw schema q (slice_get ess n) (told (λ p. (reply_to (answer q (rows_of p)), c)) c (given (slice_get ps n))).0
+ask-raw schema [] [] n q c pins made matches = inl refl
+ask-raw schema [] (p ∷ ps) n q c pins made matches = absurd pins
+ask-raw schema (es ∷ ess) [] n q c pins made matches = absurd pins
+ask-raw schema (es ∷ ess) (p ∷ ps) zero q c pins made matches = inl (ap reply_to (pin-raw schema es p q pins.0 made matches))
+ask-raw schema (es ∷ ess) (p ∷ ps) (suc n) q c pins made matches = ask-raw schema ess ps n q c pins.1 made matches
 
-no-memory : (schema : Schema) (q : Query) (o : Option (List Event)) (r : Reply) → r ≡ Refused 0 → IsRaw schema q o r
+no-memory : (schema : Schema) (q : Asked) (o : Option (List Event)) (r : Reply) → r ≡ Refused 0 → IsRaw schema q o r
 no-memory schema q None r is = inr is
 no-memory schema q (Some es) r is = inr is
 
@@ -228,8 +233,8 @@ step-raw schema es ess old new (Seal k) r fits h g = tt
 step-raw schema es ess old new (Plan k lo hi purpose) r fits h g = tt
 step-raw schema es ess old new (Commit n) r fits h g = tt
 step-raw schema es ess old new Pin r fits h g = tt
-step-raw schema es ess old new (Ask n q) r fits (inl h) g = λ matches. subst (IsRaw schema q (slice_get ess n)) (sym h.0) (asked schema ess old.pins n q old g.pins fits matches)
-step-raw schema es ess old new (Ask n q) r fits (inr h) g = λ matches. no-memory schema q (slice_get ess n) r h.0
+step-raw schema es ess old new (Ask n q) r fits (inl h) g = λ matches. subst (IsRaw schema (asked q) (slice_get ess n)) (sym h.0) (ask-raw schema ess old.pins n (asked q) old g.pins fits matches)
+step-raw schema es ess old new (Ask n q) r fits (inr h) g = λ matches. no-memory schema (asked q) (slice_get ess n) r h.0
 step-raw schema es ess old new (Audit n q) r fits h g = tt
 
 pub run-raw : (schema : Schema) (es : List Event) (ess : List (List Event)) (old new : CoreState) (ss : List Step) (rs : List Reply) → 1 ≤ schema.limits.max_rows_in_memory → AllByRecursion (FitsStep schema) ss → RunFrom old ss rs new → IsRunSoFar schema es ess old → AnswersFrom schema es ess ss rs

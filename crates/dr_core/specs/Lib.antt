@@ -1,2 +1,4 @@
+pub mod Refusal
+pub mod Steps
 pub mod Run
 pub mod Headline

@@ -1,45 +1,25 @@
 ghost use Rattle.std.specs.Prelude.{◌≡◌, IfOk, MatchResult};
 ghost use Rattle.std.specs.List.{AllByRecursion};
-ghost use Rattle.dr_base.specs.declared.event.Event.{Event};
-ghost use Rattle.dr_core.specs.declared.step.Step.TheVariants.{Accept, Seal, Plan, Commit, Pin, Ask, Audit};
-ghost use Rattle.dr_schema.specs.Fits.{FitsSchema};
-ghost use Rattle.dr_schema.specs.WellFormed.{IsWellFormed};
-ghost use Rattle.dr_query.specs.MadeFor.{MadeFor};
-ghost use Rattle.dr_timeline.specs.CoreState.{empty_core};
-ghost use Rattle.dr_core.specs.Run.{FitsStep, Moves, Run, RunFrom};
-ghost use Rattle.dr_core.specs.declared.reply.Reply.TheVariants.{Answer, Committed, Refused};
-ghost use Rattle.dr_query.specs.AnswerRefusal as no_answer;
-ghost use Rattle.dr_timeline.specs.Refusal.{number_of};
 ghost use Rattle.dr_core.specs.Headline.{AnswersAreRaw};
+ghost use Rattle.dr_core.specs.Run.{FitsStep, Moves, Run, RunFrom, reply_for};
+ghost use Rattle.dr_core.specs.declared.reply.Reply.TheVariants.{Answer, Refused};
+ghost use Rattle.dr_core.specs.declared.step.Step.TheVariants.{Accept, Seal, Plan, Commit, Pin, Ask, Audit};
+ghost use Rattle.dr_answers.specs.AnswerRefusal as no_answer;
+ghost use Rattle.dr_ask.specs.Asked.{asked};
+ghost use Rattle.dr_ask.specs.MadeFor.{MadeFor};
+ghost use Rattle.dr_schema.specs.Fits.{FitsSchema};
 
 use crate::bytes::Bytes;
+use crate::core_error::CoreError;
 use crate::reply::Reply;
 use crate::step::Step;
+use crate::timeline_core::Core;
+use dr_answers::AnswerError;
+use dr_ask::Query;
 use dr_base::Event;
-use dr_merge::{Job, Purpose, work};
-use dr_query::{AnswerError, Query};
+use dr_merge::Purpose;
 use dr_spec::IngestSpec;
-use dr_timeline::{Snapshot, Timeline, TimelineError};
 use std::alloc::{AllocError, Global};
-use std::marker::Model;
-
-/// A run of the core so far: its timeline, and the jobs and snapshots that were given. A contract sees these.
-#[derive(Drop)]
-pub struct CoreRun {
-    timeline: Timeline,
-    jobs: Vec<Job>,
-    pins: Vec<Snapshot>,
-}
-
-impl Model for CoreRun {
-    ghost use Rattle.dr_timeline.specs.CoreState.{CoreState, HaveSchema};
-
-    ghost Value = { CoreState };
-
-    ghost view = { λ c. record { timeline = c.timeline; jobs = c.jobs.items; pins = c.pins.items } };
-
-    ghost invariant = { λ c. HaveSchema c.timeline.schema c.pins.items };
-}
 
 /// Takes the steps in turn from a timeline without events, on one thread, and gives a reply to each. The only error is
 /// that there was no memory to begin or for the list of replies; within a run a step that finds no memory is refused with
@@ -56,136 +36,112 @@ pub fn run_core_one(
     ensures run { IfOk result (λ replies. Run spec steps.now replies.items) }
     ensures raw_where_matching { IfOk result (λ replies. AnswersAreRaw spec steps.now replies.items) }
 {
-    let mut core = CoreRun::new(alloc, spec)?;
-    core.take(alloc, steps)
+    let mut core = Core::new(alloc, spec)?;
+    take(alloc, &mut core, steps)
 }
 
-impl CoreRun {
-    fn new(alloc: Global, spec: IngestSpec) -> Result<CoreRun, AllocError>
-        ensures empty { IfOk result (λ core. core ≡ empty_core spec) }
-        ensures well_formed { IfOk result (λ core. IsWellFormed core.timeline.schema) }
-    {
-        Ok(CoreRun {
-            timeline: Timeline::new(alloc, spec)?,
-            jobs: Vec::new(alloc),
-            pins: Vec::new(alloc),
-        })
-    }
-
-    fn take(&mut self, alloc: Global, steps: &[Step]) -> Result<Vec<Reply>, AllocError>
-        requires { AllByRecursion (FitsStep self.old.timeline.schema) steps.now }
-        ensures { IfOk result (λ replies. RunFrom self.old steps.now replies.items self.new) }
-    {
-        let mut replies = Vec::with_capacity(alloc, steps.len())?;
-        for step in steps {
-            let reply = self.step(alloc, step);
-            replies.push(reply)?;
-        }
-        Ok(replies)
-    }
-
-    fn step(&mut self, alloc: Global, step: &Step) -> Reply
-        requires { FitsStep self.old.timeline.schema step.now }
-        ensures { Moves self.old step.now result self.new }
-    {
-        match step {
-            Step::Accept(event) => self.accept(event),
-            Step::Seal(chunk) => self.seal(*chunk),
-            Step::Plan(chunk, lo, hi, purpose) => self.plan(*chunk, *lo, *hi, *purpose),
-            Step::Commit(number) => self.commit(alloc, *number),
-            Step::Pin => self.pin(),
-            Step::Ask(number, query) => self.ask(*number, query),
-            Step::Audit(number, query) => self.audit(*number, query),
-        }
-    }
-
-    fn accept(&mut self, event: &Event) -> Reply
-        requires { FitsSchema self.old.timeline.schema event.now }
-        ensures { Moves self.old (Accept event.now) result self.new }
-    {
-        let Ok(event) = event.copy() else {
-            return Reply::Refused(0);
-        };
-        match self.timeline.accept(event) {
-            Ok(number) => Reply::Accepted(number),
-            Err(error) => Reply::Refused(error.number()),
-        }
-    }
-
-    fn seal(&mut self, chunk: i64) -> Reply
-        ensures { Moves self.old (Seal chunk) result self.new }
-    {
-        match self.timeline.seal(chunk) {
-            Ok(()) => Reply::Sealed,
-            Err(error) => Reply::Refused(error.number()),
-        }
-    }
-
-    fn plan(&mut self, chunk: i64, lo: usize, hi: usize, purpose: Purpose) -> Reply
-        ensures { Moves self.old (Plan chunk lo hi purpose) result self.new }
-    {
-        let number = self.jobs.len();
-        match self.timeline.plan(chunk, lo, hi, purpose) {
-            Ok(job) => match self.jobs.push(job) {
-                Ok(()) => Reply::Job(number),
-                Err(_) => Reply::Refused(0),
-            },
-            Err(error) => Reply::Refused(error.number()),
-        }
-    }
-
-    fn commit(&mut self, alloc: Global, number: usize) -> Reply
-        ensures { Moves self.old (Commit number) result self.new }
-    {
-        let Some(job) = self.jobs.get(number) else {
-            return Reply::NoSuch;
-        };
-        let Ok(fragment) = work(alloc, self.timeline.spec().schema(), job) else {
-            return Reply::Refused(0);
-        };
-        committed(self.timeline.commit(job, fragment))
-    }
-
-    fn pin(&mut self) -> Reply
-        ensures { Moves self.old Pin result self.new }
-    {
-        let number = self.pins.len();
-        let Ok(snapshot) = self.timeline.pin() else {
-            return Reply::Refused(0);
-        };
-        match self.pins.push(snapshot) {
-            Ok(()) => Reply::Pinned(number),
-            Err(_) => Reply::Refused(0),
-        }
-    }
-
-    fn ask(&self, number: usize, query: &Query) -> Reply
-        requires { MadeFor self.now.timeline.schema query.now }
-        ensures { Moves self.now (Ask number query.now) result self.now }
-    {
-        match self.pins.get(number) {
-            Some(snapshot) => answered(snapshot.answer_one(query)),
-            None => Reply::NoSuch,
-        }
-    }
-
-    fn audit(&self, number: usize, query: &Query) -> Reply
-        requires { MadeFor self.now.timeline.schema query.now }
-        ensures { Moves self.now (Audit number query.now) result self.now }
-    {
-        match self.pins.get(number) {
-            Some(snapshot) => answered(snapshot.audit(query)),
-            None => Reply::NoSuch,
-        }
-    }
-}
-
-fn committed(version: Result<u64, TimelineError>) -> Reply
-    ensures { MatchResult version (λ v. result ≡ Committed v) (λ e. result ≡ Refused (number_of e)) }
+fn take(alloc: Global, core: &mut Core, steps: &[Step]) -> Result<Vec<Reply>, AllocError>
+    requires { AllByRecursion (FitsStep core.old.timeline.schema) steps.now }
+    ensures { IfOk result (λ replies. RunFrom core.old steps.now replies.items core.new) }
 {
-    match version {
+    let mut replies = Vec::with_capacity(alloc, steps.len())?;
+    for step in steps {
+        let reply = take_step(alloc, core, step);
+        replies.push(reply)?;
+    }
+    Ok(replies)
+}
+
+fn take_step(alloc: Global, core: &mut Core, step: &Step) -> Reply
+    requires { FitsStep core.old.timeline.schema step.now }
+    ensures { Moves core.old step.now result core.new }
+{
+    match step {
+        Step::Accept(event) => accept(core, event),
+        Step::Seal(chunk) => seal(core, *chunk),
+        Step::Plan(chunk, lo, hi, purpose) => plan(core, *chunk, *lo, *hi, *purpose),
+        Step::Commit(number) => commit(alloc, core, *number),
+        Step::Pin => pin(core),
+        Step::Ask(number, query) => ask(core, *number, query),
+        Step::Audit(number, query) => audit(core, *number, query),
+    }
+}
+
+fn accept(core: &mut Core, event: &Event) -> Reply
+    requires { FitsSchema core.old.timeline.schema event.now }
+    ensures { Moves core.old (Accept event.now) result core.new }
+{
+    let Ok(event) = event.copy() else {
+        return Reply::Refused(0);
+    };
+    match core.accept(event) {
+        Ok(number) => Reply::Accepted(number),
+        Err(error) => refused(error),
+    }
+}
+
+fn seal(core: &mut Core, chunk: i64) -> Reply
+    ensures { Moves core.old (Seal chunk) result core.new }
+{
+    match core.seal(chunk) {
+        Ok(()) => Reply::Sealed,
+        Err(error) => refused(error),
+    }
+}
+
+fn plan(core: &mut Core, chunk: i64, lo: usize, hi: usize, purpose: Purpose) -> Reply
+    ensures { Moves core.old (Plan chunk lo hi purpose) result core.new }
+{
+    match core.plan(chunk, lo, hi, purpose) {
+        Ok(number) => Reply::Job(number),
+        Err(error) => refused(error),
+    }
+}
+
+fn commit(alloc: Global, core: &mut Core, number: usize) -> Reply
+    ensures { Moves core.old (Commit number) result core.new }
+{
+    match core.commit(alloc, number) {
         Ok(version) => Reply::Committed(version),
-        Err(error) => Reply::Refused(error.number()),
+        Err(error) => refused(error),
+    }
+}
+
+fn pin(core: &mut Core) -> Reply
+    ensures { Moves core.old Pin result core.new }
+{
+    match core.pin() {
+        Ok(number) => Reply::Pinned(number),
+        Err(_) => Reply::Refused(0),
+    }
+}
+
+fn ask(core: &Core, number: usize, query: &Query) -> Reply
+    requires { MadeFor core.now.timeline.schema (asked query.now) }
+    ensures { Moves core.now (Ask number query.now) result core.now }
+{
+    match core.snapshot(number) {
+        Some(snapshot) => answered(snapshot.answer_one(query)),
+        None => Reply::NoSuch,
+    }
+}
+
+fn audit(core: &Core, number: usize, query: &Query) -> Reply
+    requires { MadeFor core.now.timeline.schema (asked query.now) }
+    ensures { Moves core.now (Audit number query.now) result core.now }
+{
+    match core.snapshot(number) {
+        Some(snapshot) => answered(snapshot.audit(query)),
+        None => Reply::NoSuch,
+    }
+}
+
+fn refused(error: CoreError) -> Reply
+    ensures { result ≡ reply_for error }
+{
+    match error {
+        CoreError::NoSuch => Reply::NoSuch,
+        CoreError::Timeline(error) => Reply::Refused(error.number()),
     }
 }
 

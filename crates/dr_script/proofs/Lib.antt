@@ -1,4 +1,2 @@
 pub mod ScriptSteps
-pub mod SessionLemmas
-pub mod MadeQueries
 pub mod RawScripts

@@ -1,6 +1,6 @@
 -- Each answer of a script to a matching query is the raw answer, over the definitions alone.
 use Rattle.std.proofs.Common.{append-nil, ◌≡◌, ◌∙◌, ◌≤◌, inl, inr, refl, sym, ap, subst, ℕ, ℤ, zero, suc, Bool, true, false, cond, List, [], ◌∷◌, ◌++◌, length, Option, Some, None, Result, Ok, Err, codes}
-use Rattle.std.specs.Prelude.{nat_eq, nat_lt, slice_get}
+use Rattle.std.specs.Prelude.{nat_lt, slice_get}
 use Rattle.dr_base.specs.Reading.{◌>>=◌, passed}
 use Rattle.dr_base.specs.declared.event.Event.{Event}
 use Rattle.dr_time.specs.declared.time_error.TimeError.{TimeError}
@@ -12,58 +12,57 @@ use Rattle.dr_spec.specs.declared.spec_error.SpecError.{SpecError}
 use Rattle.dr_spec.specs.SpecOf.{spec_of}
 use Rattle.dr_spec.proofs.WellFormedSchemas.{IsWellFormed-spec_of}
 use Rattle.dr_events.specs.EventOf.{event_of}
-use Rattle.dr_query.specs.declared.answer_error.AnswerError.{AnswerError}
-use Rattle.dr_query.specs.declared.query.Query.{Query as QueryRead}
-use Rattle.dr_query.specs.declared.query_error.QueryError.{QueryError}
-use Rattle.dr_query.specs.Answer.{answer}
-use Rattle.dr_query.specs.QueryOf.{query_of}
+use Rattle.dr_answers.specs.declared.answer_error.AnswerError.{AnswerError}
+use Rattle.dr_ask.specs.Asked.{Asked}
+use Rattle.dr_ask.specs.declared.query_error.QueryError.{QueryError}
+use Rattle.dr_answers.specs.Answer.{answer}
+use Rattle.dr_ask.specs.QueryOf.{query_of}
 use Rattle.dr_merge.specs.declared.job.Job.{Job}
 use Rattle.dr_merge.specs.declared.purpose.Purpose.{Purpose}
 use Rattle.dr_cuts.specs.Chunks.{values_onto}
 use Rattle.dr_cuts.specs.RawAnswer.{raw_answer}
 use Rattle.dr_cuts.specs.Segments.{Pinned, pinned, rows_of}
-use Rattle.dr_cuts.specs.State.{State}
 use Rattle.dr_timeline.specs.declared.outcome.Outcome.TheVariants.{Unparseable as NotParsed}
-use Rattle.dr_timeline.specs.declared.timeline_error.TimelineError.{TimelineError}
-use Rattle.dr_timeline.specs.declared.timeline_error.TimelineError.TheVariants.{NothingToSeal, StreamFull}
-use Rattle.dr_timeline.specs.CoreState.{CoreState, empty_core, with_timeline, with_job}
+use Rattle.dr_timeline.specs.CoreState.{CoreState, empty_core}
 use Rattle.dr_timeline.specs.Noted.{noted}
-use Rattle.dr_timeline.specs.Standing.{place_of}
-use Rattle.dr_timeline.specs.Steps.{accepted, sealed_at, open_in}
-use Rattle.dr_timeline.specs.Stepping.{accept, seal, plan, commit}
-use Rattle.dr_core.specs.declared.step.Step.TheVariants.{Commit as CommitStep}
+use Rattle.dr_timeline.specs.Stepping.{plan}
+use Rattle.dr_core.specs.Steps as core
+use Rattle.dr_core.specs.declared.core_error.CoreError.{CoreError}
+use Rattle.dr_core.specs.declared.core_error.CoreError.TheVariants.{Timeline}
+use Rattle.dr_core.specs.declared.step.Step.{Step}
+use Rattle.dr_core.specs.declared.step.Step.TheVariants.{Accept as AcceptStep, Seal as SealStep, Plan as PlanStep, Commit as CommitStep}
 use Rattle.dr_core.specs.declared.reply.Reply.{Reply as CoreReply}
-use Rattle.dr_core.specs.declared.reply.Reply.TheVariants.{Committed}
+use Rattle.dr_core.specs.declared.reply.Reply.TheVariants.{Accepted, Sealed, Job as JobGiven, Committed}
 use Rattle.dr_core.specs.Headline.{accepted_by, pinned_by}
 use Rattle.dr_core.specs.Run.{told as told_step}
-use Rattle.dr_core.proofs.RawRuns.{ArePins, IsPin, IsRunSoFar, accept-run, commit-run, pin-now, pin-raw, pin-run, recut, seal-run, stays}
+use Rattle.dr_core.proofs.RawRuns.{ArePins, IsPin, IsRunSoFar, commit-run, pin-now, pin-raw, pin-run, recut, stays, taken-run}
 use Rattle.dr_lines.specs.Lines.{longest_line}
 use Rattle.dr_lines.specs.declared.line_error.LineError.TheVariants.{LineTooLong}
 use Rattle.dr_requests.specs.declared.command_error.CommandError.{CommandError}
 use Rattle.dr_requests.specs.declared.command_error.CommandError.TheVariants.{NoMemory, Line}
 use Rattle.dr_requests.specs.declared.request.Request.{Request}
 use Rattle.dr_requests.specs.declared.request.Request.TheVariants.{Add, Seal, Join, Plan, Commit, Pin, Query, At, Audit, Stats}
-use Rattle.dr_requests.specs.Request.{instant_in, or_bad_command, request_in}
+use Rattle.dr_requests.specs.Request.{instant_in, request_in}
 use Rattle.dr_script.specs.declared.script_error.ScriptError.{ScriptError}
-use Rattle.dr_script.specs.declared.script_error.ScriptError.TheVariants.{Command, Time, Timeline, Query as BadQuery, Answer}
+use Rattle.dr_script.specs.declared.script_error.ScriptError.TheVariants.{Command, Time, Core, Query as BadQuery, Answer}
 use Rattle.dr_script.specs.Commands.{Answered, add_event, add_read, answered, ask_at, ask_now, audit_now, carried_out, chunk_named, commit_job, join_ranges, plan_ranges, refused_by, seal_chunk, tell_stats, told}
 use Rattle.dr_script.specs.Headline.{AnswersRaw, AnswersAreRaw, RawScript, IsRaw, RawFrom, accepted_for, asked_by, begins, event_asked, event_read, pin_asked, pinned_for, told_answer}
 use Rattle.dr_script.specs.Script.{GoesOn, Moves, Script, ScriptAfter, ScriptFrom, opened_by, settled, step}
-use Rattle.dr_script.proofs.MadeQueries.{query_of-made}
+use Rattle.dr_ask.proofs.MadeQueries.{query_of-made, through}
 
 -- ---- what is written begins otherwise
 
 not_accepted : (e : ScriptError) → begins (codes "accepted ") (told e) ≡ false
 not_accepted (Command e) = refl
 not_accepted (Time e) = refl
-not_accepted (Timeline e) = refl
+not_accepted (Core e) = refl
 not_accepted (BadQuery e) = refl
 not_accepted (Answer e) = refl
 
 not_pinned : (e : ScriptError) → begins (codes "pin ") (told e) ≡ false
 not_pinned (Command e) = refl
 not_pinned (Time e) = refl
-not_pinned (Timeline e) = refl
+not_pinned (Core e) = refl
 not_pinned (BadQuery e) = refl
 not_pinned (Answer e) = refl
 
@@ -122,38 +121,40 @@ module _ (schema : Schema) (es : List Event) (ess : List (List Event)) (c : Core
   unnested : (t : CoreState) → IsRunSoFar schema (es ++ []) (ess ++ []) t → IsRunSoFar schema es ess t
   unnested t g = subst (λ l. IsRunSoFar schema l ess t) (append-nil es) (subst (λ l. IsRunSoFar schema (es ++ []) l t) (append-nil ess) g)
 
-  sealed : (k : ℤ) (b : Bool) (s : State) → nat_eq (length (open_in c.timeline k)) 0 ≡ b → cond {A = Result State TimelineError} b (Err NothingToSeal) (Ok (sealed_at k c.timeline)) ≡ Ok s → IsRunSoFar schema es ess (with_timeline s c)
-  sealed k true s some is = cc
-  sealed k false s some is =
-      let after : sealed_at k c.timeline ≡ s = cc in
-      subst (λ s. IsRunSoFar schema es ess (with_timeline s c)) after (unnested (with_timeline (sealed_at k c.timeline) c) (seal-run schema es ess c k some h))
+  -- a step of the core, as a step of a run
+  abbrev CoreFollows : Step → CoreReply × CoreState → Type 0
+  CoreFollows step t = IsRunSoFar schema (es ++ accepted_by step t.0) (ess ++ pinned_by es step t.0) t.1
+
+  core_follows : {A : Type 0} (step : Step) (done : A → CoreReply × CoreState) (r : Result A CoreError) (x : A) → CoreFollows step (told_step done c r) → r ≡ Ok x → CoreFollows step (done x)
+  core_follows step done r x follows is = subst (λ (r : Result _ CoreError). CoreFollows step (told_step done c r)) is follows
+
+  sealed : (k : ℤ) (new : CoreState) → core.seal k c ≡ Ok new → IsRunSoFar schema es ess new
+  sealed k new is = unnested new (core_follows (SealStep k) (λ new. (Sealed, new)) (core.seal k c) new (taken-run schema es ess c (SealStep k) least h) is)
 
   seals : (instant : List ℕ) → Stays (settled c (seal_chunk instant c))
-  seals instant =
-      named Stays c instant _ same (λ k. settles Stays Timeline c (seal c.timeline k) _ same (λ s is. sealed k (nat_eq (length (open_in c.timeline k)) 0) s refl is))
+  seals instant = named Stays c instant _ same (λ k. settles Stays Core c (core.seal k c) _ same (λ new is. sealed k new is))
 
-  abbrev CoreFollows : CoreReply × CoreState → Type 0
-  CoreFollows t = IsRunSoFar schema (es ++ accepted_by (CommitStep 0) t.0) (ess ++ pinned_by es (CommitStep 0) t.0) t.1
-
-  committed : (job : Job) (n : ℕ × State) → commit c.timeline job ≡ Ok n → IsRunSoFar schema es ess (with_timeline n.1 c)
-  committed job n is =
-      unnested (with_timeline n.1 c)
-      (subst (λ (r : Result (ℕ × State) TimelineError). CoreFollows (told_step (λ a. (Committed a.0, with_timeline a.1 c)) c r)) is (commit-run schema es ess c 0 job (place_of c.timeline job) refl h))
+  joined : (job : Job) (n : ℕ × CoreState) → core.commit_job job c ≡ Ok n → IsRunSoFar schema es ess n.1
+  joined job n is = unnested n.1 (core_follows (CommitStep 0) (λ (a : ℕ × CoreState). (Committed a.0, a.1)) (core.commit_job job c) n (commit-run schema es ess c 0 job h) is)
 
   joins : (purpose : Purpose) (instant : List ℕ) (lo hi : ℕ) → Stays (settled c (join_ranges purpose instant lo hi c))
   joins purpose instant lo hi =
-      named Stays c instant _ same (λ k. settles Stays Timeline c (plan c.timeline k lo hi purpose) _ same
-      (λ job _. settles Stays Timeline c (commit c.timeline job) _ same (λ n is. committed job n is)))
+      named Stays c instant _ same (λ k. settles Stays Core c (core.join k lo hi purpose c) _ same
+      (λ n is. through (passed Timeline (plan c.timeline k lo hi purpose)) _ n is (λ job _ is. joined job n is)))
 
-  planned : (job : Job) → IsRunSoFar schema es ess (with_job job c)
-  planned job = record { schema_is = h.schema_is; stream_is = h.stream_is; are_cuts = h.are_cuts; pins = h.pins }
+  planned : (k : ℤ) (lo hi : ℕ) (purpose : Purpose) (n : ℕ × CoreState) → core.plan k lo hi purpose c ≡ Ok n → IsRunSoFar schema es ess n.1
+  planned k lo hi purpose n is =
+      unnested n.1 (core_follows (PlanStep k lo hi purpose) (λ (a : ℕ × CoreState). (JobGiven a.0, a.1)) (core.plan k lo hi purpose c) n (taken-run schema es ess c (PlanStep k lo hi purpose) least h) is)
 
   plans : (purpose : Purpose) (instant : List ℕ) (lo hi : ℕ) → Stays (settled c (plan_ranges purpose instant lo hi c))
-  plans purpose instant lo hi = named Stays c instant _ same (λ k. settles Stays Timeline c (plan c.timeline k lo hi purpose) _ same (λ job _. planned job))
+  plans purpose instant lo hi = named Stays c instant _ same (λ k. settles Stays Core c (core.plan k lo hi purpose c) _ same (λ n is. planned k lo hi purpose n is))
+
+  committed : (number : ℕ) (n : ℕ × CoreState) → core.commit number c ≡ Ok n → IsRunSoFar schema es ess n.1
+  committed number n is =
+      unnested n.1 (core_follows (CommitStep number) (λ (a : ℕ × CoreState). (Committed a.0, a.1)) (core.commit number c) n (taken-run schema es ess c (CommitStep number) least h) is)
 
   commits : (number : ℕ) → Stays (settled c (commit_job number c))
-  commits number =
-      settles Stays Command c (or_bad_command (slice_get c.jobs number)) _ same (λ job _. settles Stays Timeline c (commit c.timeline job) _ same (λ n is. committed job n is))
+  commits number = settles Stays Core c (core.commit number c) _ same (λ n is. committed number n is)
 
   asks_now : (text : List ℕ) → Stays (settled c (ask_now text c))
   asks_now text =
@@ -161,7 +162,7 @@ module _ (schema : Schema) (es : List Event) (ess : List (List Event)) (c : Core
 
   asks_at : (number : ℕ) (text : List ℕ) → Stays (settled c (ask_at number text c))
   asks_at number text =
-      settles Stays Command c (or_bad_command (slice_get c.pins number)) _ same (λ p _. settles Stays BadQuery c (query_of c.timeline.schema text) _ same
+      settles Stays Core c (core.given (slice_get c.pins number)) _ same (λ p _. settles Stays BadQuery c (query_of c.timeline.schema text) _ same
       (λ q _. settles Stays Answer c (answer q (rows_of p)) _ same (λ a _. h)))
 
   audits : (text : List ℕ) → Stays (settled c (audit_now text c))
@@ -176,15 +177,11 @@ module _ (schema : Schema) (es : List Event) (ess : List (List Event)) (c : Core
   adds_none r e =
       stays schema es ess c (cond (begins (codes "accepted ") (told e)) (event_read r) []) (cond (begins (codes "pin ") (told e)) [] []) (ap (λ b. cond b (event_read r) []) (not_accepted e)) (ap (λ b. cond b [] []) (not_pinned e)) h
 
-  accepts : (e : Event) (n : ℕ × State) (full : Bool) → cond {A = Result (ℕ × State) TimelineError} full (Err StreamFull) (Ok (length c.timeline.stream, accepted c.timeline e)) ≡ Ok n
-      → IsRunSoFar schema (es ++ e ∷ []) (ess ++ []) (with_timeline n.1 c)
-  accepts e n true is = cc
-  accepts e n false is =
-      let after : (length c.timeline.stream, accepted c.timeline e) ≡ n = cc in
-      subst (λ (n : ℕ × State). IsRunSoFar schema (es ++ e ∷ []) (ess ++ []) (with_timeline n.1 c)) after (accept-run schema es ess c e least h)
+  accepts : (e : Event) (n : ℕ × CoreState) → core.accept e c ≡ Ok n → IsRunSoFar schema (es ++ e ∷ []) (ess ++ []) n.1
+  accepts e n is = core_follows (AcceptStep e) (λ (a : ℕ × CoreState). (Accepted a.0, a.1)) (core.accept e c) n (taken-run schema es ess c (AcceptStep e) least h) is
 
   adds_read : (r : Result Event Unparseable) → Adds r (settled c (add_read r c))
-  adds_read (Ok e) = settles (Adds (Ok e)) Timeline c (accept c.timeline e) _ (adds_none (Ok e)) (λ n is. accepts e n _ is)
+  adds_read (Ok e) = settles (Adds (Ok e)) Core c (core.accept e c) _ (adds_none (Ok e)) (λ n is. accepts e n is)
   adds_read (Err e) = recut schema es ess c (noted NotParsed c.timeline) refl refl h.are_cuts h
 
   adds : (text : List ℕ) → Follows schema es ess (Ok (Add text)) (settled c (add_event text c))
@@ -215,12 +212,12 @@ module _ (schema : Schema) (es : List Event) (ess : List (List Event)) (c : Core
       → IsRaw schema text (Some on) (settled c (passed BadQuery (query_of c.timeline.schema text) >>= (λ q. passed Answer (answer q (rows_of p)) >>= (λ a. Ok (answered a, c))))).0
   pin_answers text on p pin = λ q read matches.
       let read_here : query_of c.timeline.schema text ≡ Ok q = ap (λ (sc : Schema). query_of sc text) h.schema_is ∙ read in
-      inl (ap (λ (r : Result QueryRead QueryError). (settled c (passed BadQuery r >>= (λ q. passed Answer (answer q (rows_of p)) >>= (λ a. Ok (answered a, c))))).0) read_here
+      inl (ap (λ (r : Result Asked QueryError). (settled c (passed BadQuery r >>= (λ q. passed Answer (answer q (rows_of p)) >>= (λ a. Ok (answered a, c))))).0) read_here
       ∙ told_is (answer q (rows_of p)) ∙ ap told_answer (pin-raw schema on p q pin (query_of-made schema text q read) matches))
 
   at_answers : (ons : List (List Event)) (ps : List Pinned) (n : ℕ) (text : List ℕ) → ArePins schema ons ps
       → IsRaw schema text (slice_get ons n)
-      (settled c (passed Command (or_bad_command (slice_get ps n)) >>= (λ p. passed BadQuery (query_of c.timeline.schema text) >>= (λ q. passed Answer (answer q (rows_of p)) >>= (λ a. Ok (answered a, c)))))).0
+      (settled c (passed Core (core.given (slice_get ps n)) >>= (λ p. passed BadQuery (query_of c.timeline.schema text) >>= (λ q. passed Answer (answer q (rows_of p)) >>= (λ a. Ok (answered a, c)))))).0
   at_answers [] [] n text are = inl refl
   at_answers [] (p ∷ ps) n text are = absurd are
   at_answers (on ∷ ons) [] n text are = absurd are

@@ -1,5 +1,5 @@
 -- What each command of a script does: what is written for it, and the state after it, or its refusal, which changes nothing.
-use Rattle.std.specs.Prelude.{ℕ, ℤ, Bool, true, false, List, ◌++◌, length, Option, None, Result, Ok, Err, codes, decimal, slice_get}
+use Rattle.std.specs.Prelude.{ℕ, ℤ, Bool, true, false, List, ◌++◌, Option, None, Result, Ok, Err, codes, decimal, slice_get}
 use Rattle.dr_base.specs.FaultLine.{fault_line, arg_part}
 use Rattle.dr_base.specs.Reading.{◌>>=◌, passed}
 use Rattle.dr_base.specs.declared.fault.Arg.{Arg}
@@ -9,28 +9,28 @@ use Rattle.dr_base.specs.declared.event.Event.{Event}
 use Rattle.dr_events.specs.declared.unparseable.Unparseable.{Unparseable}
 use Rattle.dr_events.specs.Refusal as event
 use Rattle.dr_events.specs.EventOf.{event_of}
-use Rattle.dr_query.specs.Answer.{answer}
-use Rattle.dr_query.specs.AnswerRefusal as no_answer
-use Rattle.dr_query.specs.QueryOf.{query_of}
-use Rattle.dr_query.specs.Refusal as query
+use Rattle.dr_answers.specs.Answer.{answer}
+use Rattle.dr_answers.specs.AnswerRefusal as no_answer
+use Rattle.dr_ask.specs.QueryOf.{query_of}
+use Rattle.dr_ask.specs.Refusal as query
 use Rattle.dr_timeline.specs.declared.outcome.Outcome.TheVariants.{Unparseable as NotParsed}
 use Rattle.dr_timeline.specs.declared.stats.Stats.{Stats}
-use Rattle.dr_timeline.specs.Noted.{noted, stats}
+use Rattle.dr_timeline.specs.Noted.{stats}
 use Rattle.dr_merge.specs.declared.purpose.Purpose.{Purpose}
 use Rattle.dr_merge.specs.declared.purpose.Purpose.TheVariants.{Merge}
-use Rattle.dr_timeline.specs.Refusal as timeline
 use Rattle.dr_cuts.specs.RawAnswer.{raw_answer}
-use Rattle.dr_timeline.specs.CoreState.{CoreState, with_timeline, with_job, with_pin}
+use Rattle.dr_timeline.specs.CoreState.{CoreState}
 use Rattle.dr_cuts.specs.Segments.{pinned, rows_of}
-use Rattle.dr_timeline.specs.Stepping.{accept, seal, plan, commit}
+use Rattle.dr_core.specs.Refusal as core_refusal
+use Rattle.dr_core.specs.Steps as core
 use Rattle.dr_requests.specs.declared.command_error.CommandError.{CommandError}
 use Rattle.dr_requests.specs.declared.request.Request.{Request}
 use Rattle.dr_requests.specs.declared.request.Request.TheVariants as line
 use Rattle.dr_script.specs.declared.script_error.ScriptError.{ScriptError}
-use Rattle.dr_script.specs.declared.script_error.ScriptError.TheVariants.{Command, Time, Timeline, Query as BadQuery, Answer}
+use Rattle.dr_script.specs.declared.script_error.ScriptError.TheVariants.{Command, Time, Core, Query as BadQuery, Answer}
 use Rattle.dr_requests.specs.Refusal.{number_of, name_of}
 use Rattle.dr_requests.specs.Refusal as command
-use Rattle.dr_requests.specs.Request.{or_bad_command, instant_in}
+use Rattle.dr_requests.specs.Request.{instant_in}
 
 -- what is written for a line, and whether it refuses the line
 pub record Answered : Type 0 where
@@ -61,7 +61,7 @@ unparseable e = answered (unparseable_line (event.number_of e) (event.name_of e)
 abbrev pub told : ScriptError → Answered
 told (Command e) = refused_by e
 told (Time e) = refused (time.number_of e) (time.name_of e) None
-told (Timeline e) = refused (timeline.number_of e) (timeline.name_of e) None
+told (Core e) = refused (core_refusal.number_of e) (core_refusal.name_of e) None
 told (BadQuery e) = refused (query.number_of e) (query.name_of e) (query.arg_of e)
 told (Answer e) = refused (no_answer.number_of e) (no_answer.name_of e) None
 
@@ -69,7 +69,7 @@ told (Answer e) = refused (no_answer.number_of e) (no_answer.name_of e) None
 abbrev pub is_memory : ScriptError → Bool
 is_memory (Command e) = command.is_memory e
 is_memory (Time e) = false
-is_memory (Timeline e) = timeline.is_memory e
+is_memory (Core e) = core_refusal.is_memory e
 is_memory (BadQuery e) = query.is_memory e
 is_memory (Answer e) = no_answer.is_memory e
 
@@ -78,9 +78,9 @@ is_memory (Answer e) = no_answer.is_memory e
 -- an event is accepted; a text that is none is counted
 abbrev pub add_read : Result Event Unparseable → CoreState → Result (Answered × CoreState) ScriptError
 add_read (Ok e) c = do
-  n ← passed Timeline (accept c.timeline e)
-  Ok (answered (codes "accepted " ++ decimal n.0), with_timeline n.1 c)
-add_read (Err e) c = Ok (unparseable e, with_timeline (noted NotParsed c.timeline) c)
+  n ← passed Core (core.accept e c)
+  Ok (answered (codes "accepted " ++ decimal n.0), n.1)
+add_read (Err e) c = Ok (unparseable e, core.note NotParsed c)
 
 -- `+ EVENT`
 abbrev pub add_event : List ℕ → CoreState → Result (Answered × CoreState) ScriptError
@@ -96,8 +96,8 @@ chunk_named c instant = do
 abbrev pub seal_chunk : List ℕ → CoreState → Result (Answered × CoreState) ScriptError
 seal_chunk instant c = do
   k ← chunk_named c instant
-  s ← passed Timeline (seal c.timeline k)
-  Ok (answered (codes "sealed"), with_timeline s c)
+  s ← passed Core (core.seal k c)
+  Ok (answered (codes "sealed"), s)
 
 -- what is written where ranges became one
 abbrev pub joined_line : Purpose → List ℕ
@@ -107,27 +107,25 @@ joined_line Merge = codes "merged"
 abbrev pub join_ranges : Purpose → List ℕ → ℕ → ℕ → CoreState → Result (Answered × CoreState) ScriptError
 join_ranges purpose instant lo hi c = do
   k ← chunk_named c instant
-  job ← passed Timeline (plan c.timeline k lo hi purpose)
-  n ← passed Timeline (commit c.timeline job)
-  Ok (answered (joined_line purpose), with_timeline n.1 c)
+  n ← passed Core (core.join k lo hi purpose c)
+  Ok (answered (joined_line purpose), n.1)
 
 -- `plan merge INSTANT LO HI`: a job that is kept, numbered from 0
 abbrev pub plan_ranges : Purpose → List ℕ → ℕ → ℕ → CoreState → Result (Answered × CoreState) ScriptError
 plan_ranges purpose instant lo hi c = do
   k ← chunk_named c instant
-  job ← passed Timeline (plan c.timeline k lo hi purpose)
-  Ok (answered (codes "job " ++ decimal (length c.jobs)), with_job job c)
+  n ← passed Core (core.plan k lo hi purpose c)
+  Ok (answered (codes "job " ++ decimal n.0), n.1)
 
 -- `commit N`: the job of that number is committed
 abbrev pub commit_job : ℕ → CoreState → Result (Answered × CoreState) ScriptError
 commit_job number c = do
-  job ← passed Command (or_bad_command (slice_get c.jobs number))
-  n ← passed Timeline (commit c.timeline job)
-  Ok (answered (codes "committed"), with_timeline n.1 c)
+  n ← passed Core (core.commit number c)
+  Ok (answered (codes "committed"), n.1)
 
 -- `pin`: a snapshot that is kept, numbered from 0
 abbrev pub pin_snapshot : CoreState → Result (Answered × CoreState) ScriptError
-pin_snapshot c = Ok (answered (codes "pin " ++ decimal (length c.pins)), with_pin (pinned c.timeline) c)
+pin_snapshot c = Ok (answered (codes "pin " ++ decimal (core.pin c).0), (core.pin c).1)
 
 -- `query JSON`: a query is answered over the rows as they are
 abbrev pub ask_now : List ℕ → CoreState → Result (Answered × CoreState) ScriptError
@@ -139,7 +137,7 @@ ask_now text c = do
 -- `at N JSON`: it is answered over the rows of the snapshot of that number
 abbrev pub ask_at : ℕ → List ℕ → CoreState → Result (Answered × CoreState) ScriptError
 ask_at number text c = do
-  p ← passed Command (or_bad_command (slice_get c.pins number))
+  p ← passed Core (core.given (slice_get c.pins number))
   q ← passed BadQuery (query_of c.timeline.schema text)
   a ← passed Answer (answer q (rows_of p))
   Ok (answered a, c)

@@ -57,7 +57,7 @@ fn told(alloc: Global, error: ScriptError) -> Reply
     match error {
         ScriptError::Command(error) => Reply::Fault(error),
         ScriptError::Time(error) => refused(alloc, error.number(), error.name(), None),
-        ScriptError::Timeline(error) => refused(alloc, error.number(), error.name(), None),
+        ScriptError::Core(error) => refused(alloc, error.number(), error.name(), None),
         ScriptError::Query(error) => refused(alloc, error.number(), error.name(), error.arg()),
         ScriptError::Answer(error) => refused(alloc, error.number(), error.name(), None),
     }

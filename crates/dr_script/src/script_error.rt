@@ -2,22 +2,23 @@ ghost use Rattle.std.specs.Prelude.{◌≡◌};
 ghost use Rattle.dr_requests.specs.declared.command_error.CommandError.TheVariants.{NoMemory};
 ghost use Rattle.dr_script.specs.declared.script_error.ScriptError.TheVariants as error;
 
-use dr_query::{AnswerError, QueryError};
+use dr_answers::AnswerError;
+use dr_ask::QueryError;
+use dr_core::CoreError;
 use dr_requests::CommandError;
 use dr_time::TimeError;
-use dr_timeline::TimelineError;
 use std::alloc::{AllocError, AllocFailed};
 
 /// Why a command of a script changed nothing: the refusal of the layer that refused it.
 #[derive(Debug, Drop)]
 pub enum ScriptError {
-    /// A refusal of this crate: 0 `NoMemory`, or 101 `BadCommand`.
+    /// A refusal of a line: 0 `NoMemory`, or 101 `BadCommand`.
     Command(CommandError),
     /// Why a word is no instant: 10 or 11.
     Time(TimeError),
-    /// A refusal of the timeline: 0, 90 to 93, or 95.
-    Timeline(TimelineError),
-    /// Why a text is no query: 0 to 3, 11 to 13, or 70 to 76.
+    /// A refusal of the core: 0, 90 to 93, 95, or 101 where there is no job or snapshot of a number.
+    Core(CoreError),
+    /// Why a text is no query: 0 to 3, 11 to 13, 22, 60 to 62, or 70 to 77.
     Query(QueryError),
     /// Why a query has no answer: 0, or 81.
     Answer(AnswerError),
@@ -39,11 +40,11 @@ impl From<TimeError> for ScriptError {
     }
 }
 
-impl From<TimelineError> for ScriptError {
-    ghost from_gives = { λ e result. result ≡ error.Timeline e };
+impl From<CoreError> for ScriptError {
+    ghost from_gives = { λ e result. result ≡ error.Core e };
 
-    fn from(error: TimelineError) -> ScriptError {
-        ScriptError::Timeline(error)
+    fn from(error: CoreError) -> ScriptError {
+        ScriptError::Core(error)
     }
 }
 

@@ -1,8 +1,6 @@
 ghost use Rattle.std.specs.Prelude.{◌≡◌, IfOk, OnErr};
 ghost use Rattle.dr_base.specs.Reading.{GivesUnless};
-ghost use Rattle.dr_timeline.specs.Refusal as timeline_refusal;
 ghost use Rattle.dr_timeline.specs.CoreState.{empty_core};
-ghost use Rattle.dr_timeline.specs.Stepping.{commit};
 ghost use Rattle.dr_script.specs.Commands.{add_event, ask_at, ask_now, audit_now, carried_out, chunk_named, commit_job, is_memory, join_ranges, pin_snapshot, plan_ranges, seal_chunk, tell_stats};
 ghost use Rattle.dr_script.specs.Replies.{seen};
 ghost use Rattle.dr_requests.specs.Seen.{seen_request};
@@ -10,36 +8,33 @@ ghost use Rattle.dr_requests.specs.Seen.{seen_request};
 use crate::reply::Reply;
 use crate::script_error::ScriptError;
 use crate::wording::{stats_line, unparseable_line};
+use dr_ask::Query;
+use dr_core::{Core, CoreError};
 use dr_events::{EventReader, Unparseable};
-use dr_merge::{Job, Purpose, work};
-use dr_query::Query;
+use dr_merge::Purpose;
 use dr_requests::{CommandError, Request, instant_in};
 use dr_spec::IngestSpec;
-use dr_timeline::{Outcome, Snapshot, Timeline, TimelineError};
+use dr_timeline::Outcome;
 use std::alloc::{AllocError, Global};
 use std::marker::Model;
 
 /// The seat whose mark the events of a script have.
 const SEAT: u8 = 0;
 
-/// A script that runs: its timeline, and the jobs and the snapshots that it keeps, each named by its number from 0. A
-/// contract sees these.
+/// A script that runs: its core, and what reads its events. A contract sees the core: its timeline, and the jobs and the
+/// snapshots that it keeps, each named by its number from 0.
 #[derive(Drop)]
 pub struct Session {
-    timeline: Timeline,
-    jobs: Vec<Job>,
-    pins: Vec<Snapshot>,
+    core: Core,
     events: EventReader,
 }
 
 impl Model for Session {
-    ghost use Rattle.dr_timeline.specs.CoreState.{CoreState, HaveSchema};
+    ghost use Rattle.dr_timeline.specs.CoreState.{CoreState};
 
     ghost Value = { CoreState };
 
-    ghost view = { λ s. record { timeline = s.timeline; jobs = s.jobs.items; pins = s.pins.items } };
-
-    ghost invariant = { λ s. HaveSchema s.timeline.schema s.pins.items };
+    ghost view = { λ s. s.core };
 }
 
 impl Session {
@@ -48,9 +43,7 @@ impl Session {
         ensures { IfOk result (λ session. session ≡ empty_core spec) }
     {
         Ok(Session {
-            timeline: Timeline::new(alloc, spec)?,
-            jobs: Vec::new(alloc),
-            pins: Vec::new(alloc),
+            core: Core::new(alloc, spec)?,
             events: EventReader::new(alloc),
         })
     }
@@ -83,15 +76,15 @@ impl Session {
         ensures step { GivesUnless is_memory (λ reply. (seen reply, self.new)) result (add_event text.now self.old) }
         ensures err { OnErr result (self.new ≡ self.old) }
     {
-        match self.events.read(alloc, self.timeline.spec(), SEAT, text) {
+        match self.events.read(alloc, self.core.spec(), SEAT, text) {
             Ok(event) => {
-                let number = self.timeline.accept(event)?;
+                let number = self.core.accept(event)?;
                 Ok(Reply::Accepted(number))
             }
             Err(Unparseable::NoMemory) => Err(ScriptError::Command(CommandError::NoMemory)),
             Err(error) => {
                 let line = unparseable_line(alloc, &error)?;
-                self.timeline.note(Outcome::Unparseable);
+                self.core.note(Outcome::Unparseable);
                 Ok(Reply::Said(line))
             }
         }
@@ -102,7 +95,7 @@ impl Session {
         ensures err { OnErr result (self.new ≡ self.old) }
     {
         let chunk = self.chunk_named(instant)?;
-        self.timeline.seal(chunk)?;
+        self.core.seal(chunk)?;
         Ok(Reply::Sealed)
     }
 
@@ -118,10 +111,8 @@ impl Session {
         ensures err { OnErr result (self.new ≡ self.old) }
     {
         let chunk = self.chunk_named(instant)?;
-        let job = self
-            .timeline
-            .plan(chunk, lo as usize, hi as usize, purpose)?;
-        commit(alloc, &mut self.timeline, &job)?;
+        self.core
+            .join(alloc, chunk, lo as usize, hi as usize, purpose)?;
         Ok(Reply::Joined(purpose))
     }
 
@@ -136,11 +127,7 @@ impl Session {
         ensures err { OnErr result (self.new ≡ self.old) }
     {
         let chunk = self.chunk_named(instant)?;
-        let job = self
-            .timeline
-            .plan(chunk, lo as usize, hi as usize, purpose)?;
-        let number = self.jobs.len();
-        self.jobs.push(job)?;
+        let number = self.core.plan(chunk, lo as usize, hi as usize, purpose)?;
         Ok(Reply::Job(number))
     }
 
@@ -148,10 +135,7 @@ impl Session {
         ensures step { GivesUnless is_memory (λ reply. (seen reply, self.new)) result (commit_job number self.old) }
         ensures err { OnErr result (self.new ≡ self.old) }
     {
-        let Some(job) = self.jobs.get(number as usize) else {
-            return Err(ScriptError::Command(CommandError::BadCommand));
-        };
-        commit(alloc, &mut self.timeline, job)?;
+        self.core.commit(alloc, number as usize)?;
         Ok(Reply::Committed)
     }
 
@@ -159,9 +143,7 @@ impl Session {
         ensures step { GivesUnless is_memory (λ reply. (seen reply, self.new)) result (pin_snapshot self.old) }
         ensures err { OnErr result (self.new ≡ self.old) }
     {
-        let snapshot = self.timeline.pin()?;
-        let number = self.pins.len();
-        self.pins.push(snapshot)?;
+        let number = self.core.pin()?;
         Ok(Reply::Pinned(number))
     }
 
@@ -169,18 +151,18 @@ impl Session {
         ensures step { GivesUnless is_memory (λ reply. (seen reply, self.new)) result (ask_now text.now self.old) }
         ensures same { self.new ≡ self.old }
     {
-        let query = Query::parse(alloc, text, self.timeline.spec().schema())?;
-        let snapshot = self.timeline.pin()?;
+        let query = Query::parse(alloc, text, self.core.spec().schema())?;
+        let snapshot = self.core.snapshot_now()?;
         Ok(Reply::Said(snapshot.answer_one(&query)?))
     }
 
     fn at(&self, alloc: Global, number: u64, text: &[u8]) -> Result<Reply, ScriptError>
         ensures { GivesUnless is_memory (λ reply. (seen reply, self.now)) result (ask_at number text.now self.now) }
     {
-        let Some(snapshot) = self.pins.get(number as usize) else {
-            return Err(ScriptError::Command(CommandError::BadCommand));
+        let Some(snapshot) = self.core.snapshot(number as usize) else {
+            return Err(ScriptError::Core(CoreError::NoSuch));
         };
-        let query = Query::parse(alloc, text, self.timeline.spec().schema())?;
+        let query = Query::parse(alloc, text, self.core.spec().schema())?;
         Ok(Reply::Said(snapshot.answer_one(&query)?))
     }
 
@@ -188,15 +170,15 @@ impl Session {
         ensures step { GivesUnless is_memory (λ reply. (seen reply, self.new)) result (audit_now text.now self.old) }
         ensures same { self.new ≡ self.old }
     {
-        let query = Query::parse(alloc, text, self.timeline.spec().schema())?;
-        let snapshot = self.timeline.pin()?;
+        let query = Query::parse(alloc, text, self.core.spec().schema())?;
+        let snapshot = self.core.snapshot_now()?;
         Ok(Reply::Said(snapshot.audit(&query)?))
     }
 
     fn stats(&self, alloc: Global) -> Result<Reply, ScriptError>
         ensures { GivesUnless is_memory (λ reply. (seen reply, self.now)) result (tell_stats self.now) }
     {
-        Ok(Reply::Said(stats_line(alloc, self.timeline.stats())?))
+        Ok(Reply::Said(stats_line(alloc, self.core.stats())?))
     }
 
     // The start of the chunk in which an instant lies, in milliseconds since the epoch.
@@ -204,16 +186,7 @@ impl Session {
         ensures { GivesUnless is_memory (λ start. start) result (chunk_named self.now instant.now) }
     {
         let time = instant_in(instant)?;
-        let schema = self.timeline.spec().schema();
+        let schema = self.core.spec().schema();
         Ok(schema.segment_granularity().truncate(time))
     }
-}
-
-// Works on a job and commits it.
-fn commit(alloc: Global, timeline: &mut Timeline, job: &Job) -> Result<u64, TimelineError>
-    ensures step { GivesUnless timeline_refusal.is_memory (λ version. (version, timeline.new)) result (commit timeline.old job.now) }
-    ensures err { OnErr result (timeline.new ≡ timeline.old) }
-{
-    let fragment = work(alloc, timeline.spec().schema(), job)?;
-    timeline.commit(job, fragment)
 }

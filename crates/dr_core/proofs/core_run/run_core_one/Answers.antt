@@ -11,6 +11,6 @@ pub returns-clause-raw_where_matching : goal.returns-clause-raw_where_matching
 returns-clause-raw_where_matching c =
     let empty = c.in_ok-core.ensures.empty in
     let formed : IsWellFormed c.args.spec = subst (λ (core : CoreState). IsWellFormed core.timeline.schema) empty c.in_ok-core.ensures.well_formed in
-    IfOk-weaker c.take.result (λ replies. RunFrom c.in_ok-core.core c.args.steps.now replies.items c.take.new.self) (λ replies. AnswersAreRaw c.args.spec c.args.steps.now replies.items)
-    (λ replies run. answers-raw c.args.spec c.take.new.self c.args.steps.now replies.items formed c.requires (subst (λ (core : CoreState). RunFrom core c.args.steps.now replies.items c.take.new.self) empty run))
+    IfOk-weaker c.take.result (λ replies. RunFrom c.in_ok-core.core c.args.steps.now replies.items c.take.new.core) (λ replies. AnswersAreRaw c.args.spec c.args.steps.now replies.items)
+    (λ replies run. answers-raw c.args.spec c.take.new.core c.args.steps.now replies.items formed c.requires (subst (λ (core : CoreState). RunFrom core c.args.steps.now replies.items c.take.new.core) empty run))
     c.take.ensures
