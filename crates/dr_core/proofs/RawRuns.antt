@@ -10,10 +10,10 @@ use Rattle.dr_base.specs.declared.row.Row.{Row}
 use Rattle.dr_agg.specs.Rollup.{rollup_onto}
 use Rattle.dr_schema.specs.declared.schema.Schema.{Schema}
 use Rattle.dr_schema.specs.WellFormed.{IsWellFormed}
-use Rattle.dr_query.specs.declared.query.Query.{Query}
-use Rattle.dr_query.specs.Answer.{answer}
-use Rattle.dr_query.specs.Matching.{is_matching}
-use Rattle.dr_query.specs.MadeFor.{MadeFor}
+use Rattle.dr_ask.specs.Asked.{Asked, asked}
+use Rattle.dr_ask.specs.Matching.{is_matching}
+use Rattle.dr_ask.specs.MadeFor.{MadeFor}
+use Rattle.dr_answers.specs.Answer.{answer}
 use Rattle.dr_merge.specs.declared.job.Job.{Job}
 use Rattle.dr_core.specs.declared.core_error.CoreError.TheVariants.{Timeline}
 use Rattle.dr_core.specs.declared.step.Step.{Step}
@@ -200,9 +200,9 @@ taken-run schema es ess old (Commit n) least h =
     told-with (Follows schema es ess (Commit n)) (λ (a : ℕ × CoreState). (Committed a.0, a.1)) (λ job. commit_job job old) old (slice_get old.jobs n) (as-before schema es ess old h) (λ job. commit-run schema es ess old n job h)
 taken-run schema es ess old Pin least h = pin-run schema es ess old h
 taken-run schema es ess old (Ask n q) least h =
-    told-given (Follows schema es ess (Ask n q)) (λ p. (reply_to (answer q (rows_of p)), old)) old (slice_get old.pins n) (as-before schema es ess old h) (λ p. as-before schema es ess old h)
+    told-given (Follows schema es ess (Ask n q)) (λ p. (reply_to (answer (asked q) (rows_of p)), old)) old (slice_get old.pins n) (as-before schema es ess old h) (λ p. as-before schema es ess old h)
 taken-run schema es ess old (Audit n q) least h =
-    told-given (Follows schema es ess (Audit n q)) (λ p. (reply_to (raw_answer p.schema q p.stream), old)) old (slice_get old.pins n) (as-before schema es ess old h) (λ p. as-before schema es ess old h)
+    told-given (Follows schema es ess (Audit n q)) (λ p. (reply_to (raw_answer p.schema (asked q) p.stream), old)) old (slice_get old.pins n) (as-before schema es ess old h) (λ p. as-before schema es ess old h)
 
 pub moves-run : (schema : Schema) (es : List Event) (ess : List (List Event)) (old new : CoreState) (s : Step) (r : Reply) → 1 ≤ schema.limits.max_rows_in_memory → Moves old s r new → IsRunSoFar schema es ess old → IsRunSoFar schema (es ++ accepted_by s r) (ess ++ pinned_by es s r) new
 moves-run schema es ess old new s r least (inl h) g = coe 0 1 (i. Follows schema es ess s ((sym h.0) i, (sym h.1) i)) (taken-run schema es ess old s least g)
@@ -211,19 +211,19 @@ moves-run schema es ess old new s r least (inr h) g = coe 0 1 (i. Follows schema
 -- ---- the answers
 
 -- the answer on a snapshot
-pub pin-raw : (schema : Schema) (es : List Event) (p : Pinned) (q : Query) → IsPin schema es p → MadeFor schema q → is_matching q ≡ true → answer q (rows_of p) ≡ raw_answer schema q es
+pub pin-raw : (schema : Schema) (es : List Event) (p : Pinned) (q : Asked) → IsPin schema es p → MadeFor schema q → is_matching q ≡ true → answer q (rows_of p) ≡ raw_answer schema q es
 pin-raw schema es p q pin made matches =
     ap (answer q) (λ i. rows_over (pin.schema_is i) (pin.stream_is i) (pin.ranges_are i)) ∙ answer-cut_rows schema q es pin.cuts pin.are_cuts made matches
 
-asked : (schema : Schema) (ess : List (List Event)) (ps : List Pinned) (n : ℕ) (q : Query) (c : CoreState) → ArePins schema ess ps → MadeFor schema q → is_matching q ≡ true
+ask-raw : (schema : Schema) (ess : List (List Event)) (ps : List Pinned) (n : ℕ) (q : Asked) (c : CoreState) → ArePins schema ess ps → MadeFor schema q → is_matching q ≡ true
     → IsRaw schema q (slice_get ess n) (told (λ p. (reply_to (answer q (rows_of p)), c)) c (given (slice_get ps n))).0
-asked schema [] [] n q c pins made matches = inl refl
-asked schema [] (p ∷ ps) n q c pins made matches = absurd pins
-asked schema (es ∷ ess) [] n q c pins made matches = absurd pins
-asked schema (es ∷ ess) (p ∷ ps) zero q c pins made matches = inl (ap reply_to (pin-raw schema es p q pins.0 made matches))
-asked schema (es ∷ ess) (p ∷ ps) (suc n) q c pins made matches = asked schema ess ps n q c pins.1 made matches
+ask-raw schema [] [] n q c pins made matches = inl refl
+ask-raw schema [] (p ∷ ps) n q c pins made matches = absurd pins
+ask-raw schema (es ∷ ess) [] n q c pins made matches = absurd pins
+ask-raw schema (es ∷ ess) (p ∷ ps) zero q c pins made matches = inl (ap reply_to (pin-raw schema es p q pins.0 made matches))
+ask-raw schema (es ∷ ess) (p ∷ ps) (suc n) q c pins made matches = ask-raw schema ess ps n q c pins.1 made matches
 
-no-memory : (schema : Schema) (q : Query) (o : Option (List Event)) (r : Reply) → r ≡ Refused 0 → IsRaw schema q o r
+no-memory : (schema : Schema) (q : Asked) (o : Option (List Event)) (r : Reply) → r ≡ Refused 0 → IsRaw schema q o r
 no-memory schema q None r is = inr is
 no-memory schema q (Some es) r is = inr is
 
@@ -233,8 +233,8 @@ step-raw schema es ess old new (Seal k) r fits h g = tt
 step-raw schema es ess old new (Plan k lo hi purpose) r fits h g = tt
 step-raw schema es ess old new (Commit n) r fits h g = tt
 step-raw schema es ess old new Pin r fits h g = tt
-step-raw schema es ess old new (Ask n q) r fits (inl h) g = λ matches. subst (IsRaw schema q (slice_get ess n)) (sym h.0) (asked schema ess old.pins n q old g.pins fits matches)
-step-raw schema es ess old new (Ask n q) r fits (inr h) g = λ matches. no-memory schema q (slice_get ess n) r h.0
+step-raw schema es ess old new (Ask n q) r fits (inl h) g = λ matches. subst (IsRaw schema (asked q) (slice_get ess n)) (sym h.0) (ask-raw schema ess old.pins n (asked q) old g.pins fits matches)
+step-raw schema es ess old new (Ask n q) r fits (inr h) g = λ matches. no-memory schema (asked q) (slice_get ess n) r h.0
 step-raw schema es ess old new (Audit n q) r fits h g = tt
 
 pub run-raw : (schema : Schema) (es : List Event) (ess : List (List Event)) (old new : CoreState) (ss : List Step) (rs : List Reply) → 1 ≤ schema.limits.max_rows_in_memory → AllByRecursion (FitsStep schema) ss → RunFrom old ss rs new → IsRunSoFar schema es ess old → AnswersFrom schema es ess ss rs

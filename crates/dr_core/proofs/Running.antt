@@ -3,7 +3,8 @@ use Rattle.std.proofs.Common.{◌≡◌, ◌∙◌, refl, ap, subst, inl, inr, �
 use Rattle.std.specs.Prelude.{Result, Ok, Err, Option, nat_le}
 use Rattle.dr_base.specs.Reading.{◌>>=◌, passed}
 use Rattle.dr_base.specs.declared.event.Event.{Event}
-use Rattle.dr_query.specs.Answer.{answer}
+use Rattle.dr_ask.specs.Asked.{asked}
+use Rattle.dr_answers.specs.Answer.{answer}
 use Rattle.dr_core.specs.declared.core_error.CoreError.{CoreError}
 use Rattle.dr_core.specs.declared.core_error.CoreError.TheVariants.{Timeline}
 use Rattle.dr_core.specs.declared.step.Step.{Step}
@@ -81,8 +82,8 @@ taken-schema old (Plan k lo hi purpose) = told-unless (KeepsSchema old) (λ (a :
 taken-schema old (Commit n) =
     told-with (KeepsSchema old) (λ (a : ℕ × CoreState). (Committed a.0, a.1)) (λ job. commit_job job old) old (slice_get old.jobs n) refl (λ job. commit-schema old job (place_of old.timeline job))
 taken-schema old Pin = refl
-taken-schema old (Ask n q) = told-given (KeepsSchema old) (λ p. (reply_to (answer q (rows_of p)), old)) old (slice_get old.pins n) refl (λ p. refl)
-taken-schema old (Audit n q) = told-given (KeepsSchema old) (λ p. (reply_to (raw_answer p.schema q p.stream), old)) old (slice_get old.pins n) refl (λ p. refl)
+taken-schema old (Ask n q) = told-given (KeepsSchema old) (λ p. (reply_to (answer (asked q) (rows_of p)), old)) old (slice_get old.pins n) refl (λ p. refl)
+taken-schema old (Audit n q) = told-given (KeepsSchema old) (λ p. (reply_to (raw_answer p.schema (asked q) p.stream), old)) old (slice_get old.pins n) refl (λ p. refl)
 
 pub moves-schema : (old new : CoreState) (s : Step) (r : Reply) → Moves old s r new → new.timeline.schema ≡ old.timeline.schema
 moves-schema old new s r (inl h) = ap (λ (c : CoreState). c.timeline.schema) h.1 ∙ taken-schema old s

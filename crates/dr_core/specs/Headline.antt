@@ -2,8 +2,8 @@
 use Rattle.std.specs.Prelude.{◌≡◌, ◌⊎◌, true, List, [], ◌∷◌, ◌++◌, Option, Some, None, slice_get}
 use Rattle.dr_base.specs.declared.event.Event.{Event}
 use Rattle.dr_schema.specs.declared.schema.Schema.{Schema}
-use Rattle.dr_query.specs.declared.query.Query.{Query}
-use Rattle.dr_query.specs.Matching.{is_matching}
+use Rattle.dr_ask.specs.Asked.{Asked, asked}
+use Rattle.dr_ask.specs.Matching.{is_matching}
 use Rattle.dr_core.specs.declared.step.Step.{Step}
 use Rattle.dr_core.specs.declared.step.Step.TheVariants.{Accept, Pin, Ask}
 use Rattle.dr_core.specs.declared.reply.Reply.{Reply}
@@ -22,13 +22,13 @@ pinned_by es Pin (Pinned n) = es ∷ []
 pinned_by es step reply = []
 
 -- the reply to a matching query on a snapshot of these events: the raw answer, or that memory ran out
-abbrev pub IsRaw : Schema → Query → Option (List Event) → Reply → Type 0
+abbrev pub IsRaw : Schema → Asked → Option (List Event) → Reply → Type 0
 IsRaw schema q None reply = (reply ≡ NoSuch) ⊎ (reply ≡ Refused 0)
 IsRaw schema q (Some es) reply = (reply ≡ reply_to (raw_answer schema q es)) ⊎ (reply ≡ Refused 0)
 
 -- a step that asks a matching query is answered so
 abbrev pub AnswersRaw : Schema → List (List Event) → Step → Reply → Type 0
-AnswersRaw schema pins (Ask n q) reply = is_matching q ≡ true → IsRaw schema q (slice_get pins n) reply
+AnswersRaw schema pins (Ask n q) reply = is_matching (asked q) ≡ true → IsRaw schema (asked q) (slice_get pins n) reply
 AnswersRaw schema pins step reply = Unit {0}
 
 -- steps in turn, where these events were accepted before, and these are the events of each snapshot so far

@@ -2,10 +2,11 @@
 use Rattle.std.specs.Prelude.{◌≡◌, ◌⊎◌, ℕ, List, [], ◌∷◌, Result, Ok, Err, slice_get}
 use Rattle.dr_schema.specs.Fits.{FitsSchema}
 use Rattle.dr_schema.specs.declared.schema.Schema.{Schema}
-use Rattle.dr_query.specs.declared.answer_error.AnswerError.{AnswerError}
-use Rattle.dr_query.specs.Answer.{answer}
-use Rattle.dr_query.specs.AnswerRefusal as no_answer
-use Rattle.dr_query.specs.MadeFor.{MadeFor}
+use Rattle.dr_answers.specs.declared.answer_error.AnswerError.{AnswerError}
+use Rattle.dr_answers.specs.Answer.{answer}
+use Rattle.dr_answers.specs.AnswerRefusal as no_answer
+use Rattle.dr_ask.specs.Asked.{asked}
+use Rattle.dr_ask.specs.MadeFor.{MadeFor}
 use Rattle.dr_core.specs.declared.step.Step.{Step}
 use Rattle.dr_core.specs.declared.step.Step.TheVariants.{Accept, Seal, Plan, Commit, Pin, Ask, Audit}
 use Rattle.dr_core.specs.declared.reply.Reply.{Reply}
@@ -26,8 +27,8 @@ FitsStep schema (Seal k) = Unit {0}
 FitsStep schema (Plan k lo hi purpose) = Unit {0}
 FitsStep schema (Commit n) = Unit {0}
 FitsStep schema Pin = Unit {0}
-FitsStep schema (Ask n q) = MadeFor schema q
-FitsStep schema (Audit n q) = MadeFor schema q
+FitsStep schema (Ask n q) = MadeFor schema (asked q)
+FitsStep schema (Audit n q) = MadeFor schema (asked q)
 
 -- the reply that an answer makes
 abbrev pub reply_to : Result (List ℕ) AnswerError → Reply
@@ -52,8 +53,8 @@ taken old (Seal k) = told (λ new. (Sealed, new)) old (seal k old)
 taken old (Plan k lo hi purpose) = told (λ a. (JobGiven a.0, a.1)) old (plan k lo hi purpose old)
 taken old (Commit n) = told (λ a. (Committed a.0, a.1)) old (commit n old)
 taken old Pin = (PinGiven (pin old).0, (pin old).1)
-taken old (Ask n q) = told (λ p. (reply_to (answer q (rows_of p)), old)) old (given (slice_get old.pins n))
-taken old (Audit n q) = told (λ p. (reply_to (raw_answer p.schema q p.stream), old)) old (given (slice_get old.pins n))
+taken old (Ask n q) = told (λ p. (reply_to (answer (asked q) (rows_of p)), old)) old (given (slice_get old.pins n))
+taken old (Audit n q) = told (λ p. (reply_to (raw_answer p.schema (asked q) p.stream), old)) old (given (slice_get old.pins n))
 
 -- the reply and the state after it are these
 abbrev pub Becomes : Reply → CoreState → Reply × CoreState → Type 0

@@ -4,8 +4,9 @@ ghost use Rattle.dr_core.specs.Headline.{AnswersAreRaw};
 ghost use Rattle.dr_core.specs.Run.{FitsStep, Moves, Run, RunFrom, reply_for};
 ghost use Rattle.dr_core.specs.declared.reply.Reply.TheVariants.{Answer, Refused};
 ghost use Rattle.dr_core.specs.declared.step.Step.TheVariants.{Accept, Seal, Plan, Commit, Pin, Ask, Audit};
-ghost use Rattle.dr_query.specs.AnswerRefusal as no_answer;
-ghost use Rattle.dr_query.specs.MadeFor.{MadeFor};
+ghost use Rattle.dr_answers.specs.AnswerRefusal as no_answer;
+ghost use Rattle.dr_ask.specs.Asked.{asked};
+ghost use Rattle.dr_ask.specs.MadeFor.{MadeFor};
 ghost use Rattle.dr_schema.specs.Fits.{FitsSchema};
 
 use crate::bytes::Bytes;
@@ -13,9 +14,10 @@ use crate::core_error::CoreError;
 use crate::reply::Reply;
 use crate::step::Step;
 use crate::timeline_core::Core;
+use dr_answers::AnswerError;
+use dr_ask::Query;
 use dr_base::Event;
 use dr_merge::Purpose;
-use dr_query::{AnswerError, Query};
 use dr_spec::IngestSpec;
 use std::alloc::{AllocError, Global};
 
@@ -115,7 +117,7 @@ fn pin(core: &mut Core) -> Reply
 }
 
 fn ask(core: &Core, number: usize, query: &Query) -> Reply
-    requires { MadeFor core.now.timeline.schema query.now }
+    requires { MadeFor core.now.timeline.schema (asked query.now) }
     ensures { Moves core.now (Ask number query.now) result core.now }
 {
     match core.snapshot(number) {
@@ -125,7 +127,7 @@ fn ask(core: &Core, number: usize, query: &Query) -> Reply
 }
 
 fn audit(core: &Core, number: usize, query: &Query) -> Reply
-    requires { MadeFor core.now.timeline.schema query.now }
+    requires { MadeFor core.now.timeline.schema (asked query.now) }
     ensures { Moves core.now (Audit number query.now) result core.now }
 {
     match core.snapshot(number) {

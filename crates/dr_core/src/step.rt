@@ -1,6 +1,6 @@
+use dr_ask::Query;
 use dr_base::Event;
 use dr_merge::Purpose;
-use dr_query::Query;
 
 /// A step of a run of the core. Jobs and pins are named by their numbers, from 0, in the order in which they were given.
 #[derive(Drop)]

@@ -12,11 +12,11 @@ use Rattle.dr_spec.specs.declared.spec_error.SpecError.{SpecError}
 use Rattle.dr_spec.specs.SpecOf.{spec_of}
 use Rattle.dr_spec.proofs.WellFormedSchemas.{IsWellFormed-spec_of}
 use Rattle.dr_events.specs.EventOf.{event_of}
-use Rattle.dr_query.specs.declared.answer_error.AnswerError.{AnswerError}
-use Rattle.dr_query.specs.declared.query.Query.{Query as QueryRead}
-use Rattle.dr_query.specs.declared.query_error.QueryError.{QueryError}
-use Rattle.dr_query.specs.Answer.{answer}
-use Rattle.dr_query.specs.QueryOf.{query_of}
+use Rattle.dr_answers.specs.declared.answer_error.AnswerError.{AnswerError}
+use Rattle.dr_ask.specs.Asked.{Asked}
+use Rattle.dr_ask.specs.declared.query_error.QueryError.{QueryError}
+use Rattle.dr_answers.specs.Answer.{answer}
+use Rattle.dr_ask.specs.QueryOf.{query_of}
 use Rattle.dr_merge.specs.declared.job.Job.{Job}
 use Rattle.dr_merge.specs.declared.purpose.Purpose.{Purpose}
 use Rattle.dr_cuts.specs.Chunks.{values_onto}
@@ -48,7 +48,7 @@ use Rattle.dr_script.specs.declared.script_error.ScriptError.TheVariants.{Comman
 use Rattle.dr_script.specs.Commands.{Answered, add_event, add_read, answered, ask_at, ask_now, audit_now, carried_out, chunk_named, commit_job, join_ranges, plan_ranges, refused_by, seal_chunk, tell_stats, told}
 use Rattle.dr_script.specs.Headline.{AnswersRaw, AnswersAreRaw, RawScript, IsRaw, RawFrom, accepted_for, asked_by, begins, event_asked, event_read, pin_asked, pinned_for, told_answer}
 use Rattle.dr_script.specs.Script.{GoesOn, Moves, Script, ScriptAfter, ScriptFrom, opened_by, settled, step}
-use Rattle.dr_script.proofs.MadeQueries.{query_of-made, through}
+use Rattle.dr_ask.proofs.MadeQueries.{query_of-made, through}
 
 -- ---- what is written begins otherwise
 
@@ -212,7 +212,7 @@ module _ (schema : Schema) (es : List Event) (ess : List (List Event)) (c : Core
       → IsRaw schema text (Some on) (settled c (passed BadQuery (query_of c.timeline.schema text) >>= (λ q. passed Answer (answer q (rows_of p)) >>= (λ a. Ok (answered a, c))))).0
   pin_answers text on p pin = λ q read matches.
       let read_here : query_of c.timeline.schema text ≡ Ok q = ap (λ (sc : Schema). query_of sc text) h.schema_is ∙ read in
-      inl (ap (λ (r : Result QueryRead QueryError). (settled c (passed BadQuery r >>= (λ q. passed Answer (answer q (rows_of p)) >>= (λ a. Ok (answered a, c))))).0) read_here
+      inl (ap (λ (r : Result Asked QueryError). (settled c (passed BadQuery r >>= (λ q. passed Answer (answer q (rows_of p)) >>= (λ a. Ok (answered a, c))))).0) read_here
       ∙ told_is (answer q (rows_of p)) ∙ ap told_answer (pin-raw schema on p q pin (query_of-made schema text q read) matches))
 
   at_answers : (ons : List (List Event)) (ps : List Pinned) (n : ℕ) (text : List ℕ) → ArePins schema ons ps

@@ -9,10 +9,10 @@ use Rattle.dr_base.specs.declared.event.Event.{Event}
 use Rattle.dr_events.specs.declared.unparseable.Unparseable.{Unparseable}
 use Rattle.dr_events.specs.Refusal as event
 use Rattle.dr_events.specs.EventOf.{event_of}
-use Rattle.dr_query.specs.Answer.{answer}
-use Rattle.dr_query.specs.AnswerRefusal as no_answer
-use Rattle.dr_query.specs.QueryOf.{query_of}
-use Rattle.dr_query.specs.Refusal as query
+use Rattle.dr_answers.specs.Answer.{answer}
+use Rattle.dr_answers.specs.AnswerRefusal as no_answer
+use Rattle.dr_ask.specs.QueryOf.{query_of}
+use Rattle.dr_ask.specs.Refusal as query
 use Rattle.dr_timeline.specs.declared.outcome.Outcome.TheVariants.{Unparseable as NotParsed}
 use Rattle.dr_timeline.specs.declared.stats.Stats.{Stats}
 use Rattle.dr_timeline.specs.Noted.{stats}

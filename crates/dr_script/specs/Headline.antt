@@ -5,11 +5,11 @@ use Rattle.dr_schema.specs.declared.schema.Schema.{Schema}
 use Rattle.dr_spec.specs.SpecOf.{spec_of}
 use Rattle.dr_events.specs.declared.unparseable.Unparseable.{Unparseable}
 use Rattle.dr_events.specs.EventOf.{event_of}
-use Rattle.dr_query.specs.declared.answer_error.AnswerError.{AnswerError}
-use Rattle.dr_query.specs.AnswerRefusal as no_answer
-use Rattle.dr_query.specs.declared.query.Query.{Query as QueryRead}
-use Rattle.dr_query.specs.Matching.{is_matching}
-use Rattle.dr_query.specs.QueryOf.{query_of}
+use Rattle.dr_answers.specs.declared.answer_error.AnswerError.{AnswerError}
+use Rattle.dr_answers.specs.AnswerRefusal as no_answer
+use Rattle.dr_ask.specs.Asked.{Asked}
+use Rattle.dr_ask.specs.Matching.{is_matching}
+use Rattle.dr_ask.specs.QueryOf.{query_of}
 use Rattle.dr_cuts.specs.RawAnswer.{raw_answer}
 use Rattle.dr_lines.specs.Lines.{longest_line}
 use Rattle.dr_lines.specs.declared.line_error.LineError.TheVariants.{LineTooLong}
@@ -59,7 +59,7 @@ told_answer (Err e) = refused (no_answer.number_of e) (no_answer.name_of e) None
 -- what is written for a matching query over these events: the raw answer, or that memory ran out; without a snapshot 101
 abbrev pub IsRaw : Schema → List ℕ → Option (List Event) → Answered → Type 0
 IsRaw schema text None a = (a ≡ refused_by BadCommand) ⊎ (a ≡ refused_by NoMemory)
-IsRaw schema text (Some es) a = (q : QueryRead) → query_of schema text ≡ Ok q → is_matching q ≡ true → (a ≡ told_answer (raw_answer schema q es)) ⊎ (a ≡ refused_by NoMemory)
+IsRaw schema text (Some es) a = (q : Asked) → query_of schema text ≡ Ok q → is_matching q ≡ true → (a ≡ told_answer (raw_answer schema q es)) ⊎ (a ≡ refused_by NoMemory)
 
 -- a line that asks a query, of the rows as they are or of a snapshot, is answered so
 abbrev pub AnswersRaw : Schema → List Event → List (List Event) → Result (Request (List ℕ)) CommandError → Answered → Type 0

@@ -2,8 +2,9 @@ ghost use Rattle.std.specs.Prelude.{◌≡◌};
 ghost use Rattle.dr_requests.specs.declared.command_error.CommandError.TheVariants.{NoMemory};
 ghost use Rattle.dr_script.specs.declared.script_error.ScriptError.TheVariants as error;
 
+use dr_answers::AnswerError;
+use dr_ask::QueryError;
 use dr_core::CoreError;
-use dr_query::{AnswerError, QueryError};
 use dr_requests::CommandError;
 use dr_time::TimeError;
 use std::alloc::{AllocError, AllocFailed};
@@ -17,7 +18,7 @@ pub enum ScriptError {
     Time(TimeError),
     /// A refusal of the core: 0, 90 to 93, 95, or 101 where there is no job or snapshot of a number.
     Core(CoreError),
-    /// Why a text is no query: 0 to 3, 11 to 13, or 70 to 76.
+    /// Why a text is no query: 0 to 3, 11 to 13, 22, 60 to 62, or 70 to 77.
     Query(QueryError),
     /// Why a query has no answer: 0, or 81.
     Answer(AnswerError),

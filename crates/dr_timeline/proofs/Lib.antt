@@ -1,5 +1,6 @@
 pub mod Pinning
 pub mod Times
+pub mod ShownRows
 pub mod PartialAnswers
 pub mod Keeping
 pub mod Standing

@@ -10,5 +10,5 @@ use Rattle.dr_partial.specs.Partial.{partial}
 use Rattle.dr_timeline.specs.Answering.{answer_from}
 
 pub answer-partial : GroupsFromPartial → (q : Asked) (rows : List Row) → answer q rows ≡ answer_from q (span rows) (partial q rows)
-unfolding answer, answer_from
+unfolding answer answer_from
 answer-partial law q rows = ap (λ g. given_of q g >>= (λ given. Ok (text_of q given))) (law q rows)

@@ -34,10 +34,17 @@ inside t true true low high h = (omega (arith, ints), omega (arith, ints))
 inside t true false low high h = absurd (cc)
 inside t false b low high h = absurd (cc)
 
+int_le-true : (a b : ℤ) → a ≤ℤ b → int_le a b ≡ true
+int_le-true a b h = at (int_le a b) refl
+  where
+    at : (x : Bool) → int_le a b ≡ x → int_le a b ≡ true
+    at true e = e
+    at false e = absurd (omega (arith, ints, h))
+
 not_outside : (t : ℤ) → IsInstant t → (not (int_le first_instant t && int_le t last_instant)) ≡ false
 not_outside t h =
-    let low : int_le first_instant t ≡ true = omega (arith, ints, h.0) in
-    let high : int_le t last_instant ≡ true = omega (arith, ints, h.1) in
+    let low = int_le-true first_instant t h.0 in
+    let high = int_le-true t last_instant h.1 in
     λ i. not (low i && high i)
 
 all-inside : (rows : List Row) → list_any (λ r. is_outside r.key) rows ≡ false → AtInstants rows

@@ -1,0 +1,53 @@
+use Rattle.std.proofs.Common.{◌≡◌, ◌∙◌, sym, ap, subst, map}
+use Rattle.dr_agg.specs.Rollup.{all_rows}
+use Rattle.dr_rollup.specs.Unrolled.{unrolled}
+use Rattle.dr_ask.specs.Asked.{Asked, asked}
+use Rattle.dr_answers.specs.Answer.{answer}
+use Rattle.dr_answers.specs.Span.{span}
+use Rattle.dr_partial.specs.Partial.{partial}
+use Rattle.dr_cuts.specs.RawAnswer.{raw_answer}
+use Rattle.dr_cuts.specs.Segments.{Pinned, rows_of}
+use Rattle.dr_timeline.specs.Answering.{answer_from}
+use Rattle.dr_timeline.proofs.PartialAnswers.{answer-partial}
+use Rattle.dr_timeline.proofs.Pinning.{held-rows}
+use Rattle.dr_timeline.proofs.ShownRows.{times-shown, span-shown, answer-shown}
+use Rattle.dr_timeline.proofs.Times.{AtInstants, EndsAtInstants, ends-unrolled}
+use Rattle.dr_timeline.proofs.snapshot.Snapshot.answer_one.Goals as goal
+
+pub of_rows-requires : goal.of_rows-requires
+of_rows-requires c =
+    let s = c.self.inside in
+    let lent = ap all_rows (ap (map (λ p. p.now)) c.deref-2.ensures.value ∙ c.in_ok-pieces.ensures ∙ c.deref.ensures.value ∙ c.in_ok-rows.ensures) in
+    subst AtInstants (sym lent) (times-shown s.schema s.stream.items s.pinned s.ranges.items c.self.invariant)
+
+pub answer-requires-clause-span : goal.answer-requires-clause-span
+answer-requires-clause-span c =
+    subst EndsAtInstants (ap (λ (p : Pinned). span (map (unrolled p.schema) p.stream)) c.self.view_is ∙ sym c.span.ensures) (ends-unrolled c.self.inside.schema c.self.inside.stream.items c.self.invariant.fit)
+
+pub returns-clause-own_rows : goal.returns-clause-own_rows
+returns-clause-own_rows c =
+    let s = c.self.inside in
+    let q : Asked = asked c.args.query.now in
+    let lent = ap all_rows (ap (map (λ p. p.now)) c.deref-2.ensures.value ∙ c.in_ok-pieces.ensures ∙ c.deref.ensures.value ∙ c.in_ok-rows.ensures) in
+    let own : all_rows s.pinned ≡ rows_of c.args.self.now = held-rows s.schema s.stream.items s.pinned s.ranges.items c.self.invariant.rows ∙ ap rows_of c.self.view_is in
+    let made : c.in_ok-partial.partial ≡ partial q (all_rows s.pinned) = c.in_ok-partial.ensures.groups ∙ ap (partial q) lent in
+    let spans : c.span.result ≡ span (all_rows s.pinned) =
+    c.span.ensures ∙ sym (ap (λ (p : Pinned). span (map (unrolled p.schema) p.stream)) c.self.view_is) ∙ sym (span-shown s.schema s.stream.items s.pinned s.ranges.items c.self.invariant) in
+    let from : answer_from q c.span.result c.in_ok-partial.partial ≡ answer q (rows_of c.args.self.now) =
+    (λ i. answer_from q (spans i) (made i)) ∙ sym (answer-partial ? q (all_rows s.pinned)) ∙ ap (answer q) own in
+    rw (← from) c.answer.ensures
+
+pub returns-clause-raw_where_matching : goal.returns-clause-raw_where_matching
+returns-clause-raw_where_matching c = λ matches.
+    let s = c.self.inside in
+    let q : Asked = asked c.args.query.now in
+    let lent = ap all_rows (ap (map (λ p. p.now)) c.deref-2.ensures.value ∙ c.in_ok-pieces.ensures ∙ c.deref.ensures.value ∙ c.in_ok-rows.ensures) in
+    let for_schema = rw (← c.self.view_is) at c.requires in
+    let made : c.in_ok-partial.partial ≡ partial q (all_rows s.pinned) = c.in_ok-partial.ensures.groups ∙ ap (partial q) lent in
+    let spans : c.span.result ≡ span (all_rows s.pinned) =
+    c.span.ensures ∙ sym (ap (λ (p : Pinned). span (map (unrolled p.schema) p.stream)) c.self.view_is) ∙ sym (span-shown s.schema s.stream.items s.pinned s.ranges.items c.self.invariant) in
+    let from : answer_from q c.span.result c.in_ok-partial.partial ≡ raw_answer c.args.self.now.schema q c.args.self.now.stream =
+    (λ i. answer_from q (spans i) (made i)) ∙ sym (answer-partial ? q (all_rows s.pinned))
+    ∙ answer-shown s.schema s.stream.items s.pinned s.ranges.items c.self.invariant q for_schema matches
+    ∙ ap (λ (p : Pinned). raw_answer p.schema q p.stream) c.self.view_is in
+    rw (← from) c.answer.ensures
