@@ -1,10 +1,13 @@
 -- Names that are put among others stay where they are.
-use Rattle.std.proofs.Common.{◌≡◌, ◌∙◌, sym, refl, ap, subst, ℕ, zero, suc, List, [], ◌∷◌, ◌++◌, append-nil, Option, Some, None}
+use Rattle.std.proofs.Common.{◌≡◌, ◌∙◌, sym, refl, ap, subst, ℕ, zero, suc, ◌+◌, ◌≤◌, List, [], ◌∷◌, ◌++◌, append-nil, length, take, Option, Some, None, arith}
+use Rattle.std.proofs.lemmas.List.{length-append, take_all, take-append-le}
 use Rattle.std.specs.Prelude.{slice_get}
 use Rattle.std.specs.List.{AllZip}
 use Rattle.dr_schema.specs.declared.metric.Metric.{Metric}
+use Rattle.dr_schema.specs.declared.schema.Schema.{Schema}
 use Rattle.dr_events.specs.declared.input.Input.{Input}
-use Rattle.dr_events.specs.Scalars.{AreNamed, IsPlaceOf, AreRead}
+use Rattle.dr_events.specs.declared.places.Places.{Places}
+use Rattle.dr_events.specs.Scalars.{AreNamed, IsPlaceOf, AreRead, AreFields}
 
 abbrev pub More : List (List ℕ) → List (List ℕ) → Type 0
 More old new = (more : List (List ℕ)) × (new ≡ old ++ more)
@@ -52,3 +55,13 @@ pub read-more : (old new : List (List ℕ)) (metrics : List Metric) (inputs : Li
 read-more old new metrics inputs m =
     zip_implied (λ (metric : Metric) (input : Input). (input.kind ≡ metric.kind) × IsPlaceOf old metric.field input.field) (λ (metric : Metric) (input : Input). (input.kind ≡ metric.kind) × IsPlaceOf new metric.field input.field)
     (λ metric input h. (h.0, place-more old new metric.field input.field m h.1)) metrics inputs
+
+-- the fields that columns read are among the first names, and stay there
+pub fields-kept : (s : Schema) (n : ℕ) (names new : List (List ℕ)) (places : Places) → More names new → AreFields s (take n names) places × (n ≤ length names) → AreFields s (take n new) places × (n ≤ length new)
+fields-kept s n names new places m h =
+    let same : take n new ≡ take n names = ap (take n) m.1 ∙ take-append-le n names m.0 h.1 in
+    let longer : length new ≡ length names + length m.0 = ap length m.1 ∙ length-append names m.0 in
+    (subst (λ l. AreFields s l places) (sym same) h.0, omega (arith, longer, h.1))
+
+pub fields-all : (s : Schema) (n : ℕ) (names : List (List ℕ)) (places : Places) → n ≡ length names → AreFields s names places → AreFields s (take n names) places × (n ≤ length names)
+fields-all s n names places all fields = (subst (λ l. AreFields s l places) (sym (take_all n names (omega (arith, all)))) fields, omega (arith, all))

@@ -29,7 +29,7 @@ use Rattle.dr_events.specs.EventTime.{in_years, time_of, event_time}
 use Rattle.dr_events.specs.DimensionValue.{dimension_value}
 use Rattle.dr_events.specs.MetricInput.{number_input, input_field, input_by, metric_input}
 use Rattle.dr_events.specs.EventOf.{object_of, dims_of, inputs_of, event_in, event_of}
-use Rattle.dr_events.specs.Scalars.{data_of, plain, seen, AreSeen, AreNamed, IsPlaceOf, AreRead, AreFields, value_at, input_value, dims_seen, inputs_seen, event_seen}
+use Rattle.dr_events.specs.Scalars.{data_of, plain, seen, AreFirst, AreSeen, AreNamed, IsPlaceOf, AreRead, AreFields, value_at, input_value, dims_seen, inputs_seen, event_seen}
 
 dimension_value-plain : (d : Data) → dimension_value (Some (plain d)) ≡ dimension_value (Some d)
 dimension_value-plain null = refl
@@ -132,20 +132,40 @@ all_at P [] i x all e = cc
 all_at P (y ∷ xs) zero x all e = let same : y ≡ x = cc in subst P same all.0
 all_at P (y ∷ xs) (suc i) x all e = all_at P xs i x all.1 e
 
--- a member of a name that is read
-pub seen-put : (names : List (List ℕ)) (found : List Scalar) (place : ℕ) (k : List ℕ) (d : Data) (s : Scalar) (ms : Members) → IsDistinct bytes_eq names → slice_get names place ≡ Some k → plain d ≡ data_of s → AreSeen names found ms
-    → AreSeen names (slice_set found place s) (put k d ms)
+all-first : {X : Type 0} (P : X → Type 0) (xs more : List X) → AllByRecursion P (xs ++ more) → AllByRecursion P xs
+all-first P [] more all = tt
+all-first P (x ∷ xs) more all = (all.0, all-first P xs more all.1)
+
+none-first : (k : List ℕ) (firsts more : List (List ℕ)) → list_any (bytes_eq k) (firsts ++ more) ≡ false → list_any (bytes_eq k) firsts ≡ false
+none-first k [] more none = refl
+none-first k (n ∷ firsts) more none =
+    let parts = or_parts (bytes_eq k n) (list_any (bytes_eq k) (firsts ++ more)) none in
+    rw parts.0 (none-first k firsts more parts.1)
+
+-- a member of a name that isn't kept
+pub seen-unkept : (firsts names : List (List ℕ)) (found : List Scalar) (k : List ℕ) (d : Data) (ms : Members) → AreFirst firsts names → list_any (bytes_eq k) names ≡ false → AreSeen firsts found ms → AreSeen firsts found (put k d ms)
+seen-unkept firsts names found k d ms first none = seen-other firsts found k d ms (none-first k firsts first.0 (ap (list_any (bytes_eq k)) (sym first.1) ∙ none))
+
+-- a member of a name that is kept; beyond the first ones no column reads it
+seen_put : (firsts more : List (List ℕ)) (found : List Scalar) (place : ℕ) (k : List ℕ) (d : Data) (s : Scalar) (ms : Members) → IsDistinct bytes_eq (firsts ++ more) → slice_get (firsts ++ more) place ≡ Some k → plain d ≡ data_of s
+    → AreSeen firsts found ms → AreSeen firsts (slice_set found place s) (put k d ms)
 unfolding IsDistinct
-seen-put [] found place k d s ms distinct e is all = cc
-seen-put (n ∷ names) [] place k d s ms distinct e is all = absurd all
-seen-put (n ∷ names) (f ∷ found) zero k d s ms distinct e is all =
+seen_put [] more [] place k d s ms distinct e is all = tt
+seen_put [] more (f ∷ found) place k d s ms distinct e is all = absurd all
+seen_put (n ∷ names) more [] place k d s ms distinct e is all = absurd all
+seen_put (n ∷ names) more (f ∷ found) zero k d s ms distinct e is all =
     let same : n ≡ k = cc in
-    let others : AllByRecursion (λ y. bytes_eq k y ≡ false) names = subst (λ m. AllByRecursion (λ y. bytes_eq m y ≡ false) names) same distinct.0 in
+    let others : AllByRecursion (λ y. bytes_eq k y ≡ false) names = subst (λ m. AllByRecursion (λ y. bytes_eq m y ≡ false) names) same (all-first (λ y. bytes_eq n y ≡ false) names more distinct.0) in
     (sym is ∙ sym (ap seen (ap (λ m. get_member m (put k d ms)) same ∙ get_member-put k d ms)), seen-other names found k d ms (absent k names others) all.1)
-seen-put (n ∷ names) (f ∷ found) (suc i) k d s ms distinct e is all =
-    let apart : bytes_eq n k ≡ false = all_at (λ y. bytes_eq n y ≡ false) names i k distinct.0 e in
+seen_put (n ∷ names) more (f ∷ found) (suc i) k d s ms distinct e is all =
+    let apart : bytes_eq n k ≡ false = all_at (λ y. bytes_eq n y ≡ false) (names ++ more) i k distinct.0 e in
     let other : n ≡ k → ⊥ = λ same. true≢false (sym ((bytes_decides n k).1 same) ∙ apart) in
-    (all.0 ∙ ap seen (sym (get_member-put_other n k d ms other)), seen-put names found i k d s ms distinct.1 e is all.1)
+    (all.0 ∙ ap seen (sym (get_member-put_other n k d ms other)), seen_put names more found i k d s ms distinct.1 e is all.1)
+
+pub seen-put : (firsts names : List (List ℕ)) (found : List Scalar) (place : ℕ) (k : List ℕ) (d : Data) (s : Scalar) (ms : Members) → AreFirst firsts names → IsDistinct bytes_eq names → slice_get names place ≡ Some k → plain d ≡ data_of s
+    → AreSeen firsts found ms → AreSeen firsts (slice_set found place s) (put k d ms)
+seen-put firsts names found place k d s ms first distinct e =
+    seen_put firsts first.0 found place k d s ms (subst (IsDistinct bytes_eq) first.1 distinct) (subst (λ l. slice_get l place ≡ Some k) first.1 e)
 
 -- a list that was written back whole
 pub written-back : {X : Type 0} (xs ys : List X) (n : ℕ) → length xs ≡ length ys → n ≡ length ys → take n (xs ++ drop (length xs) ys) ≡ xs

@@ -1,5 +1,5 @@
 -- What columns tell of the values of a JSON object.
-use Rattle.std.specs.Prelude.{◌≡◌, ℕ, ℤ, ⊤, List, Option, Some, None, option_map, slice_get, Result, Ok}
+use Rattle.std.specs.Prelude.{◌≡◌, ◌++◌, ℕ, ℤ, ⊤, List, Option, Some, None, option_map, slice_get, Result, Ok}
 use Rattle.std.specs.List.{AllZip}
 use Rattle.serde_json.specs.Data.{Num, unsigned, negative, float, Data, null, boolean, number, string, array, object, no_items, Members}
 use Rattle.serde_json.specs.Find.{get_member}
@@ -51,6 +51,10 @@ seen (Some d) = plain d
 -- what columns see in the fields of these names is told, name by name
 abbrev pub AreSeen : List (List ℕ) → List Scalar → Members → Type 0
 AreSeen names found ms = AllZip (λ name s. data_of s ≡ seen (get_member name ms)) names found
+
+-- these names stand in front of the others
+abbrev pub AreFirst : List (List ℕ) → List (List ℕ) → Type 0
+AreFirst firsts names = (more : List (List ℕ)) × (names ≡ firsts ++ more)
 
 -- these names stand at these places, one by one
 abbrev pub AreNamed : List (List ℕ) → List (List ℕ) → List ℕ → Type 0

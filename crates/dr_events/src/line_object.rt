@@ -1,11 +1,11 @@
-ghost use Rattle.std.specs.Prelude.{◌≡◌, ◌∷◌, Some, None, Ok, Err, OnOk, IsTrue, slice_set};
+ghost use Rattle.std.specs.Prelude.{◌≡◌, ◌∷◌, ℕ, List, Some, None, Ok, Err, OnOk, IsTrue, slice_set};
 ghost use Rattle.json.specs.Token.{begin_object};
 ghost use Rattle.serde_json.specs.Data.{Data, Members, no_members, object, put};
 ghost use Rattle.dr_events.specs.declared.unparseable.Unparseable.TheVariants.{NotAnObject};
 ghost use Rattle.dr_events.specs.Refusal.{RefusesAs};
 ghost use Rattle.dr_events.specs.EventOf.{object_of};
 ghost use Rattle.dr_events.specs.Passed.{begins_object, members_at, object_in_text};
-ghost use Rattle.dr_events.specs.Scalars.{AreSeen, data_of, plain};
+ghost use Rattle.dr_events.specs.Scalars.{AreFirst, AreSeen, data_of, plain};
 
 use crate::names::Names;
 use crate::scalar::Scalar;
@@ -18,6 +18,9 @@ use std::alloc::AllocError;
 /// How deep the values of an object nest at most, the object itself not counted.
 const DEPTH: usize = 126;
 
+/// So many names are kept at most, where columns read fewer.
+const MOST_NAMES: usize = 1024;
+
 /// For so many members of a line it is noted at which place their names stand.
 const MOST_NOTED: usize = 1024;
 
@@ -28,12 +31,13 @@ const MOST_NOTED: usize = 1024;
 pub fn read_object<'a>(
     bytes: &'a [u8],
     scratch: &'a mut Scratch,
-    names: &Names,
+    names: &mut Names,
     order: &mut Vec<usize>,
     found: &mut [Scalar<'a>],
 ) -> Result<(), Unparseable>
-    ensures ok { OnOk result ((ms : Members) × (object_of bytes.now ≡ Ok (object ms)) × (AreSeen names.now found.old no_members → AreSeen names.now found.new ms)) }
+    ensures ok { OnOk result ((ms : Members) × (object_of bytes.now ≡ Ok (object ms)) × ((firsts : List (List ℕ)) → AreFirst firsts names.old → AreSeen firsts found.old no_members → AreSeen firsts found.new ms)) }
     ensures err { RefusesAs NotAnObject result (object_of bytes.now ≡ Err NotAnObject) }
+    ensures kept { AreFirst names.old names.new }
 {
     match from_utf8(bytes) {
         Ok(text) => read_text(text, scratch, names, order, found),
@@ -44,12 +48,13 @@ pub fn read_object<'a>(
 fn read_text<'a>(
     text: &'a str,
     scratch: &'a mut Scratch,
-    names: &Names,
+    names: &mut Names,
     order: &mut Vec<usize>,
     found: &mut [Scalar<'a>],
 ) -> Result<(), Unparseable>
-    ensures ok { OnOk result ((ms : Members) × (object_in_text text.now ≡ Ok (object ms)) × (AreSeen names.now found.old no_members → AreSeen names.now found.new ms)) }
+    ensures ok { OnOk result ((ms : Members) × (object_in_text text.now ≡ Ok (object ms)) × ((firsts : List (List ℕ)) → AreFirst firsts names.old → AreSeen firsts found.old no_members → AreSeen firsts found.new ms)) }
     ensures err { RefusesAs NotAnObject result (object_in_text text.now ≡ Err NotAnObject) }
+    ensures kept { AreFirst names.old names.new }
 {
     let mut reader = Reader::new(text, scratch)?;
     if !takes_object(&mut reader) {
@@ -72,12 +77,13 @@ fn takes_object(reader: &mut Reader<'_>) -> bool
 
 fn read_members<'a>(
     reader: &mut Reader<'a>,
-    names: &Names,
+    names: &mut Names,
     order: &mut Vec<usize>,
     found: &mut [Scalar<'a>],
 ) -> Result<(), Unparseable>
-    ensures ok { OnOk result ((ms : Members) × (members_at reader.old ≡ Some (ms, reader.new)) × (AreSeen names.now found.old no_members → AreSeen names.now found.new ms)) }
+    ensures ok { OnOk result ((ms : Members) × (members_at reader.old ≡ Some (ms, reader.new)) × ((firsts : List (List ℕ)) → AreFirst firsts names.old → AreSeen firsts found.old no_members → AreSeen firsts found.new ms)) }
     ensures err { RefusesAs NotAnObject result (members_at reader.old ≡ None) }
+    ensures kept { AreFirst names.old names.new }
 {
     let mut member: usize = 0;
     'members: loop {
@@ -95,19 +101,21 @@ fn read_members<'a>(
     }
 }
 
-// Keeps the value of a member, which has that place in the line, where a column reads it.
+// Keeps the value of a member, which has that place in the line, where a column reads it, and its name.
 fn keep<'a>(
-    names: &Names,
+    names: &mut Names,
     order: &mut Vec<usize>,
     member: usize,
     key: &str,
     value: Scalar<'a>,
     found: &mut [Scalar<'a>],
 ) -> Result<(), AllocError>
-    ensures { (d : Data) (ms : Members) → plain d ≡ data_of value.entry → AreSeen names.now found.old ms → OnOk result (AreSeen names.now found.new (put key.now d ms)) }
+    ensures seen { (firsts : List (List ℕ)) (d : Data) (ms : Members) → AreFirst firsts names.old → plain d ≡ data_of value.entry → AreSeen firsts found.old ms → OnOk result (AreSeen firsts found.new (put key.now d ms)) }
+    ensures kept { AreFirst names.old names.new }
 {
     let likely = place_noted(order.as_slice(), member);
-    let place = names.place_of(likely, key);
+    let place = names.place_kept(likely, key, MOST_NAMES)?;
+    let _ = names.len();
     note(order, member, likely, place)?;
     match place {
         Some(place) => put(found, place, value),
@@ -132,7 +140,7 @@ fn place_noted(order: &[usize], member: usize) -> usize {
     }
 }
 
-// Notes the place of a member where it isn't the noted one. A member that no column reads has the greatest number for one.
+// Notes the place of a member where it isn't the noted one. A name that isn't kept has the greatest number for one.
 fn note(
     order: &mut Vec<usize>,
     member: usize,

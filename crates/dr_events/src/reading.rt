@@ -30,7 +30,7 @@ pub fn read_event(
     ensures event { Gives (λ e. e) result (event_of spec.now seat bytes.now) }
     ensures fits { IfOk result (FitsSchema spec.now) }
 {
-    EventReader::new(alloc).read(alloc, spec, seat, bytes)
+    EventReader::new(alloc, spec)?.read(alloc, seat, bytes)
 }
 
 /// The event of an object, by what columns see in its fields.

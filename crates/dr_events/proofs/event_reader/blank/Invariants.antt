@@ -4,7 +4,7 @@ use Rattle.dr_events.specs.declared.scalar.Scalar.TheVariants.{Null}
 use Rattle.dr_events.proofs.event_reader.blank.Given as goal
 
 abbrev pub invariant-nulls : goal.invariant-nulls
-invariant-nulls l = AllByRecursion (λ s. s ≡ Null) l.found.items × (length l.found.items ≤ length l.names)
+invariant-nulls l = AllByRecursion (λ s. s ≡ Null) l.found.items × (length l.found.items ≤ l.columns)
 
 abbrev pub decreases-nulls : goal.decreases-nulls
-decreases-nulls l = length l.names - length l.found.items
+decreases-nulls l = l.columns - length l.found.items

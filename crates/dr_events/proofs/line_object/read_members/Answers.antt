@@ -3,10 +3,11 @@ use Rattle.json.specs.Json.{read_key, value}
 use Rattle.json.proofs.Grammar.{read_key-shorter}
 use Rattle.serde_json.specs.Data.{no_members, put}
 use Rattle.dr_events.proofs.Conversions.{member_read, member_refused, key_refused, members_over}
+use Rattle.dr_events.proofs.MoreNames.{more-none, more-then}
 use Rattle.dr_events.proofs.line_object.read_members.Goals as goal
 
 pub members-init : goal.members-init
-members-init c = (length c.args.reader.now, no_members, omega arith, refl, (λ h. h), omega arith)
+members-init c = (length c.args.reader.now, no_members, omega arith, refl, (λ firsts first h. h), more-none c.args.names.now, omega arith)
 
 pub returns-in_default-clause-err : goal.returns-in_default-clause-err
 returns-in_default-clause-err c =
@@ -46,6 +47,7 @@ members-preserved c =
       put k d old,
       omega (arith, l.invariant.2),
       l.invariant.3 ∙ member_read p old n k l.reader s r d (omega (arith, l.invariant.2)) named done.value.1,
-      (λ blank. c.in_ok-keep-in-Ok-read_value.ensures d old done.value.2 (l.invariant.4 blank)),
-      omega (arith, l.invariant.5),
+      (λ firsts first blank. c.in_ok-keep-in-Ok-read_value.ensures.seen firsts d old (more-then firsts c.args.names.now l.names first l.invariant.5) done.value.2 (l.invariant.4 firsts first blank)),
+      more-then c.args.names.now l.names c.keep.new.names l.invariant.5 c.keep.ensures.kept,
+      omega (arith, l.invariant.6),
     )

@@ -11,7 +11,7 @@ grown c =
     let names = c.args.self.now in
     let keys = c.self.inside.0.keys in
     let copy = c.in_ok-copy.copy in
-    let copied : string_bytes copy ≡ c.args.name.now = c.in_ok-copy.ensures.ok ∙ c.as_str.ensures in
+    let copied : string_bytes copy ≡ c.args.name.now = c.in_ok-copy.ensures.ok in
     let new : list_any (bytes_eq (string_bytes copy)) (map string_bytes keys) ≡ false = ap (λ t. list_any (bytes_eq t) (map string_bytes keys)) copied ∙ ap (list_any (bytes_eq c.args.name.now)) c.self.view_is ∙ c.requires in
     ap (map string_bytes) c.in_ok-insert.ensures.keys ∙ name-inserted string_bytes keys copy new ∙ ap (λ ts. ts ++ string_bytes copy ∷ []) c.self.view_is ∙ ap (λ t. names ++ t ∷ []) copied
 
