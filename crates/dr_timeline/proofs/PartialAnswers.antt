@@ -5,10 +5,10 @@ use Rattle.dr_base.specs.declared.row.Row.{Row}
 use Rattle.dr_ask.specs.Asked.{Asked}
 use Rattle.dr_answers.specs.Answer.{answer, given_of, text_of}
 use Rattle.dr_answers.specs.Span.{span}
-use Rattle.dr_partial.specs.Laws.{GroupsFromPartial}
+use Rattle.dr_partial.proofs.Groups.{groups-from_partial}
 use Rattle.dr_partial.specs.Partial.{partial}
 use Rattle.dr_timeline.specs.Answering.{answer_from}
 
-pub answer-partial : GroupsFromPartial → (q : Asked) (rows : List Row) → answer q rows ≡ answer_from q (span rows) (partial q rows)
+pub answer-partial : (q : Asked) (rows : List Row) → answer q rows ≡ answer_from q (span rows) (partial q rows)
 unfolding answer answer_from
-answer-partial law q rows = ap (λ g. given_of q g >>= (λ given. Ok (text_of q given))) (law q rows)
+answer-partial q rows = ap (λ g. given_of q g >>= (λ given. Ok (text_of q given))) (groups-from_partial q rows)

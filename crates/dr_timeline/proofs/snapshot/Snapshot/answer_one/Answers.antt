@@ -30,11 +30,11 @@ returns-clause-own_rows c =
     let q : Asked = asked c.args.query.now in
     let lent = ap all_rows (ap (map (λ p. p.now)) c.deref-2.ensures.value ∙ c.in_ok-pieces.ensures ∙ c.deref.ensures.value ∙ c.in_ok-rows.ensures) in
     let own : all_rows s.pinned ≡ rows_of c.args.self.now = held-rows s.schema s.stream.items s.pinned s.ranges.items c.self.invariant.rows ∙ ap rows_of c.self.view_is in
-    let made : c.in_ok-partial.partial ≡ partial q (all_rows s.pinned) = c.in_ok-partial.ensures.groups ∙ ap (partial q) lent in
+    let made : c.in_ok-partial.partial ≡ partial q (all_rows s.pinned) = c.in_ok-partial.ensures.value ∙ ap (partial q) lent in
     let spans : c.span.result ≡ span (all_rows s.pinned) =
     c.span.ensures ∙ sym (ap (λ (p : Pinned). span (map (unrolled p.schema) p.stream)) c.self.view_is) ∙ sym (span-shown s.schema s.stream.items s.pinned s.ranges.items c.self.invariant) in
     let from : answer_from q c.span.result c.in_ok-partial.partial ≡ answer q (rows_of c.args.self.now) =
-    (λ i. answer_from q (spans i) (made i)) ∙ sym (answer-partial ? q (all_rows s.pinned)) ∙ ap (answer q) own in
+    (λ i. answer_from q (spans i) (made i)) ∙ sym (answer-partial q (all_rows s.pinned)) ∙ ap (answer q) own in
     rw (← from) c.answer.ensures
 
 pub returns-clause-raw_where_matching : goal.returns-clause-raw_where_matching
@@ -43,11 +43,11 @@ returns-clause-raw_where_matching c = λ matches.
     let q : Asked = asked c.args.query.now in
     let lent = ap all_rows (ap (map (λ p. p.now)) c.deref-2.ensures.value ∙ c.in_ok-pieces.ensures ∙ c.deref.ensures.value ∙ c.in_ok-rows.ensures) in
     let for_schema = rw (← c.self.view_is) at c.requires in
-    let made : c.in_ok-partial.partial ≡ partial q (all_rows s.pinned) = c.in_ok-partial.ensures.groups ∙ ap (partial q) lent in
+    let made : c.in_ok-partial.partial ≡ partial q (all_rows s.pinned) = c.in_ok-partial.ensures.value ∙ ap (partial q) lent in
     let spans : c.span.result ≡ span (all_rows s.pinned) =
     c.span.ensures ∙ sym (ap (λ (p : Pinned). span (map (unrolled p.schema) p.stream)) c.self.view_is) ∙ sym (span-shown s.schema s.stream.items s.pinned s.ranges.items c.self.invariant) in
     let from : answer_from q c.span.result c.in_ok-partial.partial ≡ raw_answer c.args.self.now.schema q c.args.self.now.stream =
-    (λ i. answer_from q (spans i) (made i)) ∙ sym (answer-partial ? q (all_rows s.pinned))
+    (λ i. answer_from q (spans i) (made i)) ∙ sym (answer-partial q (all_rows s.pinned))
     ∙ answer-shown s.schema s.stream.items s.pinned s.ranges.items c.self.invariant q for_schema matches
     ∙ ap (λ (p : Pinned). raw_answer p.schema q p.stream) c.self.view_is in
     rw (← from) c.answer.ensures

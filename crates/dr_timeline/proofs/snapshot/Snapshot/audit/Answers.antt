@@ -22,7 +22,7 @@ returns c =
     let p : Pinned = c.args.self.now in
     let lent = ap (flat_map (λ p. p.now)) c.deref.ensures.value ∙ c.in_ok-pieces.ensures in
     let made : c.in_ok-partial.partial ≡ partial q (map (unrolled p.schema) p.stream) =
-    c.in_ok-partial.ensures.groups ∙ ap (λ es. partial q (map (unrolled s.schema) es)) lent ∙ ap (λ (p : Pinned). partial q (map (unrolled p.schema) p.stream)) c.self.view_is in
+    c.in_ok-partial.ensures.value ∙ ap (λ es. partial q (map (unrolled s.schema) es)) lent ∙ ap (λ (p : Pinned). partial q (map (unrolled p.schema) p.stream)) c.self.view_is in
     let from : answer_from q c.span.result c.in_ok-partial.partial ≡ raw_answer p.schema q p.stream =
-    (λ i. answer_from q (c.span.ensures i) (made i)) ∙ sym (answer-partial ? q (map (unrolled p.schema) p.stream)) in
+    (λ i. answer_from q (c.span.ensures i) (made i)) ∙ sym (answer-partial q (map (unrolled p.schema) p.stream)) in
     rw (← from) c.answer.ensures
