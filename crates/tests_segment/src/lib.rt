@@ -5,4 +5,6 @@
 #[cfg(test)]
 mod damage;
 #[cfg(test)]
+mod reading;
+#[cfg(test)]
 mod writing;

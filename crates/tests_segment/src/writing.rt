@@ -1,4 +1,5 @@
 use dr_base::{Key, Numbers, Row, Text, Texts};
+use dr_image::SegmentView;
 use dr_segment::encode;
 use dr_spec::IngestSpec;
 use std::alloc::Global;
@@ -38,5 +39,43 @@ fn written(alloc: Global) -> Result<String, Fail> {
 fn writes_the_image_of_two_rows(rt: HostRuntime) -> Result<(), Fail> {
     let text = written(rt.alloc())?;
     assert!(rt; text.as_str() == TWO);
+    Ok(())
+}
+
+const NO_ROLLUP: &[u8] =
+    br#"{"dataSchema":{"dataSource":"w","dimensionsSpec":{"dimensions":["page","lang"]},"granularitySpec":{"rollup":false}}}"#;
+
+// Whether an image has two rows with an empty page, and no metric.
+fn has_empty_pages(bytes: &[u8]) -> bool {
+    match SegmentView::open(bytes) {
+        Ok(view) => {
+            if view.row_count() != 2 || view.dimension_count() != 2 {
+                return false;
+            }
+            view.metric_count() == 0
+                && !view.rollup()
+                && view.value_count(0) == 1
+                && view.dim(0, 1) == ""
+        }
+        Err(_) => false,
+    }
+}
+
+// Whether equal rows without rollup and without metrics are written as an image that opens.
+fn writes_equal_rows(alloc: Global) -> Result<bool, Fail> {
+    let spec = IngestSpec::parse(alloc, NO_ROLLUP)?;
+    let mut rows = Vec::new(alloc);
+    rows.push(row(alloc, 1_704_067_200_000, "", &[])?)?;
+    rows.push(row(alloc, 1_704_067_200_000, "", &[])?)?;
+    match encode(alloc, spec.schema(), 1_704_067_200_000, 0, 2, &rows) {
+        Ok(bytes) => Ok(has_empty_pages(&bytes)),
+        Err(_) => Ok(false),
+    }
+}
+
+#[test]
+fn writes_equal_rows_without_rollup(rt: HostRuntime) -> Result<(), Fail> {
+    let is_right = writes_equal_rows(rt.alloc())?;
+    assert!(rt; is_right);
     Ok(())
 }
