@@ -1,13 +1,14 @@
 -- What a reply of the program says, and what one line of a script does.
 use Rattle.std.specs.Prelude.{◌≡◌, ◌⊎◌, ℕ, Bool, true, List, ◌++◌, Option, Some, None, Result, Ok, Err, codes, decimal, if◌then◌else◌}
 use Rattle.std.specs.Io.KnownBytes.{IsAtEnd}
+use Rattle.hex.specs.Hex.{encode_lower}
 use Rattle.dr_lines.specs.declared.line_error.LineError.{LineError}
 use Rattle.dr_lines.specs.declared.line_error.LineError.TheVariants.{ReadFault}
 use Rattle.dr_lines.specs.Lines.{TakesLine, EndsInLine}
 use Rattle.dr_lines.specs.Written.{Writes}
 use Rattle.dr_requests.specs.declared.command_error.CommandError.TheVariants.{NoMemory, Line}
 use Rattle.dr_script.specs.declared.reply.Reply.{Reply}
-use Rattle.dr_script.specs.declared.reply.Reply.TheVariants.{SpecOk, Accepted, Sealed, Joined, Job, Committed, Pinned, Said, Refused, Fault}
+use Rattle.dr_script.specs.declared.reply.Reply.TheVariants.{SpecOk, Accepted, Sealed, Joined, Job, Committed, Pinned, Said, Hexadecimal, Refused, Fault}
 use Rattle.dr_timeline.specs.CoreState.{CoreState}
 use Rattle.dr_script.specs.Commands.{Answered, answered, joined_line, refused_by}
 use Rattle.dr_script.specs.Script.{Moves, ScriptFrom, first_step}
@@ -23,6 +24,7 @@ seen (Job number) = answered (codes "job " ++ decimal number)
 seen Committed = answered (codes "committed")
 seen (Pinned number) = answered (codes "pin " ++ decimal number)
 seen (Said line) = answered line.items
+seen (Hexadecimal bytes) = answered (encode_lower bytes.items)
 seen (Refused line) = record { line = line.items; is_refused = true }
 seen (Fault e) = refused_by e
 

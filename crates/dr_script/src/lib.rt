@@ -3,6 +3,7 @@
 #![tactic(auto)]
 
 mod answering;
+mod hexadecimal;
 mod reply;
 mod script;
 mod script_error;

@@ -3,6 +3,7 @@ ghost use Rattle.dr_lines.specs.Failures.{failures_of, inner_of, failures_after}
 ghost use Rattle.dr_lines.specs.Written.{Puts};
 ghost use Rattle.dr_script.specs.Replies.{seen};
 
+use crate::hexadecimal::put_hexadecimal_line;
 use dr_lines::{Counted, LineError, LineWriter};
 use dr_merge::Purpose;
 use dr_requests::CommandError;
@@ -28,6 +29,8 @@ pub enum Reply {
     Pinned(usize),
     /// That line, which refuses nothing.
     Said(Vec<u8>),
+    /// These bytes in lower-case hexadecimal.
+    Hexadecimal(Vec<u8>),
     /// The line of a refusal.
     Refused(Vec<u8>),
     /// A refusal of this crate.
@@ -45,7 +48,7 @@ impl Reply {
         }
     }
 
-    /// Writes the reply as a line.
+    /// Writes the reply as a line, part by part: the text of bytes in hexadecimal is never whole in memory.
     /// Refusals: 100 `WriteFault` where a write fails.
     pub fn put<W: Write>(
         self,
@@ -66,6 +69,7 @@ impl Reply {
             Reply::Committed => lines.put_line(writer, b"committed"),
             Reply::Pinned(number) => put_number(lines, writer, b"pin ", number as u64),
             Reply::Said(line) | Reply::Refused(line) => lines.put_line(writer, line.as_slice()),
+            Reply::Hexadecimal(bytes) => put_hexadecimal_line(lines, writer, bytes.as_slice()),
             Reply::Fault(error) => lines.put_line(writer, error.line().as_bytes()),
         }
     }
