@@ -1,9 +1,9 @@
 ghost use Rattle.dr_core.specs.Run.{FitsStep};
 
+use dr_ask::Query;
 use dr_core::{Reply, Step, run_core_one};
 use dr_events::read_event;
 use dr_merge::Purpose;
-use dr_query::Query;
 use dr_spec::IngestSpec;
 use std::alloc::{AllocError, Global};
 use std::marker::Model;

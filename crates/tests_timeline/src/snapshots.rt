@@ -1,9 +1,11 @@
 ghost use Rattle.std.specs.Prelude.{◌≡◌, IfOk};
-ghost use Rattle.dr_query.specs.MadeFor.{MadeFor};
+ghost use Rattle.dr_ask.specs.Asked.{asked};
+ghost use Rattle.dr_ask.specs.MadeFor.{MadeFor};
 
+use dr_answers::AnswerError;
+use dr_ask::Query;
 use dr_events::read_event;
 use dr_merge::{Purpose, work};
-use dr_query::{AnswerError, Query};
 use dr_spec::IngestSpec;
 use dr_timeline::{RangeInfo, Snapshot, Timeline, TimelineError};
 use std::alloc::Global;
@@ -53,14 +55,14 @@ fn merge(alloc: Global, timeline: &mut Timeline) -> Result<u64, TimelineError> {
 }
 
 fn sums(alloc: Global, timeline: &Timeline) -> Result<Query, Fail>
-    ensures { IfOk result (MadeFor timeline.now.schema) }
+    ensures { IfOk result (λ q. MadeFor timeline.now.schema (asked q)) }
 {
     Ok(Query::parse(alloc, SUMS.as_bytes(), timeline.spec().schema())?)
 }
 
 /// A snapshot, and a query for its schema.
 fn pin(alloc: Global, timeline: &mut Timeline) -> Result<(Snapshot, Query), Fail>
-    ensures { IfOk result (λ p. MadeFor p.0.schema p.1) }
+    ensures { IfOk result (λ p. MadeFor p.0.schema (asked p.1)) }
 {
     let query = sums(alloc, timeline)?;
     let snapshot = timeline.pin()?;
@@ -80,7 +82,7 @@ fn expect(
     ranges: &[RangeInfo],
     wanted: &str,
 ) -> Result<(), Fail>
-    requires { MadeFor snapshot.now.schema query.now }
+    requires { MadeFor snapshot.now.schema (asked query.now) }
 {
     assert_eq!(rt; snapshot.ranges(), ranges);
     assert_eq!(rt; text_of(snapshot.answer_one(query))?.as_str(), wanted);
@@ -140,7 +142,7 @@ fn extend(alloc: Global) -> Result<(bool, bool, bool), Fail> {
 
 /// A snapshot of two ranges, one of them open, after which there were a seal, a merge and an event.
 fn pinned_before(alloc: Global) -> Result<(Snapshot, Query), Fail>
-    ensures { IfOk result (λ p. MadeFor p.0.schema p.1) }
+    ensures { IfOk result (λ p. MadeFor p.0.schema (asked p.1)) }
 {
     let mut timeline = new_timeline(alloc)?;
     accept(alloc, &mut timeline, FIRST)?;
