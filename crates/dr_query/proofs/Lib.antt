@@ -1,3 +1,0 @@
-pub mod DistinctOutputs
-pub mod PrintableIntervals
-pub mod MadeQueries
