@@ -32,6 +32,7 @@ commit_schema : (old new : State) (job : Job) (result : Result ℕ TimelineError
 commit_schema old new job (Ok v) step err = schema_at old new job (place_of old job) v step
 commit_schema old new job (Err e) step err = ap (λ (s : State). s.schema) err
 
--- the snapshots of a session fit its timeline behind a commit too
-pub keeps_schema : (old new : State) (job : Job) (result : Result ℕ TimelineError) (pins : List Pinned) → GivesUnless is_memory (λ v. (v, new)) result (commit old job) → OnErr result (new ≡ old) → HaveSchema old.schema pins → HaveSchema new.schema pins
-keeps_schema old new job result pins step err have = subst (λ (schema : Schema). HaveSchema schema pins) (sym (commit_schema old new job result step err)) have
+-- the snapshots of a session and its reader of events fit its timeline behind a commit too
+pub keeps_schema : (old new : State) (job : Job) (result : Result ℕ TimelineError) (pins : List Pinned) (events : Schema) → GivesUnless is_memory (λ v. (v, new)) result (commit old job) → OnErr result (new ≡ old)
+    → HaveSchema old.schema pins × (events ≡ old.schema) → HaveSchema new.schema pins × (events ≡ new.schema)
+keeps_schema old new job result pins events step err have = subst (λ (schema : Schema). HaveSchema schema pins × (events ≡ schema)) (sym (commit_schema old new job result step err)) have

@@ -33,13 +33,14 @@ pub struct Session {
 }
 
 impl Model for Session {
+    ghost use Rattle.std.specs.Prelude.{◌≡◌};
     ghost use Rattle.dr_timeline.specs.CoreState.{CoreState, HaveSchema};
 
     ghost Value = { CoreState };
 
     ghost view = { λ s. record { timeline = s.timeline; jobs = s.jobs.items; pins = s.pins.items } };
 
-    ghost invariant = { λ s. HaveSchema s.timeline.schema s.pins.items };
+    ghost invariant = { λ s. HaveSchema s.timeline.schema s.pins.items × (s.events ≡ s.timeline.schema) };
 }
 
 impl Session {
@@ -47,11 +48,12 @@ impl Session {
     pub fn new(alloc: Global, spec: IngestSpec) -> Result<Session, AllocError>
         ensures { IfOk result (λ session. session ≡ empty_core spec) }
     {
+        let events = EventReader::new(alloc, &spec)?;
         Ok(Session {
             timeline: Timeline::new(alloc, spec)?,
             jobs: Vec::new(alloc),
             pins: Vec::new(alloc),
-            events: EventReader::new(alloc),
+            events,
         })
     }
 
@@ -83,7 +85,7 @@ impl Session {
         ensures step { GivesUnless is_memory (λ reply. (seen reply, self.new)) result (add_event text.now self.old) }
         ensures err { OnErr result (self.new ≡ self.old) }
     {
-        match self.events.read(alloc, self.timeline.spec(), SEAT, text) {
+        match self.events.read(alloc, SEAT, text) {
             Ok(event) => {
                 let number = self.timeline.accept(event)?;
                 Ok(Reply::Accepted(number))
