@@ -63,13 +63,15 @@ impl Core {
         requires { FitsSchema self.old.timeline.schema event }
         ensures step { GivesUnless is_memory (λ number. (number, self.new)) result (step.accept event self.old) }
         ensures err { OnErr result (self.new ≡ self.old) }
+        ensures schema { self.new.timeline.schema ≡ self.old.timeline.schema }
     {
         Ok(self.timeline.accept(event)?)
     }
 
     /// Counts an input that became no event, as [`Timeline::note`] does. It takes no memory.
     pub fn note(&mut self, outcome: Outcome)
-        ensures { self.new ≡ step.note outcome self.old }
+        ensures step { self.new ≡ step.note outcome self.old }
+        ensures schema { self.new.timeline.schema ≡ self.old.timeline.schema }
     {
         self.timeline.note(outcome)
     }
@@ -79,6 +81,7 @@ impl Core {
     pub fn seal(&mut self, chunk: i64) -> Result<(), CoreError>
         ensures step { GivesUnless is_memory (λ _. self.new) result (step.seal chunk self.old) }
         ensures err { OnErr result (self.new ≡ self.old) }
+        ensures schema { self.new.timeline.schema ≡ self.old.timeline.schema }
     {
         Ok(self.timeline.seal(chunk)?)
     }
@@ -96,6 +99,7 @@ impl Core {
     ) -> Result<usize, CoreError>
         ensures step { GivesUnless is_memory (λ number. (number, self.new)) result (step.plan chunk lo hi purpose self.old) }
         ensures err { OnErr result (self.new ≡ self.old) }
+        ensures schema { self.new.timeline.schema ≡ self.old.timeline.schema }
     {
         let job = self.timeline.plan(chunk, lo, hi, purpose)?;
         let number = self.jobs.len();
@@ -110,6 +114,7 @@ impl Core {
     pub fn commit(&mut self, alloc: Global, number: usize) -> Result<u64, CoreError>
         ensures step { GivesUnless is_memory (λ version. (version, self.new)) result (step.commit number self.old) }
         ensures err { OnErr result (self.new ≡ self.old) }
+        ensures schema { self.new.timeline.schema ≡ self.old.timeline.schema }
     {
         let Some(job) = self.jobs.get(number) else {
             return Err(CoreError::NoSuch);
@@ -129,6 +134,7 @@ impl Core {
     ) -> Result<u64, CoreError>
         ensures step { GivesUnless is_memory (λ version. (version, self.new)) result (step.join chunk lo hi purpose self.old) }
         ensures err { OnErr result (self.new ≡ self.old) }
+        ensures schema { self.new.timeline.schema ≡ self.old.timeline.schema }
     {
         let planned = self.timeline.plan(chunk, lo, hi, purpose)?;
         Ok(commit_to(alloc, &mut self.timeline, &planned)?)
@@ -139,6 +145,7 @@ impl Core {
     pub fn pin(&mut self) -> Result<usize, AllocError>
         ensures step { IfOk result (λ number. (number, self.new) ≡ step.pin self.old) }
         ensures err { OnErr result (self.new ≡ self.old) }
+        ensures schema { self.new.timeline.schema ≡ self.old.timeline.schema }
     {
         let snapshot = self.timeline.pin()?;
         let number = self.pins.len();

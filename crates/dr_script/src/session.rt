@@ -30,11 +30,14 @@ pub struct Session {
 }
 
 impl Model for Session {
+    ghost use Rattle.std.specs.Prelude.{◌≡◌};
     ghost use Rattle.dr_timeline.specs.CoreState.{CoreState};
 
     ghost Value = { CoreState };
 
     ghost view = { λ s. s.core };
+
+    ghost invariant = { λ s. s.events ≡ s.core.timeline.schema };
 }
 
 impl Session {
@@ -42,9 +45,10 @@ impl Session {
     pub fn new(alloc: Global, spec: IngestSpec) -> Result<Session, AllocError>
         ensures { IfOk result (λ session. session ≡ empty_core spec) }
     {
+        let events = EventReader::new(alloc, &spec)?;
         Ok(Session {
             core: Core::new(alloc, spec)?,
-            events: EventReader::new(alloc),
+            events,
         })
     }
 
@@ -76,7 +80,7 @@ impl Session {
         ensures step { GivesUnless is_memory (λ reply. (seen reply, self.new)) result (add_event text.now self.old) }
         ensures err { OnErr result (self.new ≡ self.old) }
     {
-        match self.events.read(alloc, self.core.spec(), SEAT, text) {
+        match self.events.read(alloc, SEAT, text) {
             Ok(event) => {
                 let number = self.core.accept(event)?;
                 Ok(Reply::Accepted(number))
