@@ -48,7 +48,8 @@ use Rattle.dr_script.specs.declared.script_error.ScriptError.TheVariants.{Comman
 use Rattle.dr_script.specs.Commands.{Answered, add_event, add_read, answered, ask_at, ask_now, audit_now, carried_out, chunk_named, commit_job, join_ranges, plan_ranges, refused_by, seal_chunk, tell_stats, told}
 use Rattle.dr_script.specs.Headline.{AnswersRaw, AnswersAreRaw, RawScript, IsRaw, RawFrom, accepted_for, asked_by, begins, event_asked, event_read, pin_asked, pinned_for, told_answer}
 use Rattle.dr_script.specs.Script.{GoesOn, Moves, Script, ScriptAfter, ScriptFrom, opened_by, settled, step}
-use Rattle.dr_ask.proofs.MadeQueries.{query_of-made, through}
+use Rattle.dr_ask.proofs.MadeQueries.{query_of-made}
+use Rattle.dr_ask.proofs.ReadSteps.{through}
 
 -- ---- what is written begins otherwise
 

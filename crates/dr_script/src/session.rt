@@ -1,7 +1,13 @@
 ghost use Rattle.std.specs.Prelude.{◌≡◌, IfOk, OnErr};
-ghost use Rattle.dr_base.specs.Reading.{GivesUnless};
+ghost use Rattle.dr_answers.specs.Answer.{answer};
+ghost use Rattle.dr_ask.specs.Asked.{asked};
+ghost use Rattle.dr_ask.specs.MadeFor.{MadeFor};
+ghost use Rattle.dr_base.specs.Reading.{GivesUnless, passed};
+ghost use Rattle.dr_cuts.specs.RawAnswer.{raw_answer};
+ghost use Rattle.dr_cuts.specs.Segments.{pinned, rows_of};
+ghost use Rattle.dr_script.specs.declared.script_error.ScriptError.TheVariants.{Answer};
 ghost use Rattle.dr_timeline.specs.CoreState.{empty_core};
-ghost use Rattle.dr_script.specs.Commands.{add_event, ask_at, ask_now, audit_now, carried_out, chunk_named, commit_job, is_memory, join_ranges, pin_snapshot, plan_ranges, seal_chunk, tell_stats};
+ghost use Rattle.dr_script.specs.Commands.{add_event, ask_at, ask_now, audit_now as audited_now, carried_out, chunk_named, commit_job, is_memory, join_ranges, pin_snapshot, plan_ranges, seal_chunk, tell_stats};
 ghost use Rattle.dr_script.specs.Replies.{seen};
 ghost use Rattle.dr_requests.specs.Seen.{seen_request};
 
@@ -156,8 +162,7 @@ impl Session {
         ensures same { self.new ≡ self.old }
     {
         let query = Query::parse(alloc, text, self.core.spec().schema())?;
-        let snapshot = self.core.snapshot_now()?;
-        Ok(Reply::Said(snapshot.answer_one(&query)?))
+        Ok(Reply::Said(answer_now(&mut self.core, &query)?))
     }
 
     fn at(&self, alloc: Global, number: u64, text: &[u8]) -> Result<Reply, ScriptError>
@@ -171,12 +176,11 @@ impl Session {
     }
 
     fn audit(&mut self, alloc: Global, text: &[u8]) -> Result<Reply, ScriptError>
-        ensures step { GivesUnless is_memory (λ reply. (seen reply, self.new)) result (audit_now text.now self.old) }
+        ensures step { GivesUnless is_memory (λ reply. (seen reply, self.new)) result (audited_now text.now self.old) }
         ensures same { self.new ≡ self.old }
     {
         let query = Query::parse(alloc, text, self.core.spec().schema())?;
-        let snapshot = self.core.snapshot_now()?;
-        Ok(Reply::Said(snapshot.audit(&query)?))
+        Ok(Reply::Said(audit_now(&mut self.core, &query)?))
     }
 
     fn stats(&self, alloc: Global) -> Result<Reply, ScriptError>
@@ -193,4 +197,24 @@ impl Session {
         let schema = self.core.spec().schema();
         Ok(schema.segment_granularity().truncate(time))
     }
+}
+
+// The answer over the rows as they are. The core stays as it was.
+fn answer_now(core: &mut Core, query: &Query) -> Result<Vec<u8>, ScriptError>
+    requires { MadeFor core.old.timeline.schema (asked query.now) }
+    ensures answer { GivesUnless is_memory (λ text. text.items) result (passed Answer (answer (asked query.now) (rows_of (pinned core.old.timeline)))) }
+    ensures same { core.new ≡ core.old }
+{
+    let snapshot = core.snapshot_now()?;
+    Ok(snapshot.answer_one(query)?)
+}
+
+// The answer over the accepted events, one by one. The core stays as it was.
+fn audit_now(core: &mut Core, query: &Query) -> Result<Vec<u8>, ScriptError>
+    requires { MadeFor core.old.timeline.schema (asked query.now) }
+    ensures answer { GivesUnless is_memory (λ text. text.items) result (passed Answer (raw_answer core.old.timeline.schema (asked query.now) core.old.timeline.stream)) }
+    ensures same { core.new ≡ core.old }
+{
+    let snapshot = core.snapshot_now()?;
+    Ok(snapshot.audit(query)?)
 }
