@@ -35,7 +35,7 @@ const ADDED: &str =
 const ROWS: &str =
     r#"{"queryType":"timeseries","dataSource":"w","intervals":["2024-01-01/2024-01-02"],"granularity":"all","aggregations":[{"type":"count","name":"cnt"}]}"#;
 
-/// Steps that may be taken over a spec.
+/// Steps that may be taken over a spec. A contract sees the spec.
 #[derive(Drop)]
 struct Steps {
     spec: IngestSpec,
@@ -43,15 +43,13 @@ struct Steps {
 }
 
 impl Model for Steps {
-    ghost use Rattle.std.specs.Prelude.{List};
     ghost use Rattle.std.specs.List.{AllByRecursion};
     ghost use Rattle.dr_schema.specs.declared.schema.Schema.{Schema};
-    ghost use Rattle.dr_core.specs.declared.step.Step.{Step};
     ghost use Rattle.dr_core.specs.Run.{FitsStep};
 
-    ghost Value = { Schema × List Step };
+    ghost Value = { Schema };
 
-    ghost view = { λ s. (s.spec, s.list.items) };
+    ghost view = { λ s. s.spec };
 
     ghost invariant = { λ s. AllByRecursion (FitsStep s.spec) s.list.items };
 }
@@ -67,7 +65,7 @@ impl Steps {
 
     #[tactic(auto, using(dr_cuts::proofs::Each::all_push))]
     fn push(&mut self, step: Step) -> Result<(), AllocError>
-        requires { FitsStep self.old.0 step }
+        requires { FitsStep self.old step }
     {
         self.list.push(step)?;
         Ok(())
