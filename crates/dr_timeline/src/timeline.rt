@@ -11,12 +11,12 @@ ghost use Rattle.dr_cuts.specs.Segments.{pinned};
 ghost use Rattle.dr_schema.specs.Fits.{FitsSchema};
 ghost use Rattle.dr_schema.specs.WellFormed.{IsWellFormed};
 
+use crate::chunk_of::chunk_start;
 use crate::outcome::Outcome;
 use crate::planned::{job_over, least_version, place_of_job};
 use crate::snapshot::Snapshot;
 use crate::stats::Stats;
 use crate::timeline_error::TimelineError;
-use crate::chunk_of::chunk_start;
 use dr_base::Event;
 use dr_chunks::{Chunks, PinnedRanges, SealedRange, Stream};
 use dr_merge::{Fragment, Job, Purpose, SharedFragment};
