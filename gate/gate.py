@@ -155,7 +155,7 @@ class Run:
         self.gate.pass_one(self.proofs.passed)
         for name in self.proofs.failed:
             self.gate.fail(name)
-        self.gate.ended("rt ci has ended")
+        self.gate.ended(f"rt ci has ended; {self.proofs.kept} of {len(self.proofs.done)} crates were proved by an earlier run on this machine")
         for _ in range(self.lanes - self.beside):
             self.free_lanes.release()
         if not has_run_cases:

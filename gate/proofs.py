@@ -1,4 +1,8 @@
-"""`rt ci` over a copy of the repository: every crate and its tests proved from nothing, the tests and the program run."""
+"""`rt ci` over a copy of the repository: every crate and its tests proved, the tests and the program run.
+
+What `rt ci` proved it keeps beside the toolchain, on this machine alone, by the checksums of all that a proof reads; a crate
+whose sources, libraries and toolchain are the same isn't proved again there. On a new machine every proof is made anew.
+"""
 import os
 import re
 import subprocess
@@ -6,7 +10,7 @@ import threading
 
 from prover import ends_with_us
 
-PROVED = re.compile(r"rt: (\w+)(: its tests are)? (proved|NOT PROVED.*)")
+PROVED = re.compile(r"rt: (\w+)(: its tests are)? (proved|NOT PROVED.*|is kept: .*)")
 RESULT = re.compile(r"(\d+) passed, (\d+) failed")
 
 
@@ -16,7 +20,7 @@ class Proofs(threading.Thread):
     def __init__(self, tree, jobs, on_proved, say):
         super().__init__()
         self.tree, self.jobs, self.on_proved, self.say = tree, jobs, on_proved, say
-        self.done, self.passed, self.failed = [], 0, []
+        self.done, self.kept, self.passed, self.failed = [], 0, 0, []
 
     def run(self):
         words = {"cwd": self.tree.top, "stdin": subprocess.DEVNULL, "stdout": subprocess.PIPE, "stderr": subprocess.STDOUT}
@@ -40,13 +44,15 @@ class Proofs(threading.Thread):
     def tell(self, found, kept):
         """A crate, or its tests, are proved, or not: then what was said of them is told whole."""
         crate, tests, how = found[1], found[2], found[3]
-        if how != "proved":
+        if how.startswith("NOT PROVED"):
             self.say("\n".join(kept))
         elif tests:
             self.say(f"the tests of {crate} are proved")
         else:
             self.done.append(crate)
-            self.say(f"{crate} is proved ({len(self.done)} of {len(self.tree.uses)})")
+            self.kept += how != "proved"
+            was = "is proved" if how == "proved" else "was proved before, of the same bytes"
+            self.say(f"{crate} {was} ({len(self.done)} of {len(self.tree.uses)})")
             self.on_proved(crate)
 
     def under_way(self):

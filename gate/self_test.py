@@ -24,7 +24,8 @@ if verb == "ci":
     for crate in ("low", "dr_cli"):
         os.makedirs(f"crates/{crate}/out", exist_ok=True)
     print("== low\\nfn low::f: " + ("not proved" if fault == "proof" else "proved"))
-    print("rt: low " + ("NOT PROVED" if fault == "proof" else "proved"))
+    of_low = {"proof": "NOT PROVED", "kept": "is kept: an earlier run on this machine proved the same files", "kept edit": "is kept: so"}
+    print("rt: low " + of_low.get(fault, "proved"))
     if fault == "proof":
         print("rt: FAILED: low dr_cli\\n0 passed, 2 failed")
         sys.exit(1)
@@ -57,7 +58,7 @@ import os, sys
 fault = os.environ.get("STUB_FAULT", "")
 with open("src/lib.rt") as it:
     wrong = "wrong" in it.read()
-refused = wrong and fault != "edit" or fault == "control"
+refused = wrong and fault not in ("edit", "kept edit") or fault == "control"
 if refused:
     named = "f" if fault != "elsewhere" else "g"
     if fault == "name":
@@ -87,6 +88,8 @@ FILES = {
 FAULTS = [
     ("", {}, []),
     ("proof", {}, ["low", "dr_cli", "examples", "low/must-fail/f-is_wrong.edit"]),
+    ("kept", {}, []),
+    ("kept edit", {}, ["low/must-fail/f-is_wrong.edit"]),
     ("killed", {}, ["rt ci ended with status 137"]),
     ("no program", {}, ["the program"]),
     ("test", {}, ["low(tests)"]),
