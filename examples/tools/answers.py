@@ -1,16 +1,19 @@
 """Prints what a script has to print, by the definitions alone: a plain and slow program beside the node, which shares nothing with it.
 
 It keeps one list of events, rolls each range up from its events whenever a query comes, and filters, groups and folds row by row. It
-knows timeseries and groupBy queries, seals, merges, jobs, pins, audits and counters; a scan and a filtered aggregation are refused.
+knows timeseries, groupBy and scan queries, seals, merges, publications with their images, jobs, pins, audits and counters; a filtered
+aggregation is refused.
 
     python3 answers.py < NAME.script             prints the output, and ends with the status
     python3 answers.py --write NAME.script ..    writes NAME.out, and NAME.status where the status isn't 0
     python3 answers.py --compare NAME.script ..  tells where the files beside a script differ, and ends with 1 if they do
 """
 
+import hashlib
 import json
 import os
 import re
+import struct
 import sys
 from datetime import date, datetime, timedelta
 
@@ -195,6 +198,9 @@ def parse_instant(text):
 def print_instant(time):
     if time == ETERNITY_START:
         return ETERNITY.split("/")[0]
+    if time > LAST_TIME:
+        # the end of a bucket, a few days behind the last year that the calendar here knows
+        return "10000-01-%02dT00:00:00.000Z" % (1 + (time - LAST_TIME - 1) // DAY)
     moment = datetime(1970, 1, 1) + timedelta(milliseconds=time)
     return "%04d-%02d-%02dT%02d:%02d:%02d.%03dZ" % (*moment.timetuple()[:6], time % 1000)
 
@@ -320,7 +326,7 @@ class Spec:
         self.max_rows = bounded(tuning, "maxRowsInMemory", 1000, 1, 1048576)
         self.max_retained = bounded(tuning, "maxRetained", 1048576, 1, 1048576)
         self.max_commits = bounded(tuning, "maxCommits", 4294967295, 1, 4294967295)
-        bounded(tuning, "maxImageBytes", 1073741824, 1, 1073741824)
+        self.max_image = bounded(tuning, "maxImageBytes", 1073741824, 1, 1073741824)
 
     def read_time(self, record):
         self.column = optional(record, "column", str, "timestamp")
@@ -468,6 +474,42 @@ def rollup(spec, events):
     return sorted(rows, key=lambda row: (row[0], by_bytes(row[1])))
 
 
+# Images
+
+
+def words_of(numbers):
+    return struct.pack("<%dI" % len(numbers), *numbers)
+
+
+def column_bytes(values):
+    """A dimension of an image, by the values of its rows."""
+    texts = [it.encode() for it in values]
+    dictionary = sorted(set(texts))
+    numbers = [dictionary.index(it) for it in texts]
+    lists = [[i for i, it in enumerate(numbers) if it == v] for v in range(len(dictionary))]
+    ends = lambda parts: [sum(map(len, parts[: i + 1])) for i in range(len(parts))]
+    found = words_of([len(dictionary), sum(map(len, dictionary))]) + words_of(ends(dictionary)) + b"".join(dictionary)
+    return found + words_of(numbers) + words_of(ends(lists)) + b"".join(map(words_of, lists))
+
+
+def image_of(spec, chunk, low, high, rows):
+    """The bytes of the image of some rows, version 1."""
+    longs = lambda numbers: struct.pack("<%dq" % len(numbers), *numbers)
+    data = longs([it[0] for it in rows]) + b"".join(longs([it[2][m] for it in rows]) for m in range(len(spec.metrics)))
+    data += b"".join(column_bytes([it[1][d] for it in rows]) for d in range(len(spec.dimensions)))
+    head = b"DRSG" + struct.pack("<HH", 1, 1 if spec.rollup else 0) + struct.pack("<QqQQ", 80 + len(data), chunk, low, high)
+    whole = head + struct.pack("<HHI", len(spec.dimensions), len(spec.metrics), len(rows)) + data
+    return whole + hashlib.sha256(whole).digest()
+
+
+def image_within(spec, chunk, low, high, events):
+    """The image of the rollup of some events, where it isn't too large."""
+    image = image_of(spec, chunk, low, high, rollup(spec, events))
+    if len(image) > spec.max_image:
+        raise Refusal(59, "ImageTooLarge")
+    return image
+
+
 # Filters
 
 
@@ -588,14 +630,18 @@ class Query:
         self.kind = required(record, "queryType", str)
         if self.kind not in ("timeseries", "groupBy", "scan"):
             raise Refusal(70, "UnknownQueryType", self.kind)
-        if self.kind == "scan":
-            raise unsupported("scan")
         self.read_source(required(record, "dataSource"))
         self.intervals = [it for it in intervals_of(required(record, "intervals"), unsupported) if it[0] < it[1]]
+        listed = ["queryType", "dataSource", "intervals", "granularity", "filter", "context"]
+        if self.kind == "scan":
+            self.read_scan(record)
+            listed += ["columns", "order", "resultFormat", "batchSize", "offset", "limit"]
+            self.read_context(optional(record, "context", dict, {}))
+            return no_more_keys(record, listed, unsupported)
         self.granularity = parse_granularity(required(record, "granularity"))
         self.filter = None if record.get("filter") is None else Filter(record["filter"], spec)
         self.aggregations = [self.aggregation(it) for it in optional(record, "aggregations", list, [])]
-        listed = ["queryType", "dataSource", "intervals", "granularity", "filter", "aggregations", "context"]
+        listed += ["aggregations"]
         if self.kind == "groupBy":
             self.read_group_by(record)
             listed += ["dimensions", "having", "limitSpec"]
@@ -713,7 +759,62 @@ class Query:
             if record.get(name) is not None and record[name] is not False:
                 raise unsupported(name)
 
+    def read_scan(self, record):
+        if record.get("granularity") is not None and parse_granularity(record["granularity"]) != "all":
+            raise unsupported("granularity")
+        self.filter = None if record.get("filter") is None else Filter(record["filter"], self.spec)
+        self.columns = []
+        for name in optional(record, "columns", list, []):
+            if of_kind(name, str, "columns") in self.columns:
+                raise Refusal(72, "DuplicateOutput", name)
+            self.columns.append(name)
+        if not self.columns:
+            self.columns = ["__time", *self.spec.dimensions, *(it[1] for it in self.spec.metrics)]
+        self.order = optional(record, "order", str, "none")
+        if self.order not in ("none", "ascending", "descending"):
+            raise unsupported(self.order)
+        self.format = optional(record, "resultFormat", str, "list")
+        if self.format not in ("list", "compactedList"):
+            raise unsupported(self.format)
+        self.batch = bounded(record, "batchSize", 20480, 1, 2**64 - 1)
+        self.offset = bounded(record, "offset", 0, 0, 2**64 - 1)
+        self.limit = bounded(record, "limit", 0, 0, 2**64 - 1)
+
     # The answer
+
+    def selects(self, row):
+        return lies_in(row[0], self.intervals) and (self.filter is None or self.filter.holds(row[0], row[1]))
+
+    def scanned(self, pieces):
+        """The text of a scan over pieces, each an identifier and its rows."""
+        spec, entries, left, offset = self.spec, [], self.limit or None, self.offset
+        if self.order != "none":
+            rows = [row for _, piece in pieces for row in piece]
+            rows.sort(key=lambda row: row[0] if self.order == "ascending" else -row[0])
+            pieces = [(None, rows)]
+        for name, rows in pieces:
+            rows = [row for row in rows if self.selects(row)]
+            rows, offset = rows[offset:], max(offset - len(rows), 0)
+            rows = rows[:left]
+            left = None if left is None else left - len(rows)
+            batch = self.batch if self.order == "none" else max(len(rows), 1)
+            entries += [(name, rows[i : i + batch]) for i in range(0, len(rows), batch)]
+        places = {it: i for i, it in enumerate(spec.dimensions)}, {it[1]: i for i, it in enumerate(spec.metrics)}
+
+        def value(row, column):
+            if column == "__time":
+                return row[0]
+            if column in places[0]:
+                return row[1][places[0][column]] or None
+            return row[2][places[1][column]] if column in places[1] else None
+
+        printed = []
+        for name, rows in entries:
+            events = [[value(row, it) for it in self.columns] for row in rows]
+            if self.format == "list":
+                events = [dict(zip(self.columns, it)) for it in events]
+            printed.append({"columns": self.columns, "events": events, "segmentId": name})
+        return text_of(printed)
 
     def bucket(self, time):
         return min(it[0] for it in self.intervals) if self.granularity == "all" else truncate(self.granularity, time)
@@ -748,7 +849,7 @@ class Query:
             if len(selected) > MOST_GROUPS:
                 return selected
         for row in rows:
-            if lies_in(row[0], self.intervals) and (self.filter is None or self.filter.holds(row[0], row[1])):
+            if self.selects(row):
                 dims = tuple(dict(zip(names, row[1])).get(it[0], "") for it in self.dimensions)
                 selected.setdefault((self.bucket(row[0]), dims), []).append(row)
         return {key: [self.fold(it, group) for it in self.aggregations] for key, group in selected.items()}
@@ -831,10 +932,10 @@ class Having:
 
 
 class Chunk:
-    """The events of a chunk, its sealed ranges (from, to, serial), and where the open range starts."""
+    """The events of a chunk, its sealed ranges (from, to, serial, version), where the open range starts, and how many publications there were."""
 
     def __init__(self):
-        self.events, self.sealed, self.open, self.open_keys = [], [], 0, set()
+        self.events, self.sealed, self.open, self.open_keys, self.publications = [], [], 0, set(), 0
 
 
 class Timeline:
@@ -861,7 +962,7 @@ class Timeline:
         return "accepted %d" % (len(self.events) - 1)
 
     def close(self, chunk):
-        chunk.sealed.append((chunk.open, len(chunk.events), self.serials))
+        chunk.sealed.append((chunk.open, len(chunk.events), self.serials, 0))
         chunk.open, chunk.open_keys = len(chunk.events), set()
         self.serials += 1
 
@@ -872,30 +973,47 @@ class Timeline:
         self.close(chunk)
         return "sealed"
 
-    def plan(self, start, low, high):
+    def plan(self, start, low, high, purpose):
         chunk = self.chunks.get(start)
         if not low < high <= (len(chunk.sealed) if chunk else 0):
             raise Refusal(92, "NoSuchRange")
-        return start, chunk.sealed[low:high]
+        return start, chunk.sealed[low:high], purpose
 
     def commit(self, job):
-        sealed, ranges = self.chunks[job[0]].sealed, job[1]
-        found = [i for i in range(len(sealed)) if sealed[i : i + len(ranges)] == ranges]
+        """Commits a job, and answers the version of the new range."""
+        start, ranges, purpose = job
+        chunk = self.chunks[start]
+        low, high = ranges[0][0], ranges[-1][1]
+        image_within(self.spec, start, low, high, chunk.events[low:high])
+        found = [i for i in range(len(chunk.sealed)) if chunk.sealed[i : i + len(ranges)] == ranges]
         if not found:
             raise Refusal(93, "Stale")
         if self.commits == self.spec.max_commits:
             raise Refusal(95, "CommitsFull")
-        sealed[found[0] : found[0] + len(ranges)] = [(ranges[0][0], ranges[-1][1], self.serials)]
+        chunk.publications += purpose == "publish"
+        version = chunk.publications if purpose == "publish" else min(it[3] for it in ranges)
+        chunk.sealed[found[0] : found[0] + len(ranges)] = [(low, high, self.serials, version)]
         self.serials += 1
         self.commits += 1
+        return version
+
+    def image(self, start, place):
+        chunk = self.chunks.get(start)
+        if place >= (len(chunk.sealed) if chunk else 0):
+            raise Refusal(92, "NoSuchRange")
+        low, high = chunk.sealed[place][:2]
+        return image_within(self.spec, start, low, high, chunk.events[low:high]).hex()
 
     def snapshot(self):
-        """The events, and of each chunk the pieces of its events."""
-        pieces = []
+        """The events, and of each chunk the pieces of its events, each with the identifier of its segment."""
+        spec, pieces = self.spec, []
         for start in sorted(self.chunks):
             chunk = self.chunks[start]
-            ends = [it[:2] for it in chunk.sealed] + [(chunk.open, len(chunk.events))]
-            pieces += [chunk.events[low:high] for low, high in ends]
+            ranges = [(*it[:2], it[3]) for it in chunk.sealed] + [(chunk.open, len(chunk.events), 0)]
+            ends = print_instant(start) + "_" + print_instant(next_start(spec.segment, start))
+            for place, (low, high, version) in enumerate(ranges):
+                name = "%s_%s_%s%s" % (spec.source, ends, "v%d" % version if version else "r", "_%d" % place if place else "")
+                pieces += [(name, chunk.events[low:high])] if low < high else []
         return list(self.events), pieces
 
 
@@ -903,8 +1021,19 @@ def raw_rows(spec, snapshot):
     return [unrolled(spec, it) for it in snapshot[0]]
 
 
-def rows_of(spec, snapshot):
-    return [row for piece in snapshot[1] for row in rollup(spec, piece)]
+def answer(spec, text, snapshot):
+    """The answer to a query over the rows of a snapshot."""
+    query, pieces = Query(text, spec), [(name, rollup(spec, piece)) for name, piece in snapshot[1]]
+    if query.kind == "scan":
+        return query.scanned(pieces)
+    return query.answer([row for _, rows in pieces for row in rows])
+
+
+def audit(spec, text, snapshot):
+    query = Query(text, spec)
+    if query.kind == "scan":
+        raise unsupported("scan")
+    return query.answer(raw_rows(spec, snapshot))
 
 
 # Scripts
@@ -944,14 +1073,17 @@ def reply(timeline, line):
         return timeline.accept(rest)
     if words[0] == b"seal" and len(words) == 2 and words[1]:
         return timeline.seal(chunk_of(words[1]))
-    if words[0] == b"merge":
+    if words[0] in (b"merge", b"publish"):
         instant, low, high = places(words[1:])
-        timeline.commit(timeline.plan(chunk_of(instant), low, high))
-        return "merged"
-    if words[:2] == [b"plan", b"merge"]:
+        version = timeline.commit(timeline.plan(chunk_of(instant), low, high, words[0].decode()))
+        return "merged" if words[0] == b"merge" else "published v%d" % version
+    if words[:2] in ([b"plan", b"merge"], [b"plan", b"publish"]):
         instant, low, high = places(words[2:])
-        timeline.jobs.append(timeline.plan(chunk_of(instant), low, high))
+        timeline.jobs.append(timeline.plan(chunk_of(instant), low, high, words[1].decode()))
         return "job %d" % (len(timeline.jobs) - 1)
+    if words[0] == b"image" and len(words) == 3 and words[1]:
+        place = number_of(words[2])
+        return timeline.image(chunk_of(words[1]), place)
     if words[0] == b"commit" and len(words) == 2:
         number = number_of(words[1])
         if number >= len(timeline.jobs):
@@ -962,14 +1094,14 @@ def reply(timeline, line):
         timeline.pins.append(timeline.snapshot())
         return "pin %d" % (len(timeline.pins) - 1)
     if word == b"query" and b" " in line:
-        return Query(rest, spec).answer(rows_of(spec, timeline.snapshot()))
+        return answer(spec, rest, timeline.snapshot())
     if word == b"audit" and b" " in line:
-        return Query(rest, spec).answer(raw_rows(spec, timeline.snapshot()))
+        return audit(spec, rest, timeline.snapshot())
     if word == b"at" and len(words) > 2:
         number = number_of(words[1])
         if number >= len(timeline.pins):
             raise bad_command()
-        return Query(rest.partition(b" ")[2], spec).answer(rows_of(spec, timeline.pins[number]))
+        return answer(spec, rest.partition(b" ")[2], timeline.pins[number])
     if line == b"stats":
         return "processed %d unparseable %d thrownAway 0" % (timeline.processed, timeline.unparseable)
     raise bad_command()

@@ -1,10 +1,10 @@
-"""Writes random scripts with what they have to print by answers.py: specs, events, seals, merges, jobs and pins, and queries of the
-whole profile, some of which are spoiled in one place. Script number N is the same each time.
+"""Writes random scripts with what they have to print by answers.py: specs, events, seals, merges, publications, images, jobs and pins,
+and queries of the whole profile, some of which are spoiled in one place. Script number N is the same each time.
 
     python3 random_queries.py FOLDER FIRST COUNT                 writes FOLDER/random_N.script, .out and .status
-    python3 random_queries.py FOLDER FIRST COUNT PROGRAM         runs PROGRAM run over each, and writes those only that differ
+    python3 random_queries.py FOLDER FIRST COUNT PROGRAM [W ..]  runs PROGRAM run over each, and writes those only that differ
 
-With a program it ends with 1 where one differs.
+With numbers of workers W the program is run once with each of them, by --workers W. With a program it ends with 1 where one differs.
 """
 
 import copy
@@ -50,10 +50,10 @@ class Writer:
         metrics = [{"type": kind, "name": name} | ({} if kind == "count" else {"fieldName": "f" + name}) for name, kind in self.metrics]
         schema = {"dataSource": "w", "timestampSpec": {"column": "t", "format": self.format}, "dimensionsSpec": {"dimensions": self.dims}}
         grans = {"segmentGranularity": segment, "queryGranularity": r.choice(fits + ["none"]), "rollup": r.random() < 0.8}
-        return {
-            "dataSchema": schema | {"metricsSpec": metrics, "granularitySpec": grans},
-            "tuningConfig": {"maxRowsInMemory": r.choice([1, 2, 3, 1000, 1000]), "maxCommits": r.choice([1, 3, 1000])},
-        }
+        limits = {"maxRowsInMemory": r.choice([1, 2, 3, 1000, 1000]), "maxCommits": r.choice([1, 3, 1000])}
+        if r.random() < 0.2:
+            limits["maxImageBytes"] = r.choice([100, 150, 200, 300, 500])
+        return {"dataSchema": schema | {"metricsSpec": metrics, "granularitySpec": grans}, "tuningConfig": limits}
 
     def time(self):
         return self.start + self.random.choice([0, self.spread, self.random.randint(0, self.spread)])
@@ -136,6 +136,9 @@ class Writer:
 
     def query(self):
         r, sometimes = self.random, lambda chance: self.random.random() < chance
+        if sometimes(0.25):
+            query = self.scan()
+            return self.spoiled(query) if sometimes(0.2) else query
         query = {"queryType": r.choice(["timeseries", "groupBy"]), "dataSource": "w", "intervals": self.intervals()}
         query["granularity"] = r.choice([*self.grans, *self.grans, *self.grans, "all", "all", r.choice(answers.NAMES)])
         query["aggregations"] = self.aggregations()
@@ -154,6 +157,16 @@ class Writer:
                 query["limit"] = r.choice([1, 2, 5, 40])
             query["context"] = {"skipEmptyBuckets": r.choice([True, False, False, "true"])}
         return self.spoiled(query) if sometimes(0.25) else query
+
+    def scan(self):
+        r, sometimes = self.random, lambda chance: self.random.random() < chance
+        query = {"queryType": "scan", "dataSource": "w", "intervals": self.intervals()}
+        names = ["__time", "nope", *self.dims, *(it[0] for it in self.metrics)]
+        choices = {"columns": [it for it in names if sometimes(0.5)], "filter": self.filter(), "order": r.choice(["none", "ascending", "descending"])}
+        choices |= {"resultFormat": r.choice(["list", "compactedList"]), "batchSize": r.choice([1, 2, 3, 100]), "granularity": r.choice(["all", {"type": "ALL"}])}
+        choices |= {"offset": r.choice([0, 1, 2, 5, 50]), "limit": r.choice([0, 1, 2, 3, 10])}
+        r.shuffle(choices["columns"])
+        return query | {name: value for name, value in choices.items() if sometimes(0.5)}
 
     def spoiled(self, query):
         """The query with one value changed, left out or added somewhere."""
@@ -178,14 +191,15 @@ class Writer:
 
     def command(self):
         r = self.random
-        kinds = ["seal"] * 3 + ["merge", "plan", "pin", "stats", "query", "query", "query", "query", "audit"]
+        kinds = ["seal"] * 3 + ["merge", "publish", "publish", "plan", "image", "pin", "stats", "query", "query", "query", "query", "audit"]
         kind = r.choice(kinds + ["commit"] * (self.jobs > 0) + ["at"] * 2 * (self.pins > 0))
         places = "%s %d %d" % (self.instant(), r.choice([0, 0, 1]), r.choice([1, 2, 2, 3]))
         if kind == "plan":
             self.jobs += 1
         if kind == "pin":
             self.pins += 1
-        texts = {"seal": "seal " + self.instant(), "merge": "merge " + places, "plan": "plan merge " + places}
+        texts = {"seal": "seal " + self.instant(), "merge": "merge " + places, "publish": "publish " + places}
+        texts |= {"plan": "plan %s %s" % (r.choice(["merge", "publish"]), places), "image": "image %s %d" % (self.instant(), r.choice([0, 0, 1, 2]))}
         texts |= {"commit": "commit %d" % r.randint(0, max(0, self.jobs - 1)), "pin": "pin", "stats": "stats"}
         texts |= {it: it + " " + compact(self.query()) for it in ("query", "audit")}
         texts["at"] = "at %d %s" % (r.randint(0, max(0, self.pins - 1)), compact(self.query()))
@@ -199,15 +213,16 @@ class Writer:
         return ("\n".join(lines) + "\n").encode()
 
 
-def main(folder, first, count, program=None):
+def main(folder, first, count, program=None, *workers):
     differ = 0
     os.makedirs(folder, exist_ok=True)
+    runs = [[program, "run", "--workers", it] for it in workers] or [[program, "run"]]
     for number in range(int(first), int(first) + int(count)):
         script = Writer(number).script()
         wanted = answers.run(script)
         if program:
-            ran = subprocess.run(["timeout", "60", program, "run"], input=script, capture_output=True, check=False)
-            if (ran.stdout, ran.returncode) == wanted:
+            ran = [subprocess.run(["timeout", "60", *it], input=script, capture_output=True, check=False) for it in runs]
+            if all((it.stdout, it.returncode) == wanted for it in ran):
                 continue
             differ += 1
             print("script %d differs" % number)
