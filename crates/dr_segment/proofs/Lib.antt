@@ -1,2 +1,4 @@
-pub mod ColumnLemmas
-pub mod WritingLemmas
+mod ColumnLemmas
+mod CountingLemmas
+mod RankingLemmas
+mod WritingLemmas

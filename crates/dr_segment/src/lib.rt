@@ -1,9 +1,15 @@
 //! The image of the rows of a sealed range, written. Which bytes it is, is defined in `dr_image`.
 #![tactic(auto)]
 
-mod column;
+mod columns;
+mod dimension;
 mod encoding;
+mod first_values;
+mod gathering;
 mod head;
+mod ranking;
+mod row_lists;
+mod size;
 mod writing;
 
 pub use encoding::encode;
