@@ -1,4 +1,5 @@
 mod ColumnLemmas
 mod CountingLemmas
 mod RankingLemmas
+mod TableLemmas
 mod WritingLemmas

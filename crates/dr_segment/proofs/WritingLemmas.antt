@@ -12,7 +12,7 @@ use Rattle.std.proofs.lemmas.List.Folds.{length-flat_map-take}
 use Rattle.dr_image.proofs.DecodingLemmas.{length-column as column_length}
 use Rattle.dr_image.proofs.SpellingLemmas.{length-spelled_longs}
 use Rattle.dr_segment.specs.declared.dimension.Dimension.{Dimension}
-use Rattle.dr_segment.specs.Columns.{column_with, column_seen}
+use Rattle.dr_segment.specs.Tables.{column_with, column_seen}
 use Rattle.dr_segment.proofs.CountingLemmas.{joined_long, length-lists}
 use Rattle.dr_base.specs.declared.row.Row.{Row}
 use Rattle.std.specs.Prelude.{if◌then◌else◌}

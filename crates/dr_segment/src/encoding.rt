@@ -2,7 +2,8 @@ ghost use Rattle.std.specs.Prelude.{◌≡◌, ◌≤◌, length, IfOk, OnOk};
 ghost use Rattle.dr_base.specs.Reading.{GivesUnless};
 ghost use Rattle.dr_image.specs.Image.{with_digest, bytes_of};
 ghost use Rattle.dr_segment.specs.Encoding.{sealed, encoded, bounded, is_memory};
-ghost use Rattle.dr_segment.specs.Columns.{table_seen};
+ghost use Rattle.dr_segment.specs.Tables.{table_seen, StandForRows};
+ghost use Rattle.dr_image.specs.Laws.{sealed_by};
 
 use crate::columns::Columns;
 use crate::gathering::columns_of;
@@ -44,6 +45,19 @@ pub fn encode(
     let empty = Text::from_str(alloc, "")?;
     let columns = columns_of(alloc, schema, chunk, from, to, rows, &empty)?;
     written(alloc, schema.limits().max_image_bytes, &columns)
+}
+
+/// The image of rows that are given by their columns, as `encode` writes it. Refusals: 59 `ImageTooLarge` exactly where it has more
+/// than `most` bytes.
+///
+/// It takes time by the bytes of the image, whose memory is taken at once and only where it isn't too large. Beside it, it takes 4
+/// bytes for a row and some 8 for a value of one dimension after another.
+pub fn encode_columns(alloc: Global, most: u64, columns: &Columns) -> Result<Vec<u8>, ImageError>
+    requires bound { most ≤ 1073741824 }
+    requires rows { StandForRows (table_seen columns.now) }
+    ensures { GivesUnless is_memory (λ bytes. bytes.items) result (encoded most (sealed_by (table_seen columns.now))) }
+{
+    written(alloc, most, columns)
 }
 
 // The image of columns, where it isn't too large.

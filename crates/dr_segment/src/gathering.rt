@@ -2,7 +2,7 @@ ghost use Rattle.std.specs.Prelude.{◌≡◌, ◌≤◌, [], pos, length, map, 
 ghost use Rattle.std.specs.List.{range_with_len};
 ghost use Rattle.dr_image.specs.Image.{values_of, metric_of, column_of, table_of};
 ghost use Rattle.dr_segment.specs.Encoding.{sealed};
-ghost use Rattle.dr_segment.specs.Columns.{column_seen, table_seen};
+ghost use Rattle.dr_segment.specs.Tables.{column_seen, table_seen};
 
 use crate::columns::Columns;
 use crate::dimension::Dimension;

@@ -1,4 +1,4 @@
-//! The image of the rows of a sealed range, written. Which bytes it is, is defined in `dr_image`.
+//! The image of the rows of a sealed range, written from the rows or from their columns. Which bytes it is, is defined in `dr_image`.
 #![tactic(auto)]
 
 mod columns;
@@ -12,4 +12,6 @@ mod row_lists;
 mod size;
 mod writing;
 
-pub use encoding::encode;
+pub use columns::Columns;
+pub use dimension::Dimension;
+pub use encoding::{encode, encode_columns};

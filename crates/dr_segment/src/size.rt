@@ -1,7 +1,7 @@
 ghost use Rattle.std.specs.Prelude.{◌≡◌, length, min};
 ghost use Rattle.dr_image.specs.Words.{spelled_longs};
 ghost use Rattle.dr_image.specs.Image.{bytes_of_column, bytes_of};
-ghost use Rattle.dr_segment.specs.Columns.{column_seen, table_seen};
+ghost use Rattle.dr_segment.specs.Tables.{column_seen, table_seen};
 
 use crate::columns::Columns;
 use crate::dimension::Dimension;

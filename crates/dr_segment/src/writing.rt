@@ -3,7 +3,7 @@ ghost use Rattle.std.specs.List.{flat_map};
 ghost use Rattle.dr_image.specs.Words.{four_bytes, eight_bytes, spelled_words, spelled_longs};
 ghost use Rattle.dr_image.specs.Pieces.{ends_from};
 ghost use Rattle.dr_image.specs.Image.{joined, bytes_of_column};
-ghost use Rattle.dr_segment.specs.Columns.{column_seen};
+ghost use Rattle.dr_segment.specs.Tables.{column_seen};
 
 use crate::dimension::Dimension;
 use crate::row_lists::row_lists;

@@ -8,7 +8,7 @@ use Rattle.dr_image.specs.Image.{bytes_of_column}
 use Rattle.dr_segment.specs.Heads.{head_bytes}
 use Rattle.dr_segment.specs.declared.head.Head.{Head}
 use Rattle.dr_segment.specs.declared.dimension.Dimension.{Dimension}
-use Rattle.dr_segment.specs.Columns.{column_seen, table_seen}
+use Rattle.dr_segment.specs.Tables.{column_seen, table_seen}
 use Rattle.dr_segment.proofs.WritingLemmas.{image_is, each_few, length-bytes, length-data}
 use Rattle.dr_segment.proofs.encoding.image_of.Goals as goal
 

@@ -3,7 +3,8 @@ use Rattle.std.proofs.lemmas.List.{length-map}
 use Rattle.std.proofs.lemmas.List.Sorted.{length_permutation}
 use Rattle.dr_image.specs.Image.{values_of, number_in}
 use Rattle.dr_segment.specs.declared.ranking.PlacedText.{PlacedText}
-use Rattle.dr_segment.specs.Columns.{AreRanked, AreRanks, column_with}
+use Rattle.dr_segment.specs.Columns.{AreRanked, AreRanks}
+use Rattle.dr_segment.specs.Tables.{column_with}
 use Rattle.dr_segment.proofs.RankingLemmas.{inside, apart, dictionary, firsts_known, numbers, numbers_low}
 use Rattle.dr_segment.proofs.gathering.dimension_of_rows.Goals as goal
 use Rattle.dr_segment.proofs.gathering.dimension_of_rows.Goals.{After-as_slice-2, After-as_slice-4, In_ok-dictionary}

@@ -2,7 +2,7 @@ use Rattle.std.proofs.Common.{◌∙◌, sym, ap, map, [], ◌∷◌, ◌++◌, 
 use Rattle.std.proofs.lemmas.List.{map-append}
 use Rattle.std.proofs.lemmas.List.FromFn.{map-range_with_len_more}
 use Rattle.dr_image.specs.Image.{column_of, values_of}
-use Rattle.dr_segment.specs.Columns.{column_seen}
+use Rattle.dr_segment.specs.Tables.{column_seen}
 use Rattle.dr_segment.proofs.gathering.dimensions_of.Goals as goal
 
 pub loop-d-preserved : goal.loop-d-preserved

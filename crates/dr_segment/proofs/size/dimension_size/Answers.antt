@@ -1,7 +1,7 @@
 use Rattle.std.proofs.Common.{◌≡◌, ◌≤◌, ap, length, map, take, arith, Bor, List, ℕ}
 use Rattle.std.proofs.lemmas.List.{length-map, take_all}
 use Rattle.dr_image.specs.Image.{joined}
-use Rattle.dr_segment.specs.Columns.{column_seen}
+use Rattle.dr_segment.specs.Tables.{column_seen}
 use Rattle.dr_segment.proofs.WritingLemmas.{length-column, known}
 use Rattle.dr_segment.proofs.size.dimension_size.Goals as goal
 

@@ -4,7 +4,7 @@ use Rattle.std.proofs.lemmas.List.{take_all}
 use Rattle.dr_image.specs.Words.{spelled_longs}
 use Rattle.dr_image.specs.Image.{bytes_of_column}
 use Rattle.dr_segment.specs.declared.dimension.Dimension.{Dimension}
-use Rattle.dr_segment.specs.Columns.{column_seen, table_seen}
+use Rattle.dr_segment.specs.Tables.{column_seen, table_seen}
 use Rattle.dr_segment.proofs.WritingLemmas.{length-bytes, length-data, flat_map-map}
 use Rattle.dr_segment.proofs.size.image_size.Goals as goal
 

@@ -2,7 +2,7 @@ use Rattle.std.proofs.Common.{◌≡◌, ◌+◌, length, take, min}
 use Rattle.std.specs.List.{flat_map}
 use Rattle.dr_image.specs.Words.{spelled_longs}
 use Rattle.dr_image.specs.Image.{bytes_of_column}
-use Rattle.dr_segment.specs.Columns.{column_seen}
+use Rattle.dr_segment.specs.Tables.{column_seen}
 use Rattle.dr_segment.proofs.size.image_size.Given as goal
 
 -- the sizes so far

@@ -3,7 +3,7 @@ use Rattle.std.proofs.lemmas.List.{length-map}
 use Rattle.dr_image.specs.Words.{spelled_words}
 use Rattle.dr_image.specs.Pieces.{ends_from}
 use Rattle.dr_image.specs.Image.{joined, lists_of}
-use Rattle.dr_segment.specs.Columns.{column_seen}
+use Rattle.dr_segment.specs.Tables.{column_seen}
 use Rattle.dr_segment.proofs.WritingLemmas.{dimension_by, known}
 use Rattle.dr_segment.proofs.writing.put_dimension.Goals as goal
 use Rattle.dr_segment.proofs.writing.put_dimension.Goals.{After-len}

@@ -1,7 +1,7 @@
 use Rattle.std.proofs.Common.{◌∙◌, sym, ap, subst, length, ◌≤◌, ◌++◌}
 use Rattle.dr_segment.specs.declared.dimension.Dimension.{Dimension}
 use Rattle.dr_image.specs.Image.{bytes_of_column}
-use Rattle.dr_segment.specs.Columns.{column_seen}
+use Rattle.dr_segment.specs.Tables.{column_seen}
 use Rattle.dr_segment.proofs.WritingLemmas.{all_of_them, flat_map-map, one_more}
 use Rattle.dr_segment.proofs.writing.put_dimensions.Goals as goal
 
