@@ -1,5 +1,6 @@
 mod ColumnLemmas
 mod CountingLemmas
+mod GatheringLemmas
 mod RankingLemmas
 mod TableLemmas
 mod WritingLemmas

@@ -1,17 +1,17 @@
 -- Columns that stand for rows are those of the rows.
-use Rattle.std.proofs.Common.{◌≡◌, ◌∙◌, ap, refl, ℕ, zero, suc, ◌<◌, true, ◌&&◌, List, [], ◌∷◌, length, map, get_or, arith, All, Contains, IsUtf8}
+use Rattle.std.proofs.Common.{◌≡◌, ◌∙◌, ap, refl, ℕ, zero, suc, ◌<◌, true, List, [], ◌∷◌, length, map, get_or, arith, All, Contains, IsUtf8}
 use Rattle.std.specs.List.{list_all}
 use Rattle.std.specs.Str.{is_utf8}
 use Rattle.std.proofs.lemmas.Bool.{and_from}
 use Rattle.std.proofs.lemmas.Str.{is_utf8-from_IsUtf8}
 use Rattle.std.proofs.lemmas.List.{get_or_default}
 use Rattle.std.proofs.lemmas.List.Elements.{All-get_or}
-use Rattle.dr_image.specs.Table.{Column, Table, no_column}
+use Rattle.dr_image.specs.Table.{Column, no_column}
 use Rattle.dr_image.specs.Image.{lists_of, image, bytes_of}
 use Rattle.dr_image.specs.Checked.{column_at}
 use Rattle.dr_image.specs.Laws.{sealed_by}
 use Rattle.dr_image.proofs.ListingLemmas.{HasRow}
-use Rattle.dr_image.proofs.TableLemmas.{IsListed, IsTable, table_again}
+use Rattle.dr_image.proofs.TableLemmas.{IsListed, table_again}
 use Rattle.dr_segment.specs.declared.dimension.Dimension.{Dimension}
 use Rattle.dr_segment.specs.declared.columns.Columns.{Columns}
 use Rattle.dr_segment.specs.Tables.{column_seen, table_seen, IsDimensionOf, StandForRows}

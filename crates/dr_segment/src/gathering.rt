@@ -1,7 +1,8 @@
-ghost use Rattle.std.specs.Prelude.{◌≡◌, ◌≤◌, [], pos, length, map, get_or, IfOk};
+ghost use Rattle.std.specs.Prelude.{◌≡◌, ◌≤◌, [], pos, length, map, get_or, IfOk, OnOk};
 ghost use Rattle.std.specs.List.{range_with_len};
 ghost use Rattle.dr_image.specs.Image.{values_of, metric_of, column_of, table_of};
 ghost use Rattle.dr_segment.specs.Encoding.{sealed};
+ghost use Rattle.dr_segment.specs.Columns.{AddsRow};
 ghost use Rattle.dr_segment.specs.Tables.{column_seen, table_seen};
 
 use crate::columns::Columns;
@@ -56,26 +57,37 @@ fn metric_at(row: &Row, m: usize) -> i64
     row.metrics.get(m).unwrap_or(0)
 }
 
-// The values of rows in a metric.
-fn metric(alloc: Global, rows: &[Row], m: usize) -> Result<Vec<i64>, AllocError>
-    ensures { IfOk result (λ values. values.items ≡ metric_of m rows.now) }
-{
-    let mut values = Vec::with_capacity(alloc, rows.len())?;
-    for row in rows {
-        values.push(metric_at(row, m))?;
-    }
-    Ok(values)
-}
-
-// The values of rows in so many metrics.
+// The values of rows in so many metrics. Each row is read once.
 fn metrics_of(alloc: Global, rows: &[Row], count: usize) -> Result<Vec<Vec<i64>>, AllocError>
     ensures { IfOk result (λ metrics. map (λ m. m.items) metrics.items ≡ map (λ m. metric_of m rows.now) (range_with_len 0 count)) }
 {
-    let mut metrics = Vec::with_capacity(alloc, count)?;
-    for m in 0..count {
-        metrics.push(metric(alloc, rows, m)?)?;
+    let mut metrics = no_values(alloc, count, rows.len())?;
+    for row in rows {
+        add_values(&mut metrics, row)?;
     }
     Ok(metrics)
+}
+
+// So many metrics without values, each with room for those of so many rows.
+fn no_values(alloc: Global, count: usize, rows: usize) -> Result<Vec<Vec<i64>>, AllocError>
+    ensures { IfOk result (λ metrics. map (λ m. m.items) metrics.items ≡ map (λ m. metric_of m []) (range_with_len 0 count)) }
+{
+    let mut metrics = Vec::with_capacity(alloc, count)?;
+    for _ in 0..count {
+        metrics.push(Vec::with_capacity(alloc, rows)?)?;
+    }
+    Ok(metrics)
+}
+
+// Adds the values of a row to those of the metrics.
+fn add_values(metrics: &mut Vec<Vec<i64>>, row: &Row) -> Result<(), AllocError>
+    ensures { OnOk result (AddsRow (map (λ m. m.items) metrics.old.items) (map (λ m. m.items) metrics.new.items) row.now.metrics (length metrics.old.items)) }
+{
+    for m in 0..metrics.len() {
+        let values = &mut metrics[m];
+        values.push(metric_at(row, m))?;
+    }
+    Ok(())
 }
 
 // So many dimensions of rows.
