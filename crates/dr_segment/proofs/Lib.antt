@@ -1,2 +1,6 @@
-pub mod ColumnLemmas
-pub mod WritingLemmas
+mod ColumnLemmas
+mod CountingLemmas
+mod GatheringLemmas
+mod RankingLemmas
+mod TableLemmas
+mod WritingLemmas

@@ -1,20 +1,26 @@
 -- Numbers and columns, written one behind the other.
-use Rattle.std.proofs.Common.{◌≡◌, ◌∙◌, sym, refl, ap, subst, ℕ, ℤ, zero, suc, ◌+◌, ◌*◌, ◌<◌, ◌≤◌, ◌%◌, ◌/◌, List, [], ◌∷◌, ◌++◌, map, length, get_or, take, arith}
+use Rattle.std.proofs.Common.{◌≡◌, ◌∙◌, sym, refl, ap, subst, ℕ, ℤ, All, zero, suc, ◌+◌, ◌*◌, ◌<◌, ◌≤◌, ◌%◌, ◌/◌, List, [], ◌∷◌, ◌++◌, map, length, get_or, take, arith}
 use Rattle.std.specs.List.{flat_map, range_with_len}
-use Rattle.std.proofs.lemmas.List.{append-nil, append_assoc, length-append, length-map, flat_map_more, take_more, take_all, map_more}
+use Rattle.std.proofs.lemmas.List.{append-nil, append_assoc, length-append, length-map, get_or-map, flat_map_more, take_more, take_all, map_more}
 use Rattle.std.proofs.lemmas.List.Concat.{flat_map-append}
-use Rattle.std.proofs.lemmas.List.FromFn.{length-map-range_with_len}
 use Rattle.dr_image.specs.Words.{four_bytes, eight_bytes, spelled_words, spelled_longs}
 use Rattle.dr_image.specs.Pieces.{ends_from}
 use Rattle.std.specs.Int.{w16, w32, w64, to_le_bytes}
 use Rattle.sha2.specs.Sha256.{sha256}
+use Rattle.sha2.proofs.Facts256.{length-sha256}
+use Rattle.std.proofs.lemmas.List.Folds.{length-flat_map-take}
+use Rattle.dr_image.proofs.DecodingLemmas.{length-column as column_length}
+use Rattle.dr_image.proofs.SpellingLemmas.{length-spelled_longs}
+use Rattle.dr_segment.specs.declared.dimension.Dimension.{Dimension}
+use Rattle.dr_segment.specs.Tables.{column_with, column_seen}
+use Rattle.dr_segment.proofs.CountingLemmas.{joined_long, length-lists}
 use Rattle.dr_base.specs.declared.row.Row.{Row}
 use Rattle.std.specs.Prelude.{if◌then◌else◌}
 use Rattle.dr_segment.specs.declared.head.Head.{Head}
 use Rattle.dr_segment.specs.Heads.{two_bytes, wide_bytes, head_bytes}
 use Rattle.dr_image.specs.Sealed.{Sealed}
 use Rattle.dr_image.specs.Table.{Column, Table}
-use Rattle.dr_image.specs.Image.{joined, bytes_of_column, head_of, data_of, bytes_of, table_of, image, magic, with_digest, column_of, values_of, metric_of}
+use Rattle.dr_image.specs.Image.{joined, bytes_of_column, head_of, data_of, bytes_of, table_of, image, magic, with_digest}
 
 -- a number, of which the low bytes are written
 pub low_bytes : (n : ℕ) → four_bytes (n % 4294967296) ≡ four_bytes n
@@ -51,11 +57,6 @@ pub flat_map-map : {X Y : Type 0} (g : X → Y) (f : Y → List ℕ) (xs : List 
 flat_map-map g f [] = refl
 flat_map-map g f (x ∷ xs) = ap (λ k. f (g x) ++ k) (flat_map-map g f xs)
 
-pub words-joined : (xss : List (List ℕ)) → spelled_words (joined xss) ≡ flat_map spelled_words xss
-unfolding spelled_words
-words-joined [] = refl
-words-joined (xs ∷ xss) = flat_map-append four_bytes xs (joined xss) ∙ ap (λ k. flat_map four_bytes xs ++ k) (words-joined xss)
-
 pub low_of_many : (n : ℕ) → four_bytes (n % 18446744073709551616) ≡ four_bytes n
 unfolding four_bytes
 low_of_many n =
@@ -69,14 +70,6 @@ pub range_more : (a n : ℕ) → range_with_len a (n + 1) ≡ range_with_len a n
 range_more a zero = let e : a ≡ a + 0 = omega arith in ap (λ k. k ∷ []) e
 range_more a (suc n) = let e : a + 1 + n ≡ a + suc n = omega arith in let f : suc n + 1 ≡ suc (n + 1) = omega arith in ap (range_with_len a) f ∙ ap (λ k. a ∷ k) (range_more (a + 1) n ∙ ap (λ k. range_with_len (a + 1) n ++ k ∷ []) e)
 
-pub one_of_range : (f : ℕ → List ℕ) (base out : List ℕ) (m : ℕ) → out ≡ base ++ flat_map f (range_with_len 0 m) → out ++ f m ≡ base ++ flat_map f (range_with_len 0 (m + 1))
-one_of_range f base out m so_far =
-    let e : 0 + m ≡ m = omega arith in
-    ap (λ k. k ++ f m) so_far ∙ flat_map_more f base (range_with_len 0 m) m ∙ ap (λ k. base ++ flat_map f k) (sym (range_more 0 m ∙ ap (λ k. range_with_len 0 m ++ k ∷ []) e))
-
-pub all_of_range : (f : ℕ → List ℕ) (base out : List ℕ) (m count : ℕ) → m ≤ count → count ≤ m → out ≡ base ++ flat_map f (range_with_len 0 m) → out ≡ base ++ flat_map f (range_with_len 0 count)
-all_of_range f base out m count a b so_far = let e : m ≡ count = omega arith in so_far ∙ ap (λ k. base ++ flat_map f (range_with_len 0 k)) e
-
 -- ---- ends
 
 length-joined : {A : Type 0} (xss : List (List A)) (xs : List A) → length (joined (xss ++ xs ∷ [])) ≡ length (joined xss) + length xs
@@ -88,9 +81,6 @@ ends_more start [] xs = let e : start + length xs ≡ start + 0 + length xs = om
 ends_more start (ys ∷ xss) xs =
     let e : start + length ys + length (joined xss) + length xs ≡ start + length (ys ++ joined xss) + length xs = omega (arith, length-append ys (joined xss)) in
     ap (λ k. (start + length ys) ∷ k) (ends_more (start + length ys) xss xs ∙ ap (λ k. ends_from (start + length ys) xss ++ k ∷ []) e)
-
-abbrev wrapped : ℕ → ℕ
-wrapped n = n % 18446744073709551616
 
 -- the lists so far have been counted, and their ends written
 pub record EndsSoFar {A : Type 0} (base out : List ℕ) (xss : List (List A)) (end : ℕ) : Type 0 where
@@ -141,10 +131,55 @@ pub ends_step : {A X : Type 0} (f : X → List A) (base out : List ℕ) (xs : Li
 ends_step f base out xs i d end next lt so_far adds =
     subst (λ yss. EndsSoFar base (out ++ four_bytes next) yss next) (sym (map_more f xs i d lt)) (ends_so_far base out (map f (take i xs)) (f (get_or xs i d)) end next so_far adds)
 
-pub ends_item : {A X : Type 0} (f : X → List A) (base out : List ℕ) (xs : List X) (i : ℕ) (x : X) (end next : ℕ) → i < length xs → x ≡ get_or xs i x → EndsSoFar base out (map f (take i xs)) end → next ≡ (end + length (f x)) % 18446744073709551616
-    → EndsSoFar base (out ++ four_bytes next) (map f (take (i + 1) xs)) next
-ends_item f base out xs i x end next lt is so_far adds =
-    ends_step f base out xs i x end next lt so_far (adds ∙ ap (λ y. (end + length (f y)) % 18446744073709551616) is)
+-- ---- the length
+
+length-head : (t : Table) → length (head_of t) ≡ 48
+unfolding head_of eight_bytes
+length-head t = refl
+
+pub length-bytes : (t : Table) → length (bytes_of t) ≡ 80 + length (data_of t)
+unfolding bytes_of
+length-bytes t =
+    let a = length-head t in
+    let b = length-append (head_of t) (data_of t) in
+    let c = length-append (head_of t ++ data_of t) (sha256 (head_of t ++ data_of t)) in
+    let d = length-sha256 (head_of t ++ data_of t) in
+    omega arith
+
+pub length-data : (t : Table) → length (data_of t) ≡ length (spelled_longs t.times) + length (flat_map spelled_longs t.metrics) + length (flat_map bytes_of_column t.dims)
+unfolding data_of
+length-data t =
+    let rest : List ℕ = flat_map spelled_longs t.metrics ++ flat_map bytes_of_column t.dims in
+    let a = length-append (spelled_longs t.times) rest in
+    let b = length-append (flat_map spelled_longs t.metrics) (flat_map bytes_of_column t.dims) in
+    omega arith
+
+-- an image has eight bytes for each row at least
+pub long_by_rows : (s : Sealed) → 8 * length s.rows ≤ length (image s)
+unfolding table_of
+long_by_rows s =
+    let a = length-bytes (table_of s) in
+    let b = length-data (table_of s) in
+    let c = length-spelled_longs (table_of s).times in
+    let d = length-map s.rows (λ (r : Row). r.key.time) in
+    omega arith
+
+pub known : (d : Dimension) → All (λ n. n < length (column_seen d).dictionary) d.numbers.items
+known d = subst (λ n. All (λ m. m < n) d.numbers.items) (sym (length-map d.dictionary.items (λ t. t.now))) d.known
+
+-- how many bytes a dimension has whose numbers are in the dictionary
+pub length-column : (dictionary : List (List ℕ)) (numbers : List ℕ) → All (λ n. n < length dictionary) numbers → length (bytes_of_column (column_with dictionary numbers)) ≡ 8 + 8 * length dictionary + length (joined dictionary) + 8 * length numbers
+length-column dictionary numbers known =
+    column_length (length numbers) (column_with dictionary numbers) refl (joined_long (length dictionary) numbers known) (length-lists (length dictionary) numbers)
+
+-- the rows of a dimension are few where its bytes are
+pub each_few : (dims : List Dimension) → length (flat_map bytes_of_column (map column_seen dims)) ≤ 1073741824 → All (λ (d : Dimension). length d.numbers.items ≤ 134217728) dims
+each_few dims few k d lt =
+    let c : Column = column_seen (get_or dims k d) in
+    let at : get_or (map column_seen dims) k (column_seen d) ≡ c = get_or-map column_seen dims k d (column_seen d) lt in
+    let part = length-flat_map-take bytes_of_column (map column_seen dims) k (column_seen d) (omega (arith, length-map dims column_seen)) in
+    let long : length (bytes_of_column c) ≡ 8 + 8 * length c.dictionary + length (joined c.dictionary) + 8 * length c.numbers = length-column c.dictionary c.numbers (known (get_or dims k d)) in
+    omega (arith, ap (λ (x : Column). length (bytes_of_column x)) at, part, long, few)
 
 -- ---- the header
 
@@ -154,19 +189,6 @@ low_half n =
     let a : n % 65536 % 256 ≡ n % 256 = omega arith in
     let b : n % 65536 / 256 % 256 ≡ n / 256 % 256 = omega arith in
     λ i. a i ∷ b i ∷ []
-
-pub low_wide : (n : ℕ) → wide_bytes (n % 18446744073709551616) ≡ to_le_bytes w64 n
-unfolding wide_bytes
-low_wide n =
-    let a : n % 18446744073709551616 % 256 ≡ n % 256 = omega arith in
-    let b : n % 18446744073709551616 / 256 % 256 ≡ n / 256 % 256 = omega arith in
-    let c : n % 18446744073709551616 / 65536 % 256 ≡ n / 65536 % 256 = omega arith in
-    let d : n % 18446744073709551616 / 16777216 % 256 ≡ n / 16777216 % 256 = omega arith in
-    let e : n % 18446744073709551616 / 4294967296 % 256 ≡ n / 4294967296 % 256 = omega arith in
-    let f : n % 18446744073709551616 / 1099511627776 % 256 ≡ n / 1099511627776 % 256 = omega arith in
-    let g : n % 18446744073709551616 / 281474976710656 % 256 ≡ n / 281474976710656 % 256 = omega arith in
-    let h : n % 18446744073709551616 / 72057594037927936 % 256 ≡ n / 72057594037927936 % 256 = omega arith in
-    λ i. a i ∷ b i ∷ c i ∷ d i ∷ e i ∷ f i ∷ g i ∷ h i ∷ []
 
 regrouped : (base a b c d e f g h j k : List ℕ)
     → ((((((((((base ++ a) ++ b) ++ c) ++ d) ++ e) ++ f) ++ g) ++ h) ++ j) ++ k) ≡ base ++ (a ++ (b ++ (c ++ (d ++ (e ++ (f ++ (g ++ (h ++ (j ++ k)))))))))
@@ -181,51 +203,19 @@ ten_pieces base a b c d e f g h j k o1 o2 o3 o4 o5 o6 o7 o8 o9 o10 p1 p2 p3 p4 p
     ∙ regrouped base a b c d e f g h j k
 
 -- the numbers in front are those of the columns
-pub head_is : (s : Sealed) (columns : ℕ) → columns ≡ length (data_of (table_of s))
-    → head_bytes (record { rollup = s.rollup; columns = columns; chunk = s.chunk; from = s.from; to = s.to; dims = s.dims; metrics = s.metrics; rows = length s.rows }) ≡ head_of (table_of s)
-unfolding head_of table_of two_bytes wide_bytes four_bytes
-head_is s columns count =
-    let size : wide_bytes ((columns + 80) % 18446744073709551616) ≡ to_le_bytes w64 (80 + length (data_of (table_of s))) = low_wide (columns + 80) ∙ ap (to_le_bytes w64) (omega arith) in
-    let dims : s.dims ≡ length (table_of s).dims = sym (length-map-range_with_len (λ d. column_of (values_of d s.rows)) 0 s.dims) in
-    let metrics : s.metrics ≡ length (table_of s).metrics = sym (length-map-range_with_len (λ m. metric_of m s.rows) 0 s.metrics) in
-    let rows : length s.rows ≡ length (table_of s).times = sym (length-map s.rows (λ (r : Row). r.key.time)) in
-    λ i. to_le_bytes w32 magic ++ (to_le_bytes w16 1 ++ (to_le_bytes w16 (if s.rollup then 1 else 0) ++ (size i
-    ++ (eight_bytes s.chunk ++ (to_le_bytes w64 s.from ++ (to_le_bytes w64 s.to ++ (to_le_bytes w16 (dims i) ++ (to_le_bytes w16 (metrics i) ++ to_le_bytes w32 (rows i)))))))))
+pub head_is : (t : Table) (size : ℕ) → size ≡ length (bytes_of t)
+    → head_bytes (record { rollup = t.rollup; size = size; chunk = t.chunk; from = t.from; to = t.to; dims = length t.dims; metrics = length t.metrics; rows = length t.times }) ≡ head_of t
+unfolding head_of two_bytes wide_bytes four_bytes
+head_is t size count =
+    let total : size ≡ 80 + length (data_of t) = count ∙ length-bytes t in
+    λ i. to_le_bytes w32 magic ++ (to_le_bytes w16 1 ++ (to_le_bytes w16 (if t.rollup then 1 else 0) ++ (to_le_bytes w64 (total i)
+    ++ (eight_bytes t.chunk ++ (to_le_bytes w64 t.from ++ (to_le_bytes w64 t.to ++ (to_le_bytes w16 (length t.dims) ++ (to_le_bytes w16 (length t.metrics) ++ to_le_bytes w32 (length t.times)))))))))
 
-pub image_is : (s : Sealed) (h : Head) (columns : List ℕ) → columns ≡ data_of (table_of s)
-    → h ≡ record { rollup = s.rollup; columns = length columns; chunk = s.chunk; from = s.from; to = s.to; dims = s.dims; metrics = s.metrics; rows = length s.rows }
-    → with_digest (head_bytes h ++ columns) ≡ image s
-unfolding bytes_of
-image_is s h columns same head =
-    let front = ap head_bytes head ∙ head_is s (length columns) (ap length same) in
-    λ i. with_digest (front i ++ same i)
-
-pub columns_are : (s : Sealed) → data_of (table_of s) ≡ spelled_longs (map (λ (r : Row). r.key.time) s.rows) ++ (flat_map spelled_longs (map (λ m. metric_of m s.rows) (range_with_len 0 s.metrics)) ++ flat_map bytes_of_column (map (λ d. column_of (values_of d s.rows)) (range_with_len 0 s.dims)))
-unfolding data_of table_of
-columns_are s = refl
-
--- ---- the length
-
-length-eight : (z : ℤ) → length (eight_bytes z) ≡ 8
-unfolding eight_bytes
-length-eight z = refl
-
-length-longs : (zs : List ℤ) → length (spelled_longs zs) ≡ 8 * length zs
-unfolding spelled_longs
-length-longs [] = refl
-length-longs (z ∷ zs) = let e = length-append (eight_bytes z) (spelled_longs zs) in let f = length-eight z in let g = length-longs zs in omega arith
-
--- an image has eight bytes for each row at least
-pub long_image : (t : Table) → 8 * length t.times ≤ length (bytes_of t)
+-- the head, the columns and the digest, one behind the other
+pub image_is : (t : Table) (h : Head) (a b c d bytes : List ℕ) → h ≡ record { rollup = t.rollup; size = length (bytes_of t); chunk = t.chunk; from = t.from; to = t.to; dims = length t.dims; metrics = length t.metrics; rows = length t.times }
+    → a ≡ head_bytes h → b ≡ a ++ spelled_longs t.times → c ≡ b ++ flat_map spelled_longs t.metrics → d ≡ c ++ flat_map bytes_of_column t.dims → bytes ≡ with_digest d → bytes ≡ bytes_of t
 unfolding bytes_of data_of
-long_image t =
-    let rest : List ℕ = flat_map spelled_longs t.metrics ++ flat_map bytes_of_column t.dims in
-    let a = length-longs t.times in
-    let b = length-append (spelled_longs t.times) rest in
-    let c = length-append (head_of t) (data_of t) in
-    let d = length-append (head_of t ++ data_of t) (sha256 (head_of t ++ data_of t)) in
-    omega arith
-
-pub long_by_rows : (s : Sealed) → 8 * length s.rows ≤ length (image s)
-unfolding table_of
-long_by_rows s = let a = long_image (table_of s) in let b = length-map s.rows (λ (r : Row). r.key.time) in omega arith
+image_is t h a b c d bytes is pa pb pc pd signed =
+    let front : a ≡ head_of t = pa ∙ ap head_bytes is ∙ head_is t (length (bytes_of t)) refl in
+    let all : d ≡ ((head_of t ++ spelled_longs t.times) ++ flat_map spelled_longs t.metrics) ++ flat_map bytes_of_column t.dims = pd ∙ ap (λ k. k ++ flat_map bytes_of_column t.dims) (pc ∙ ap (λ k. k ++ flat_map spelled_longs t.metrics) (pb ∙ ap (λ k. k ++ spelled_longs t.times) front)) in
+    signed ∙ ap with_digest (all ∙ simp append_assoc)

@@ -19,9 +19,13 @@ sealed schema chunk from to rows = record {
   rows = rows;
 }
 
+-- bytes, or 59 where they are more than a bound
+abbrev pub bounded : ℕ → List ℕ → Result (List ℕ) ImageError
+bounded most bytes = if nat_le (length bytes) most then Ok bytes else Err ImageTooLarge
+
 -- its image, or 59 where it has more bytes than the schema allows
 abbrev pub encoded : ℕ → Sealed → Result (List ℕ) ImageError
-encoded most s = if nat_le (length (image s)) most then Ok (image s) else Err ImageTooLarge
+encoded most s = bounded most (image s)
 
 -- whether memory ran out
 abbrev pub is_memory : ImageError → Bool

@@ -1,3 +1,4 @@
 pub mod Encoding
 pub mod Columns
 pub mod Heads
+pub mod Tables

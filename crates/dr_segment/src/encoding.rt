@@ -1,13 +1,15 @@
-ghost use Rattle.std.specs.Prelude.{◌≡◌, ◌++◌, ◌≤◌, ℕ, ℤ, [], length, map, IfOk, OnOk};
-ghost use Rattle.std.specs.List.{flat_map, range_with_len};
+ghost use Rattle.std.specs.Prelude.{◌≡◌, ◌≤◌, length, IfOk, OnOk};
 ghost use Rattle.dr_base.specs.Reading.{GivesUnless};
-ghost use Rattle.dr_image.specs.Image.{image, with_digest, data_of, table_of, bytes_of_column, column_of, values_of};
-ghost use Rattle.dr_segment.specs.Heads.{head_bytes};
-ghost use Rattle.dr_segment.specs.Encoding.{sealed, encoded, is_memory};
+ghost use Rattle.dr_image.specs.Image.{with_digest, bytes_of};
+ghost use Rattle.dr_segment.specs.Encoding.{sealed, encoded, bounded, is_memory};
+ghost use Rattle.dr_segment.specs.Tables.{table_seen, StandForRows};
+ghost use Rattle.dr_image.specs.Laws.{sealed_by};
 
-use crate::column::column_of_rows;
+use crate::columns::Columns;
+use crate::gathering::columns_of;
 use crate::head::{Head, put_head};
-use crate::writing::{put_dimension, put_metrics, put_times};
+use crate::size::image_size;
+use crate::writing::{put_dimensions, put_longs, put_metrics};
 use dr_base::{Row, Text};
 use dr_image::ImageError;
 use dr_schema::Schema;
@@ -22,8 +24,10 @@ const MOST_ROWS: usize = 134_217_728;
 /// the rows of each value. A row that lacks a dimension or a metric has an empty text or 0 there. Refusals: 59
 /// `ImageTooLarge` exactly where the image has more than the schema's `max_image_bytes`.
 ///
-/// It takes time by the bytes of the rows, and n log n of the distinct values of a dimension; each row's value is found among
-/// these by halving. It takes memory twice the image.
+/// It takes expected time by the bytes of the rows and of the image, and n log n of the distinct values of a dimension: each
+/// row's value is hashed once. Beside the image, whose memory is taken at once and only where it isn't too large, it takes memory
+/// by its columns: 8 bytes for a time or the value of a metric, 4 for a row's value in a dimension, and some 60 for each distinct
+/// value.
 pub fn encode(
     alloc: Global,
     schema: &Schema,
@@ -38,81 +42,69 @@ pub fn encode(
     if rows.len() > MOST_ROWS {
         return Err(ImageError::ImageTooLarge);
     }
-    let bytes = image_of(alloc, schema, chunk, from, to, rows)?;
-    if bytes.len() as u64 > schema.limits().max_image_bytes {
+    let empty = Text::from_str(alloc, "")?;
+    let columns = columns_of(alloc, schema, chunk, from, to, rows, &empty)?;
+    written(alloc, schema.limits().max_image_bytes, &columns)
+}
+
+/// The image of rows that are given by their columns, as `encode` writes it. Refusals: 59 `ImageTooLarge` exactly where it has more
+/// than `most` bytes.
+///
+/// It takes time by the bytes of the image, whose memory is taken at once and only where it isn't too large. Beside it, it takes 4
+/// bytes for a row and some 8 for a value of one dimension after another.
+pub fn encode_columns(alloc: Global, most: u64, columns: &Columns) -> Result<Vec<u8>, ImageError>
+    requires bound { most ≤ 1073741824 }
+    requires rows { StandForRows (table_seen columns.now) }
+    ensures { GivesUnless is_memory (λ bytes. bytes.items) result (encoded most (sealed_by (table_seen columns.now))) }
+{
+    written(alloc, most, columns)
+}
+
+// The image of columns, where it isn't too large.
+fn written(alloc: Global, most: u64, columns: &Columns) -> Result<Vec<u8>, ImageError>
+    requires { most ≤ 1073741824 }
+    ensures { GivesUnless is_memory (λ bytes. bytes.items) result (bounded most (bytes_of (table_seen columns.now))) }
+{
+    let size = image_size(columns);
+    if size > most {
         return Err(ImageError::ImageTooLarge);
     }
+    let bytes = image_of(alloc, columns, size)?;
     Ok(bytes)
 }
 
-// The image, however large.
-fn image_of(
-    alloc: Global,
-    schema: &Schema,
-    chunk: i64,
-    from: u64,
-    to: u64,
-    rows: &[Row],
-) -> Result<Vec<u8>, AllocError>
-    requires { length rows.now ≤ 134217728 }
-    ensures { IfOk result (λ bytes. bytes.items ≡ image (sealed schema.now chunk from to rows.now)) }
+// The image of columns, which has so many bytes.
+fn image_of(alloc: Global, columns: &Columns, size: u64) -> Result<Vec<u8>, AllocError>
+    requires is { size ≡ length (bytes_of (table_seen columns.now)) }
+    requires few { size ≤ 1073741824 }
+    ensures { IfOk result (λ bytes. bytes.items ≡ bytes_of (table_seen columns.now)) }
 {
-    let columns = columns_of(alloc, schema, rows)?;
     let head = Head {
-        rollup: schema.rollup(),
-        columns: columns.len(),
-        chunk,
-        from,
-        to,
-        dims: schema.dimensions().len(),
-        metrics: schema.metrics().len(),
-        rows: rows.len(),
+        rollup: columns.rollup,
+        size,
+        chunk: columns.chunk,
+        from: columns.from,
+        to: columns.to,
+        dims: columns.dims.len(),
+        metrics: columns.metrics.len(),
+        rows: columns.times.len(),
     };
-    let bytes = signed(alloc, &head, &columns)?;
+    let mut bytes = Vec::with_capacity(alloc, size as usize)?;
+    put_head(&mut bytes, &head)?;
+    put_longs(&mut bytes, &columns.times)?;
+    put_metrics(&mut bytes, &columns.metrics)?;
+    put_dimensions(alloc, &mut bytes, &columns.dims)?;
+    put_digest(&mut bytes)?;
     Ok(bytes)
 }
 
-// The numbers in front, the columns, and the digest of both (SHA-256, FIPS 180-4).
-fn signed(alloc: Global, head: &Head, columns: &[u8]) -> Result<Vec<u8>, AllocError>
-    ensures { IfOk result (λ bytes. bytes.items ≡ with_digest (head_bytes head.now ++ columns.now)) }
+// Puts the digest of bytes behind them (SHA-256, FIPS 180-4).
+fn put_digest(bytes: &mut Vec<u8>) -> Result<(), AllocError>
+    ensures { OnOk result (bytes.new.items ≡ with_digest bytes.old.items) }
 {
-    let mut bytes = Vec::with_capacity(alloc, columns.len().saturating_add(80))?;
-    put_head(&mut bytes, head)?;
-    bytes.extend_from_slice(columns)?;
     let mut hasher = Sha256::new();
     hasher.update(bytes.as_slice());
     let digest = hasher.finalize();
     bytes.extend_from_slice(&digest)?;
-    Ok(bytes)
-}
-
-// The columns of the image.
-fn columns_of(alloc: Global, schema: &Schema, rows: &[Row]) -> Result<Vec<u8>, AllocError>
-    requires { length rows.now ≤ 134217728 }
-    ensures { IfOk result (λ columns. (chunk : ℤ) (from to : ℕ) → columns.items ≡ data_of (table_of (sealed schema.now chunk from to rows.now))) }
-{
-    let empty = Text::from_str(alloc, "")?;
-    let mut columns = Vec::new(alloc);
-    put_times(&mut columns, rows)?;
-    put_metrics(&mut columns, rows, schema.metrics().len())?;
-    put_dimensions(alloc, &mut columns, rows, schema.dimensions().len(), &empty)?;
-    Ok(columns)
-}
-
-fn put_dimensions(
-    alloc: Global,
-    out: &mut Vec<u8>,
-    rows: &[Row],
-    count: usize,
-    empty: &Text,
-) -> Result<(), AllocError>
-    requires empty { empty.now ≡ [] }
-    requires few { length rows.now ≤ 134217728 }
-    ensures { OnOk result (out.new.items ≡ out.old.items ++ flat_map bytes_of_column (map (λ d. column_of (values_of d rows.now)) (range_with_len 0 count))) }
-{
-    for d in 0..count {
-        let listing = column_of_rows(alloc, rows, d, empty)?;
-        put_dimension(out, &listing)?;
-    }
     Ok(())
 }

@@ -8,8 +8,8 @@ use std::alloc::AllocError;
 #[derive(Drop)]
 pub(crate) struct Head {
     pub(crate) rollup: bool,
-    // How many bytes the columns have.
-    pub(crate) columns: usize,
+    // How many bytes the image has.
+    pub(crate) size: u64,
     pub(crate) chunk: i64,
     pub(crate) from: u64,
     pub(crate) to: u64,
@@ -25,7 +25,7 @@ pub(crate) fn put_head(out: &mut Vec<u8>, head: &Head) -> Result<(), AllocError>
     put_word(out, 0x4753_5244)?;
     put_half(out, 1)?;
     put_half(out, mark(head.rollup))?;
-    put_wide(out, (head.columns as u64).wrapping_add(80))?;
+    put_wide(out, head.size)?;
     put_long(out, head.chunk)?;
     put_wide(out, head.from)?;
     put_wide(out, head.to)?;

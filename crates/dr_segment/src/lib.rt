@@ -1,9 +1,17 @@
-//! The image of the rows of a sealed range, written. Which bytes it is, is defined in `dr_image`.
+//! The image of the rows of a sealed range, written from the rows or from their columns. Which bytes it is, is defined in `dr_image`.
 #![tactic(auto)]
 
-mod column;
+mod columns;
+mod dimension;
 mod encoding;
+mod first_values;
+mod gathering;
 mod head;
+mod ranking;
+mod row_lists;
+mod size;
 mod writing;
 
-pub use encoding::encode;
+pub use columns::Columns;
+pub use dimension::Dimension;
+pub use encoding::{encode, encode_columns};

@@ -1,13 +1,13 @@
-ghost use Rattle.std.specs.Prelude.{◌≡◌, ◌++◌, ◌%◌, length, map, get_or, pos, OnOk};
-ghost use Rattle.std.specs.List.{flat_map, range_with_len};
+ghost use Rattle.std.specs.Prelude.{◌≡◌, ◌++◌, ◌%◌, ◌≤◌, length, map, All, OnOk};
+ghost use Rattle.std.specs.List.{flat_map};
 ghost use Rattle.dr_image.specs.Words.{four_bytes, eight_bytes, spelled_words, spelled_longs};
 ghost use Rattle.dr_image.specs.Pieces.{ends_from};
-ghost use Rattle.dr_image.specs.Image.{joined, metric_of, bytes_of_column};
-ghost use Rattle.dr_segment.specs.Columns.{column_seen};
+ghost use Rattle.dr_image.specs.Image.{joined, bytes_of_column};
+ghost use Rattle.dr_segment.specs.Tables.{column_seen};
 
-use crate::column::Listing;
-use dr_base::Row;
-use std::alloc::AllocError;
+use crate::dimension::Dimension;
+use crate::row_lists::row_lists;
+use std::alloc::{AllocError, Global};
 
 // Puts a number of four bytes behind.
 #[tactic(auto, unfolding(dr_image::specs::Words::four_bytes))]
@@ -44,39 +44,22 @@ fn put_words(out: &mut Vec<u8>, words: &[u32]) -> Result<(), AllocError>
     Ok(())
 }
 
-// Puts the times of rows behind.
-pub(crate) fn put_times(out: &mut Vec<u8>, rows: &[Row]) -> Result<(), AllocError>
-    ensures { OnOk result (out.new.items ≡ out.old.items ++ spelled_longs (map (λ r. r.key.time) rows.now)) }
+// Puts numbers of eight bytes behind.
+pub(crate) fn put_longs(out: &mut Vec<u8>, longs: &[i64]) -> Result<(), AllocError>
+    ensures { OnOk result (out.new.items ≡ out.old.items ++ spelled_longs longs.now) }
 {
-    for row in rows {
-        put_long(out, row.key.time)?;
+    for long in longs {
+        put_long(out, *long)?;
     }
     Ok(())
 }
 
-// The value of a row in a metric, 0 where there are fewer.
-fn metric_at(row: &Row, m: usize) -> i64
-    ensures { result ≡ get_or row.now.metrics m (pos 0) }
+// Puts the values of metrics behind.
+pub(crate) fn put_metrics(out: &mut Vec<u8>, metrics: &[Vec<i64>]) -> Result<(), AllocError>
+    ensures { OnOk result (out.new.items ≡ out.old.items ++ flat_map spelled_longs (map (λ m. m.items) metrics.now)) }
 {
-    row.metrics.get(m).unwrap_or(0)
-}
-
-// Puts the values of rows in a metric behind.
-fn put_metric(out: &mut Vec<u8>, rows: &[Row], m: usize) -> Result<(), AllocError>
-    ensures { OnOk result (out.new.items ≡ out.old.items ++ spelled_longs (metric_of m rows.now)) }
-{
-    for row in rows {
-        put_long(out, metric_at(row, m))?;
-    }
-    Ok(())
-}
-
-// Puts the values of rows in so many metrics behind.
-pub(crate) fn put_metrics(out: &mut Vec<u8>, rows: &[Row], count: usize) -> Result<(), AllocError>
-    ensures { OnOk result (out.new.items ≡ out.old.items ++ flat_map spelled_longs (map (λ m. metric_of m rows.now) (range_with_len 0 count))) }
-{
-    for m in 0..count {
-        put_metric(out, rows, m)?;
+    for metric in metrics {
+        put_longs(out, metric)?;
     }
     Ok(())
 }
@@ -86,15 +69,6 @@ fn put_texts(out: &mut Vec<u8>, texts: &[&str]) -> Result<(), AllocError>
 {
     for text in texts {
         out.extend_from_slice(text.as_bytes())?;
-    }
-    Ok(())
-}
-
-fn put_lists(out: &mut Vec<u8>, lists: &[Vec<u32>]) -> Result<(), AllocError>
-    ensures { OnOk result (out.new.items ≡ out.old.items ++ spelled_words (joined (map (λ l. l.items) lists.now))) }
-{
-    for list in lists {
-        put_words(out, list)?;
     }
     Ok(())
 }
@@ -121,27 +95,33 @@ fn put_text_ends(out: &mut Vec<u8>, texts: &[&str]) -> Result<(), AllocError>
     Ok(())
 }
 
-fn put_list_ends(out: &mut Vec<u8>, lists: &[Vec<u32>]) -> Result<(), AllocError>
-    ensures { OnOk result (out.new.items ≡ out.old.items ++ spelled_words (ends_from 0 (map (λ l. l.items) lists.now))) }
+// Puts a dimension behind.
+fn put_dimension(alloc: Global, out: &mut Vec<u8>, dimension: &Dimension) -> Result<(), AllocError>
+    requires { length dimension.now.numbers.items ≤ 134217728 }
+    ensures { OnOk result (out.new.items ≡ out.old.items ++ bytes_of_column (column_seen dimension.now)) }
 {
-    let mut end: usize = 0;
-    for list in lists {
-        end = end.wrapping_add(list.len());
-        put_count(out, end)?;
-    }
+    let lists = row_lists(alloc, &dimension.numbers, dimension.dictionary.len())?;
+    put_count(out, dimension.dictionary.len())?;
+    put_count(out, text_bytes(&dimension.dictionary))?;
+    put_text_ends(out, &dimension.dictionary)?;
+    put_texts(out, &dimension.dictionary)?;
+    put_words(out, &dimension.numbers)?;
+    put_words(out, &lists.ends)?;
+    put_words(out, &lists.rows)?;
     Ok(())
 }
 
-// Puts a dimension behind.
-pub(crate) fn put_dimension(out: &mut Vec<u8>, listing: &Listing) -> Result<(), AllocError>
-    ensures { OnOk result (out.new.items ≡ out.old.items ++ bytes_of_column (column_seen listing.now)) }
+// Puts dimensions behind.
+pub(crate) fn put_dimensions(
+    alloc: Global,
+    out: &mut Vec<u8>,
+    dims: &[Dimension],
+) -> Result<(), AllocError>
+    requires { All (λ d. length d.numbers.items ≤ 134217728) dims.now }
+    ensures { OnOk result (out.new.items ≡ out.old.items ++ flat_map bytes_of_column (map column_seen dims.now)) }
 {
-    put_count(out, listing.dictionary.len())?;
-    put_count(out, text_bytes(&listing.dictionary))?;
-    put_text_ends(out, &listing.dictionary)?;
-    put_texts(out, &listing.dictionary)?;
-    put_words(out, &listing.numbers)?;
-    put_list_ends(out, &listing.lists)?;
-    put_lists(out, &listing.lists)?;
+    for dimension in dims {
+        put_dimension(alloc, out, dimension)?;
+    }
     Ok(())
 }

@@ -53,6 +53,58 @@ fn has_pages(view: &SegmentView) -> bool {
         && view.number(0, 1) == 1
 }
 
+// Whether cells of four bytes are these two.
+fn are_rows(cells: &[[u8; 4]], rows: &[[u8; 4]]) -> bool {
+    cells == rows
+}
+
+// Whether a view has the row lists of both dimensions.
+fn has_row_lists(view: &SegmentView) -> bool {
+    if view.dimension_count() != 2 {
+        return false;
+    }
+    if view.value_count(0) != 2 || view.value_count(1) != 1 {
+        return false;
+    }
+    are_rows(view.postings(0, 0), &[[0, 0, 0, 0]])
+        && are_rows(view.postings(0, 1), &[[1, 0, 0, 0]])
+        && are_rows(view.postings(1, 0), &[[0, 0, 0, 0], [1, 0, 0, 0]])
+}
+
+// Whether a view has the columns as they lie there: 1704067200000 and 1704070800000, and -2 as the least value of the second row.
+fn has_columns(view: &SegmentView) -> bool {
+    if view.metric_count() != 4 {
+        return false;
+    }
+    let times: [[u8; 8]; 2] = [
+        [0, 0xf4, 0x51, 0xc2, 0x8c, 1, 0, 0],
+        [0x80, 0xe2, 0x88, 0xc2, 0x8c, 1, 0, 0],
+    ];
+    let least: [[u8; 8]; 2] = [
+        [5, 0, 0, 0, 0, 0, 0, 0],
+        [0xfe, 255, 255, 255, 255, 255, 255, 255],
+    ];
+    view.times() == times.as_slice() && view.metric_bytes(2) == least.as_slice()
+}
+
+// Whether the second row of a view is (1704070800000, B, en, 1, -2, -2, -2).
+fn has_row(alloc: Global, view: &SegmentView) -> bool {
+    if view.row_count() != 2 {
+        return false;
+    }
+    match view.row(alloc, 1) {
+        Ok(row) => {
+            let texts = row.key.dims.as_slice();
+            row.key.time == 1_704_070_800_000
+                && texts.len() == 2
+                && texts[0].as_str() == "B"
+                && texts[1].as_str() == "en"
+                && row.metrics.as_slice() == [1, -2, -2, -2].as_slice()
+        }
+        Err(_) => false,
+    }
+}
+
 // Whether the bytes of a text open as a view that passes a test.
 fn is_read(alloc: Global, text: &str) -> bool {
     match hex::decode(alloc, text) {
@@ -60,7 +112,10 @@ fn is_read(alloc: Global, text: &str) -> bool {
             Ok(view) => has_head(&view)
                 && has_times(&view)
                 && has_metrics(&view)
-                && has_pages(&view),
+                && has_pages(&view)
+                && has_row_lists(&view)
+                && has_columns(&view)
+                && has_row(alloc, &view),
             Err(_) => false,
         },
         Err(_) => false,

@@ -1,25 +1,37 @@
-use Rattle.std.proofs.Common.{◌≡◌, ◌∙◌, ap, length, ◌++◌, arith, rules, ℕ, List, FitsSigned}
+use Rattle.std.proofs.Common.{◌≡◌, ◌∙◌, ap, sym, subst, length, map, ◌++◌, ◌≤◌, arith, rules, List, All, FitsSigned}
+use Rattle.std.specs.List.{flat_map}
 use Rattle.std.specs.Int.{w64}
 use Rattle.std.proofs.lemmas.Int.{to_z-of_z}
-use Rattle.dr_image.specs.Image.{with_digest}
-use Rattle.dr_image.specs.Sealed.{Sealed}
-use Rattle.dr_segment.specs.Encoding.{sealed}
+use Rattle.std.proofs.lemmas.List.{length-map}
+use Rattle.dr_image.specs.Words.{spelled_longs}
+use Rattle.dr_image.specs.Image.{bytes_of_column}
 use Rattle.dr_segment.specs.Heads.{head_bytes}
 use Rattle.dr_segment.specs.declared.head.Head.{Head}
-use Rattle.dr_segment.proofs.WritingLemmas.{image_is}
+use Rattle.dr_segment.specs.declared.dimension.Dimension.{Dimension}
+use Rattle.dr_segment.specs.Tables.{column_seen, table_seen}
+use Rattle.dr_segment.proofs.WritingLemmas.{image_is, each_few, length-bytes, length-data}
 use Rattle.dr_segment.proofs.encoding.image_of.Goals as goal
+
+pub put_dimensions-requires : goal.put_dimensions-requires
+put_dimensions-requires c =
+    let t = table_seen c.args.columns.now in
+    let few : length (flat_map bytes_of_column t.dims) ≤ 1073741824 = omega (arith, c.requires.is, c.requires.few, length-bytes t, length-data t) in
+    subst (λ (ds : List Dimension). All (λ (d : Dimension). length d.numbers.items ≤ 134217728) ds) (sym c.deref-3.ensures.value) (each_few c.args.columns.now.dims.items few)
 
 pub returns : goal.returns
 returns c =
-    let s : Sealed = sealed c.args.schema.now c.args.chunk c.args.from c.args.to c.args.rows.now in
-    let columns : List ℕ = c.in_ok-columns.columns.items in
-    let size : c.len.result ≡ length columns = omega (arith, c.len.ensures, c.in_ok-columns.columns.ok.0) in
-    let dims = c.len-2.ensures ∙ ap length c.dimensions.ensures in
-    let metrics = c.len-3.ensures ∙ ap length c.metrics.ensures in
-    let h : Head = record { rollup = c.rollup.result; columns = c.len.result; chunk = c.args.chunk; from = c.args.from; to = c.args.to; dims = c.len-2.result; metrics = c.len-3.result; rows = length c.args.rows.now } in
-    let head : h ≡ record { rollup = s.rollup; columns = length columns; chunk = s.chunk; from = s.from; to = s.to; dims = s.dims; metrics = s.metrics; rows = length s.rows } =
-    λ i. record { rollup = c.rollup.ensures i; columns = size i; chunk = c.args.chunk; from = c.args.from; to = c.args.to; dims = dims i; metrics = metrics i; rows = length c.args.rows.now } in
-    let fits : FitsSigned w64 c.args.chunk = search rules in
-    let chunk = to_z-of_z w64 c.args.chunk fits in
-    let given : c.in_ok-bytes.bytes.items ≡ with_digest (head_bytes h ++ columns) = c.in_ok-bytes.ensures ∙ (λ i. with_digest (head_bytes (record { rollup = c.rollup.result; columns = c.len.result; chunk = chunk i; from = c.args.from; to = c.args.to; dims = c.len-2.result; metrics = c.len-3.result; rows = length c.args.rows.now }) ++ c.deref.ensures.value i)) in
-    given ∙ image_is s h columns (c.in_ok-columns.ensures c.args.chunk c.args.from c.args.to) head
+    let columns = c.args.columns.now in
+    let t = table_seen columns in
+    let dims : c.len.result ≡ length t.dims = omega (arith, c.len.ensures, columns.dims.ok.0, length-map columns.dims.items column_seen) in
+    let metrics : c.len-2.result ≡ length t.metrics = omega (arith, c.len-2.ensures, columns.metrics.ok.0, length-map columns.metrics.items (λ m. m.items)) in
+    let rows : c.len-3.result ≡ length t.times = omega (arith, c.len-3.ensures, columns.times.ok.0) in
+    let h : Head = record { rollup = columns.rollup; size = c.args.size; chunk = columns.chunk; from = columns.from; to = columns.to; dims = c.len.result; metrics = c.len-2.result; rows = c.len-3.result } in
+    let fits : FitsSigned w64 columns.chunk = search rules in
+    let chunk = to_z-of_z w64 columns.chunk fits in
+    image_is t h _ _ _ _ _
+    (λ i. record { rollup = columns.rollup; size = c.requires.is i; chunk = columns.chunk; from = columns.from; to = columns.to; dims = dims i; metrics = metrics i; rows = rows i })
+    (c.in_ok-put_head.ensures ∙ (λ i. c.in_ok-bytes.ensures.items i ++ head_bytes (record { rollup = columns.rollup; size = c.args.size; chunk = chunk i; from = columns.from; to = columns.to; dims = c.len.result; metrics = c.len-2.result; rows = c.len-3.result })))
+    (c.in_ok-put_longs.ensures ∙ ap (λ k. c.put_head.new.out.items ++ spelled_longs k) c.deref.ensures.value)
+    (c.in_ok-put_metrics.ensures ∙ ap (λ k. c.put_longs.new.out.items ++ flat_map spelled_longs (map (λ m. m.items) k)) c.deref-2.ensures.value)
+    (c.in_ok-put_dimensions.ensures ∙ ap (λ k. c.put_metrics.new.out.items ++ flat_map bytes_of_column (map column_seen k)) c.deref-3.ensures.value)
+    c.in_ok-put_digest.ensures
