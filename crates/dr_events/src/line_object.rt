@@ -15,9 +15,6 @@ use json::{Reader, Scratch, Token};
 use simdutf8::compat::from_utf8;
 use std::alloc::AllocError;
 
-/// How deep the values of an object nest at most, the object itself not counted.
-const DEPTH: usize = 126;
-
 /// So many names are kept at most, where columns read fewer.
 const MOST_NAMES: usize = 1024;
 
@@ -75,6 +72,7 @@ fn takes_object(reader: &mut Reader<'_>) -> bool
     matches!(reader.next(), Some(Token::BeginObject))
 }
 
+// Reads the members of an object that has begun.
 fn read_members<'a>(
     reader: &mut Reader<'a>,
     names: &mut Names,
@@ -90,13 +88,13 @@ fn read_members<'a>(
         let Ok(next) = reader.next_key() else {
             return Err(Unparseable::NotAnObject);
         };
-        match next {
-            None => return Ok(()),
-            Some(key) => match read_value(reader, DEPTH) {
-                Ok(value) => keep(names, order, member, key, value, found)?,
-                Err(_) => return Err(Unparseable::NotAnObject),
-            },
-        }
+        let Some(key) = next else {
+            return Ok(());
+        };
+        let Ok(value) = read_value(reader) else {
+            return Err(Unparseable::NotAnObject);
+        };
+        keep(names, order, member, key, value, found)?;
         member = member.wrapping_add(1);
     }
 }

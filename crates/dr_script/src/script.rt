@@ -15,6 +15,7 @@ use dr_lines::{Counted, LineError, LineReader, LineWriter, NextLine, write_out};
 use dr_requests::CommandError;
 use std::alloc::{AllocError, Global};
 use std::io::{Read, Write};
+use std::mem::forget;
 
 /// Runs a script: reads lines, and writes one line for each, which is flushed where no whole line waits to be read.
 /// The answer is the status: 0 where no line was refused, else 1.
@@ -50,6 +51,8 @@ use std::io::{Read, Write};
 /// before its `pin` line, that were answered `accepted`.
 ///
 /// The cost of a line is that of its command, and reading and writing take a few operations a byte. At most 2^32 reads are made.
+/// What the script made stays in memory, which goes back to the system with the program: to let go of it piece by piece would
+/// take time by the events.
 pub fn run_script<R: Read, W: Write>(
     rt: &impl AllocGlobal,
     reader: &mut Counted<R>,
@@ -135,7 +138,10 @@ fn run<R: Read, W: Write>(
         }
         Some(Ok(mut session)) => {
             Reply::SpecOk.put(output, writer)?;
-            answer_lines(alloc, &mut session, lines, output, reader, writer)
+            let refuses = answer_lines(alloc, &mut session, lines, output, reader, writer);
+            // To let go of events and rows one by one takes longer than to answer some lines.
+            forget(session);
+            refuses
         }
     }
 }

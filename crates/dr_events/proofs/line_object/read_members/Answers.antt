@@ -14,20 +14,20 @@ returns-in_default-clause-err c =
     let l = c.members in
     λ _. (refl, l.invariant.3 ∙ key_refused (value 126) l.invariant.1 l.invariant.0 l.reader c.in_default.ensures.value)
 
-pub returns-in-None-clause-ok : goal.returns-in-None-clause-ok
-returns-in-None-clause-ok c =
+pub returns-in_default-next-clause-ok : goal.returns-in_default-next-clause-ok
+returns-in_default-next-clause-ok c =
     let l = c.members in
     let r = c.next_key.new.self in
     let ended : read_key l.reader ≡ Some (None, r) = grind arith in
     (l.invariant.1, l.invariant.3 ∙ members_over (value 126) l.invariant.1 l.invariant.0 l.reader r l.invariant.2 ended, l.invariant.4)
 
-pub returns-in-Err-clause-err : goal.returns-in-Err-clause-err
-returns-in-Err-clause-err c =
+pub returns-in_default-read_value-clause-err : goal.returns-in_default-read_value-clause-err
+returns-in_default-read_value-clause-err c =
     let l = c.members in
     let k = c.in-Some.key.now in
     let s = c.next_key.new.self in
     let named : read_key l.reader ≡ Some (Some k, s) = grind arith in
-    λ _. (refl, l.invariant.3 ∙ member_refused (value 126) l.invariant.1 l.invariant.0 k l.reader s named c.in-Err.ensures.err)
+    λ _. (refl, l.invariant.3 ∙ member_refused (value 126) l.invariant.1 l.invariant.0 k l.reader s named c.in_default-read_value.ensures.err)
 
 pub members-preserved : goal.members-preserved
 members-preserved c =
@@ -47,7 +47,7 @@ members-preserved c =
       put k d old,
       omega (arith, l.invariant.2),
       l.invariant.3 ∙ member_read p old n k l.reader s r d (omega (arith, l.invariant.2)) named done.value.1,
-      (λ firsts first blank. c.in_ok-keep-in-Ok-read_value.ensures.seen firsts d old (more-then firsts c.args.names.now l.names first l.invariant.5) done.value.2 (l.invariant.4 firsts first blank)),
+      (λ firsts first blank. c.in_ok-keep.ensures.seen firsts d old (more-then firsts c.args.names.now l.names first l.invariant.5) done.value.2 (l.invariant.4 firsts first blank)),
       more-then c.args.names.now l.names c.keep.new.names l.invariant.5 c.keep.ensures.kept,
       omega (arith, l.invariant.6),
     )

@@ -28,5 +28,5 @@ returns-in_err-put-in-Some-Ok-clause-script g c =
 pub returns-in_ok-put-in-Some-Ok-clause-script : goal.returns-in_ok-put-in-Some-Ok-clause-script
 returns-in_ok-put-in-Some-Ok-clause-script g c =
     let spec = is_spec _ _ _ _ _ c.in-Some-Ok.session (rw c.in-Some-Ok.field-0-is at c.in-Some-Ok.ensures.opening) in
-    let answers = rw spec.holds at c.answer_lines.ensures.answers in
-    opened_then _ _ _ _ _ _ _ _ _ _ _ _ _ c.answer_lines.result spec c.in_ok-put-in-Some-Ok.ensures.bytes answers
+    let answers = rw spec.holds at c.answer_lines-refuses.ensures.answers in
+    opened_then _ _ _ _ _ _ _ _ _ _ _ _ _ c.answer_lines-refuses.result spec c.in_ok-put-in-Some-Ok.ensures.bytes answers

@@ -3,10 +3,10 @@ use Rattle.json.specs.Json.{items, members, value}
 use Rattle.serde_json.specs.Data.{Members, no_members}
 use Rattle.serde_json.specs.Read.{of_items, of_members, converted}
 use Rattle.dr_events.specs.Passed.{rest}
-use Rattle.dr_events.proofs.values.+read_value.Given as goal
+use Rattle.dr_events.proofs.values.+pass_value.Given as goal
 
-abbrev pub decreases-read_value : goal.decreases-read_value
-decreases-read_value l = 2 * l.depth
+abbrev pub decreases-pass_value : goal.decreases-pass_value
+decreases-pass_value l = 2 * l.depth
 
 abbrev pub decreases-pass_items : goal.decreases-pass_items
 decreases-pass_items l = 2 * l.depth + 1
