@@ -7,13 +7,13 @@ use Rattle.std.proofs.lemmas.List.Elements.{All-cons, All-nil}
 use Rattle.dr_base.specs.Reading.{◌>>=◌}
 use Rattle.dr_events.specs.WholeNumber.{digits_number}
 use Rattle.dr_merge.specs.declared.purpose.Purpose.{Purpose}
-use Rattle.dr_merge.specs.declared.purpose.Purpose.TheVariants.{Merge}
+use Rattle.dr_merge.specs.declared.purpose.Purpose.TheVariants.{Merge, Publish}
 use Rattle.dr_requests.specs.declared.command_error.CommandError.{CommandError}
 use Rattle.dr_requests.specs.declared.command_error.CommandError.TheVariants.{BadCommand}
 use Rattle.dr_requests.specs.declared.request.Request.{Request}
-use Rattle.dr_requests.specs.declared.request.Request.TheVariants.{Add, Seal, Join, Plan, Commit, Pin, Query, At, Audit, Stats}
-use Rattle.dr_requests.specs.Request.{at_in, commit_in, join_in, number_in, one_word, one_word_of, or_bad_command, places_in, plan_in, purpose_in, request_alone, request_in, request_of, request_with, seal_in, some_word, split_word, two_parts, two_parts_of, within_64_bits}
-use Rattle.dr_requests.specs.Grammar.{IsWord, SpellsNumber, SpellsPurpose, SpellsPlaces, SpellsRequest, to_merge, from_to, no_event, event, seal, join, plan, commit, pin, query, at_pin, audit, stats}
+use Rattle.dr_requests.specs.declared.request.Request.TheVariants.{Add, Seal, Join, Plan, Commit, Pin, Query, At, Audit, Image, Stats}
+use Rattle.dr_requests.specs.Request.{at_in, commit_in, image_in, join_in, number_in, one_word, one_word_of, or_bad_command, places_in, plan_in, purpose_in, request_alone, request_in, request_of, request_with, seal_in, some_word, split_word, two_parts, two_parts_of, within_64_bits}
+use Rattle.dr_requests.specs.Grammar.{IsWord, SpellsNumber, SpellsPurpose, SpellsPlaces, SpellsRequest, to_merge, to_publish, from_to, no_event, event, seal, join, plan, commit, pin, query, at_pin, audit, image, stats}
 use Rattle.dr_requests.proofs.WordLemmas.{split_at, split_whole}
 
 -- ---- what is spelled is read
@@ -37,12 +37,18 @@ places_read text instant lo hi (from_to w l h m n is_word is_lo spells_lo spells
 
 purpose_read : (word : List ℕ) (purpose : Purpose) → SpellsPurpose word purpose → purpose_in word ≡ Ok purpose
 purpose_read word purpose to_merge = refl
+purpose_read word purpose to_publish = refl
+
+join_read : (word places instant : List ℕ) (purpose : Purpose) (lo hi : ℕ) → SpellsPurpose word purpose → SpellsPlaces places instant lo hi
+    → request_in (word ++ 32 ∷ places) ≡ Ok (Join purpose instant lo hi)
+join_read word places instant purpose lo hi to_merge spells = rw (places_read places instant lo hi spells) refl
+join_read word places instant purpose lo hi to_publish spells = rw (places_read places instant lo hi spells) refl
 
 pub spelled_is_read : (line : List ℕ) (r : Request (List ℕ)) → SpellsRequest line r → request_in line ≡ Ok r
 spelled_is_read line r no_event = refl
 spelled_is_read line r (event text) = refl
 spelled_is_read line r (seal instant is) = rw (one_read instant is) refl
-spelled_is_read line r (join places instant lo hi spells) = rw (places_read places instant lo hi spells) refl
+spelled_is_read line r (join word places instant purpose lo hi spelled spells) = join_read word places instant purpose lo hi spelled spells
 spelled_is_read line r (plan word places instant purpose lo hi is spelled spells) =
     rw (parts_read word places is, purpose_read word purpose spelled, places_read places instant lo hi spells) refl
 spelled_is_read line r (commit word n spells) = rw (number_read word n spells) refl
@@ -50,6 +56,7 @@ spelled_is_read line r pin = refl
 spelled_is_read line r (query text) = refl
 spelled_is_read line r (at_pin word text n is spells) = rw (parts_read word text is, number_read word n spells) refl
 spelled_is_read line r (audit text) = refl
+spelled_is_read line r (image instant word place is spells) = rw (parts_read instant word is, number_read word place spells) refl
 spelled_is_read line r stats = refl
 
 -- ---- what is read is spelled
@@ -145,17 +152,19 @@ seal_of rest r read =
     let found = one_of rest (split_word rest) w (splits rest) one in
     spells (codes "seal " ++ rest) (codes "seal " ++ w) r (Seal w) (ap (λ l. codes "seal " ++ l) found.0) made (seal w found.1))
 
-join_of : (rest : List ℕ) (r : Request (List ℕ)) → join_in Merge rest ≡ Ok r → SpellsRequest (codes "merge " ++ rest) r
-join_of rest r read =
+join_of : (word rest : List ℕ) (purpose : Purpose) (r : Request (List ℕ)) → SpellsPurpose word purpose → join_in purpose rest ≡ Ok r → SpellsRequest (word ++ 32 ∷ rest) r
+join_of word rest purpose r spelled read =
     through (places_in rest) _ r read (λ p found made.
-    spells (codes "merge " ++ rest) (codes "merge " ++ rest) r (Join Merge p.0 p.1 p.2) refl made (join rest p.0 p.1 p.2 (places_of rest p.0 p.1 p.2 found)))
+    spells (word ++ 32 ∷ rest) (word ++ 32 ∷ rest) r (Join purpose p.0 p.1 p.2) refl made (join word rest p.0 purpose p.1 p.2 spelled (places_of rest p.0 p.1 p.2 found)))
 
 purpose_of : (word : List ℕ) (purpose : Purpose) → purpose_in word ≡ Ok purpose → SpellsPurpose word purpose
-purpose_of word purpose read = at (bytes_eq word (codes "merge")) refl read
+purpose_of word purpose read = at (bytes_eq word (codes "merge")) (bytes_eq word (codes "publish")) refl refl read
   where
-    at : (b : Bool) → bytes_eq word (codes "merge") ≡ b → cond {A = Result Purpose CommandError} b (Ok Merge) (Err BadCommand) ≡ Ok purpose → SpellsPurpose word purpose
-    at true x is = let same : Merge ≡ purpose = cc in coe 0 1 (i. SpellsPurpose ((sym (word_by word (codes "merge") x)) i) (same i)) to_merge
-    at false x is = cc
+    at : (a b : Bool) → bytes_eq word (codes "merge") ≡ a → bytes_eq word (codes "publish") ≡ b
+        → cond {A = Result Purpose CommandError} a (Ok Merge) (cond b (Ok Publish) (Err BadCommand)) ≡ Ok purpose → SpellsPurpose word purpose
+    at true b x y is = let same : Merge ≡ purpose = cc in coe 0 1 (i. SpellsPurpose ((sym (word_by word (codes "merge") x)) i) (same i)) to_merge
+    at false true x y is = let same : Publish ≡ purpose = cc in coe 0 1 (i. SpellsPurpose ((sym (word_by word (codes "publish") y)) i) (same i)) to_publish
+    at false false x y is = cc
 
 plan_of : (rest : List ℕ) (r : Request (List ℕ)) → plan_in rest ≡ Ok r → SpellsRequest (codes "plan " ++ rest) r
 plan_of rest r read =
@@ -177,28 +186,38 @@ at_of rest r read =
     let parts = parts_of rest (split_word rest) p (splits rest) first in
     spells (codes "at " ++ rest) (codes "at " ++ (p.0 ++ (codes " " ++ p.1))) r (At n p.1) (ap (λ l. codes "at " ++ l) parts.0) made (at_pin p.0 p.1 n parts.1 (number_of p.0 n found))))
 
+image_of : (rest : List ℕ) (r : Request (List ℕ)) → image_in rest ≡ Ok r → SpellsRequest (codes "image " ++ rest) r
+image_of rest r read =
+    through (two_parts rest) _ r read (λ p first read.
+    through (number_in p.1) _ r read (λ n found made.
+    let parts = parts_of rest (split_word rest) p (splits rest) first in
+    spells (codes "image " ++ rest) (codes "image " ++ (p.0 ++ (codes " " ++ p.1))) r (Image p.0 n) (ap (λ l. codes "image " ++ l) parts.0) made (image p.0 p.1 n parts.1 (number_of p.1 n found))))
+
 -- a line whose first word is this one
 line_by : (line word text rest : List ℕ) (r : Request (List ℕ)) → line ≡ word ++ 32 ∷ rest → bytes_eq word text ≡ true → SpellsRequest (text ++ 32 ∷ rest) r → SpellsRequest line r
 line_by line word text rest r is found spelled = subst (λ l. SpellsRequest l r) (sym (is ∙ ap (λ w. w ++ 32 ∷ rest) (word_by word text found))) spelled
 
 with_of : (line word rest : List ℕ) (r : Request (List ℕ)) → line ≡ word ++ 32 ∷ rest → request_with word rest ≡ Ok r → SpellsRequest line r
 with_of line word rest r is read =
-    at (bytes_eq word (codes "+")) (bytes_eq word (codes "query")) (bytes_eq word (codes "audit")) (bytes_eq word (codes "at")) (bytes_eq word (codes "seal")) (bytes_eq word (codes "merge")) (bytes_eq word (codes "plan"))
-    (bytes_eq word (codes "commit")) refl refl refl refl refl refl refl refl read
+    at (bytes_eq word (codes "+")) (bytes_eq word (codes "query")) (bytes_eq word (codes "audit")) (bytes_eq word (codes "at")) (bytes_eq word (codes "seal")) (bytes_eq word (codes "merge")) (bytes_eq word (codes "publish"))
+    (bytes_eq word (codes "plan")) (bytes_eq word (codes "commit")) (bytes_eq word (codes "image")) refl refl refl refl refl refl refl refl refl refl read
   where
-    at : (a b c d e f g h : Bool) → bytes_eq word (codes "+") ≡ a → bytes_eq word (codes "query") ≡ b → bytes_eq word (codes "audit") ≡ c → bytes_eq word (codes "at") ≡ d
-        → bytes_eq word (codes "seal") ≡ e → bytes_eq word (codes "merge") ≡ f → bytes_eq word (codes "plan") ≡ g → bytes_eq word (codes "commit") ≡ h
+    at : (a b c d e f g h i j : Bool) → bytes_eq word (codes "+") ≡ a → bytes_eq word (codes "query") ≡ b → bytes_eq word (codes "audit") ≡ c → bytes_eq word (codes "at") ≡ d
+        → bytes_eq word (codes "seal") ≡ e → bytes_eq word (codes "merge") ≡ f → bytes_eq word (codes "publish") ≡ g → bytes_eq word (codes "plan") ≡ h
+        → bytes_eq word (codes "commit") ≡ i → bytes_eq word (codes "image") ≡ j
         → cond {A = Result (Request (List ℕ)) CommandError} a (Ok (Add rest)) (cond b (Ok (Query rest)) (cond c (Ok (Audit rest)) (cond d (at_in rest) (cond e (seal_in rest) (cond f (join_in Merge rest)
-        (cond g (plan_in rest) (cond h (commit_in rest) (Err BadCommand)))))))) ≡ Ok r → SpellsRequest line r
-    at true b c d e f g h p q s t u v w x made = line_by line word (codes "+") rest r is p (spells (codes "+ " ++ rest) (codes "+ " ++ rest) r (Add rest) refl made (event rest))
-    at false true c d e f g h p q s t u v w x made = line_by line word (codes "query") rest r is q (spells (codes "query " ++ rest) (codes "query " ++ rest) r (Query rest) refl made (query rest))
-    at false false true d e f g h p q s t u v w x made = line_by line word (codes "audit") rest r is s (spells (codes "audit " ++ rest) (codes "audit " ++ rest) r (Audit rest) refl made (audit rest))
-    at false false false true e f g h p q s t u v w x made = line_by line word (codes "at") rest r is t (at_of rest r made)
-    at false false false false true f g h p q s t u v w x made = line_by line word (codes "seal") rest r is u (seal_of rest r made)
-    at false false false false false true g h p q s t u v w x made = line_by line word (codes "merge") rest r is v (join_of rest r made)
-    at false false false false false false true h p q s t u v w x made = line_by line word (codes "plan") rest r is w (plan_of rest r made)
-    at false false false false false false false true p q s t u v w x made = line_by line word (codes "commit") rest r is x (commit_of rest r made)
-    at false false false false false false false false p q s t u v w x made = cc
+        (cond g (join_in Publish rest) (cond h (plan_in rest) (cond i (commit_in rest) (cond j (image_in rest) (Err BadCommand)))))))))) ≡ Ok r → SpellsRequest line r
+    at true b c d e f g h i j p q s t u v w x y z made = line_by line word (codes "+") rest r is p (spells (codes "+ " ++ rest) (codes "+ " ++ rest) r (Add rest) refl made (event rest))
+    at false true c d e f g h i j p q s t u v w x y z made = line_by line word (codes "query") rest r is q (spells (codes "query " ++ rest) (codes "query " ++ rest) r (Query rest) refl made (query rest))
+    at false false true d e f g h i j p q s t u v w x y z made = line_by line word (codes "audit") rest r is s (spells (codes "audit " ++ rest) (codes "audit " ++ rest) r (Audit rest) refl made (audit rest))
+    at false false false true e f g h i j p q s t u v w x y z made = line_by line word (codes "at") rest r is t (at_of rest r made)
+    at false false false false true f g h i j p q s t u v w x y z made = line_by line word (codes "seal") rest r is u (seal_of rest r made)
+    at false false false false false true g h i j p q s t u v w x y z made = line_by line word (codes "merge") rest r is v (join_of (codes "merge") rest Merge r to_merge made)
+    at false false false false false false true h i j p q s t u v w x y z made = line_by line word (codes "publish") rest r is w (join_of (codes "publish") rest Publish r to_publish made)
+    at false false false false false false false true i j p q s t u v w x y z made = line_by line word (codes "plan") rest r is x (plan_of rest r made)
+    at false false false false false false false false true j p q s t u v w x y z made = line_by line word (codes "commit") rest r is y (commit_of rest r made)
+    at false false false false false false false false false true p q s t u v w x y z made = line_by line word (codes "image") rest r is z (image_of rest r made)
+    at false false false false false false false false false false p q s t u v w x y z made = cc
 
 line_of : (line : List ℕ) (p : List ℕ × Option (List ℕ)) (r : Request (List ℕ)) → Splits line p → request_of p ≡ Ok r → SpellsRequest line r
 line_of line (word, None) r is read = subst (λ l. SpellsRequest l r) (sym is.0) (alone_of word r read)

@@ -2,9 +2,9 @@
 use Rattle.std.specs.Prelude.{◌≡◌, ◌≢◌, ℕ, ◌<◌, ◌^◌, List, [], ◌++◌, length, All, Some, Ok, codes}
 use Rattle.dr_events.specs.WholeNumber.{digits_number}
 use Rattle.dr_merge.specs.declared.purpose.Purpose.{Purpose}
-use Rattle.dr_merge.specs.declared.purpose.Purpose.TheVariants.{Merge}
+use Rattle.dr_merge.specs.declared.purpose.Purpose.TheVariants.{Merge, Publish}
 use Rattle.dr_requests.specs.declared.request.Request.{Request}
-use Rattle.dr_requests.specs.declared.request.Request.TheVariants.{Add, Seal, Join, Plan, Commit, Pin, Query, At, Audit, Stats}
+use Rattle.dr_requests.specs.declared.request.Request.TheVariants.{Add, Seal, Join, Plan, Commit, Pin, Query, At, Audit, Image, Stats}
 use Rattle.dr_requests.specs.Request.{request_in}
 
 -- one byte at least, and no space
@@ -18,6 +18,7 @@ SpellsNumber word n = (digits_number word ≡ Some n) × (n < 2 ^ 64)
 -- the word of a purpose
 pub data SpellsPurpose : List ℕ → Purpose → Type 0 where
   to_merge : SpellsPurpose (codes "merge") Merge
+  to_publish : SpellsPurpose (codes "publish") Publish
 
 -- `INSTANT LO HI`
 pub data SpellsPlaces : List ℕ → List ℕ → ℕ → ℕ → Type 0 where
@@ -29,7 +30,8 @@ pub data SpellsRequest : List ℕ → Request (List ℕ) → Type 0 where
   no_event : SpellsRequest (codes "+") (Add [])
   event : (text : List ℕ) → SpellsRequest (codes "+ " ++ text) (Add text)
   seal : (instant : List ℕ) → IsWord instant → SpellsRequest (codes "seal " ++ instant) (Seal instant)
-  join : (places instant : List ℕ) (lo hi : ℕ) → SpellsPlaces places instant lo hi → SpellsRequest (codes "merge " ++ places) (Join Merge instant lo hi)
+  join : (word places instant : List ℕ) (purpose : Purpose) (lo hi : ℕ) → SpellsPurpose word purpose → SpellsPlaces places instant lo hi
+      → SpellsRequest (word ++ (codes " " ++ places)) (Join purpose instant lo hi)
   plan : (word places instant : List ℕ) (purpose : Purpose) (lo hi : ℕ) → IsWord word → SpellsPurpose word purpose → SpellsPlaces places instant lo hi
       → SpellsRequest (codes "plan " ++ (word ++ (codes " " ++ places))) (Plan purpose instant lo hi)
   commit : (word : List ℕ) (n : ℕ) → SpellsNumber word n → SpellsRequest (codes "commit " ++ word) (Commit n)
@@ -37,6 +39,7 @@ pub data SpellsRequest : List ℕ → Request (List ℕ) → Type 0 where
   query : (text : List ℕ) → SpellsRequest (codes "query " ++ text) (Query text)
   at_pin : (word text : List ℕ) (n : ℕ) → IsWord word → SpellsNumber word n → SpellsRequest (codes "at " ++ (word ++ (codes " " ++ text))) (At n text)
   audit : (text : List ℕ) → SpellsRequest (codes "audit " ++ text) (Audit text)
+  image : (instant word : List ℕ) (place : ℕ) → IsWord instant → SpellsNumber word place → SpellsRequest (codes "image " ++ (instant ++ (codes " " ++ word))) (Image instant place)
   stats : SpellsRequest (codes "stats") Stats
 
 -- whatever line the grammar spells is read as what it asks for

@@ -8,11 +8,11 @@ use Rattle.dr_time.specs.declared.time_error.TimeError.TheVariants.{BadInstant}
 use Rattle.dr_time.specs.Instant.{instant_of}
 use Rattle.dr_events.specs.WholeNumber.{digits_number}
 use Rattle.dr_merge.specs.declared.purpose.Purpose.{Purpose}
-use Rattle.dr_merge.specs.declared.purpose.Purpose.TheVariants.{Merge}
+use Rattle.dr_merge.specs.declared.purpose.Purpose.TheVariants.{Merge, Publish}
 use Rattle.dr_requests.specs.declared.command_error.CommandError.{CommandError}
 use Rattle.dr_requests.specs.declared.command_error.CommandError.TheVariants.{BadCommand}
 use Rattle.dr_requests.specs.declared.request.Request.{Request}
-use Rattle.dr_requests.specs.declared.request.Request.TheVariants.{Add, Seal, Join, Plan, Commit, Pin, Query, At, Audit, Stats}
+use Rattle.dr_requests.specs.declared.request.Request.TheVariants.{Add, Seal, Join, Plan, Commit, Pin, Query, At, Audit, Image, Stats}
 
 -- what there is, and else no command
 abbrev pub or_bad_command : {A : Type 0} → Option A → Result A CommandError
@@ -83,7 +83,10 @@ join_in purpose text = do
 
 -- the word of a purpose
 abbrev pub purpose_in : List ℕ → Result Purpose CommandError
-purpose_in word = if bytes_eq word (codes "merge") then Ok Merge else Err BadCommand
+purpose_in word =
+    if bytes_eq word (codes "merge") then Ok Merge
+    else if bytes_eq word (codes "publish") then Ok Publish
+    else Err BadCommand
 
 -- `plan PURPOSE INSTANT LO HI`
 abbrev pub plan_in : List ℕ → Result (Request (List ℕ)) CommandError
@@ -106,6 +109,13 @@ at_in text = do
   n ← number_in p.0
   Ok (At n p.1)
 
+-- `image INSTANT PLACE`
+abbrev pub image_in : List ℕ → Result (Request (List ℕ)) CommandError
+image_in text = do
+  p ← two_parts text
+  place ← number_in p.1
+  Ok (Image p.0 place)
+
 -- a line of one word: `pin`, `stats`, or `+`, which is an event of no bytes
 abbrev pub request_alone : List ℕ → Result (Request (List ℕ)) CommandError
 request_alone word =
@@ -123,8 +133,10 @@ request_with word rest =
     else if bytes_eq word (codes "at") then at_in rest
     else if bytes_eq word (codes "seal") then seal_in rest
     else if bytes_eq word (codes "merge") then join_in Merge rest
+    else if bytes_eq word (codes "publish") then join_in Publish rest
     else if bytes_eq word (codes "plan") then plan_in rest
     else if bytes_eq word (codes "commit") then commit_in rest
+    else if bytes_eq word (codes "image") then image_in rest
     else Err BadCommand
 
 abbrev pub request_of : List ℕ × Option (List ℕ) → Result (Request (List ℕ)) CommandError

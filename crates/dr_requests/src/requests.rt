@@ -1,4 +1,4 @@
-ghost use Rattle.dr_requests.specs.Request.{at_in, commit_in, join_in, places_in, plan_in, purpose_in, request_alone, request_in, request_with, seal_in};
+ghost use Rattle.dr_requests.specs.Request.{at_in, commit_in, image_in, join_in, places_in, plan_in, purpose_in, request_alone, request_in, request_with, seal_in};
 ghost use Rattle.dr_requests.specs.Seen.{seen_request};
 ghost use Rattle.dr_requests.specs.Refusal.{Gives};
 
@@ -55,11 +55,17 @@ fn request_with<'a>(word: &[u8], rest: &'a [u8]) -> Result<Request<&'a [u8]>, Co
     if word == b"merge".as_slice() {
         return join_in(Purpose::Merge, rest);
     }
+    if word == b"publish".as_slice() {
+        return join_in(Purpose::Publish, rest);
+    }
     if word == b"plan".as_slice() {
         return plan_in(rest);
     }
     if word == b"commit".as_slice() {
         return commit_in(rest);
+    }
+    if word == b"image".as_slice() {
+        return image_in(rest);
     }
     Err(CommandError::BadCommand)
 }
@@ -104,11 +110,22 @@ fn plan_in(text: &[u8]) -> Result<Request<&[u8]>, CommandError>
     Ok(Request::Plan(purpose, instant, lo, hi))
 }
 
+// `INSTANT PLACE`.
+fn image_in(text: &[u8]) -> Result<Request<&[u8]>, CommandError>
+    ensures { Gives seen_request result (image_in text.now) }
+{
+    let (instant, place) = two_parts(text)?;
+    Ok(Request::Image(instant, number_in(place)?))
+}
+
 fn purpose_in(word: &[u8]) -> Result<Purpose, CommandError>
     ensures { Gives (λ purpose. purpose) result (purpose_in word.now) }
 {
     if word == b"merge".as_slice() {
         return Ok(Purpose::Merge);
+    }
+    if word == b"publish".as_slice() {
+        return Ok(Purpose::Publish);
     }
     Err(CommandError::BadCommand)
 }

@@ -17,13 +17,14 @@ use Rattle.dr_timeline.specs.declared.outcome.Outcome.TheVariants.{Unparseable a
 use Rattle.dr_timeline.specs.declared.stats.Stats.{Stats}
 use Rattle.dr_timeline.specs.Noted.{stats}
 use Rattle.dr_merge.specs.declared.purpose.Purpose.{Purpose}
-use Rattle.dr_merge.specs.declared.purpose.Purpose.TheVariants.{Merge}
+use Rattle.dr_merge.specs.declared.purpose.Purpose.TheVariants.{Merge, Publish}
 use Rattle.dr_cuts.specs.RawAnswer.{raw_answer}
 use Rattle.dr_timeline.specs.CoreState.{CoreState}
 use Rattle.dr_cuts.specs.Segments.{pinned, rows_of}
 use Rattle.dr_core.specs.Refusal as core_refusal
 use Rattle.dr_core.specs.Steps as core
 use Rattle.dr_requests.specs.declared.command_error.CommandError.{CommandError}
+use Rattle.dr_requests.specs.declared.command_error.CommandError.TheVariants.{BadCommand}
 use Rattle.dr_requests.specs.declared.request.Request.{Request}
 use Rattle.dr_requests.specs.declared.request.Request.TheVariants as line
 use Rattle.dr_script.specs.declared.script_error.ScriptError.{ScriptError}
@@ -99,20 +100,28 @@ seal_chunk instant c = do
   s ← passed Core (core.seal k c)
   Ok (answered (codes "sealed"), s)
 
--- what is written where ranges became one
-abbrev pub joined_line : Purpose → List ℕ
-joined_line Merge = codes "merged"
+-- what is written where ranges became one, which has this version
+abbrev pub joined_line : Purpose → ℕ → List ℕ
+joined_line Merge version = codes "merged"
+joined_line Publish version = codes "published v" ++ decimal version
 
--- `merge INSTANT LO HI`: a job that is planned and committed at once
+-- publications aren't carried out yet: a line that asks for one is refused as one that fits no command
+abbrev pub check_purpose : Purpose → Result (Unit {0}) ScriptError
+check_purpose Merge = Ok tt
+check_purpose Publish = Err (Command BadCommand)
+
+-- `merge INSTANT LO HI`, `publish INSTANT LO HI`: a job that is planned and committed at once
 abbrev pub join_ranges : Purpose → List ℕ → ℕ → ℕ → CoreState → Result (Answered × CoreState) ScriptError
 join_ranges purpose instant lo hi c = do
+  checked ← check_purpose purpose
   k ← chunk_named c instant
   n ← passed Core (core.join k lo hi purpose c)
-  Ok (answered (joined_line purpose), n.1)
+  Ok (answered (joined_line purpose n.0), n.1)
 
--- `plan merge INSTANT LO HI`: a job that is kept, numbered from 0
+-- `plan merge INSTANT LO HI`, `plan publish INSTANT LO HI`: a job that is kept, numbered from 0
 abbrev pub plan_ranges : Purpose → List ℕ → ℕ → ℕ → CoreState → Result (Answered × CoreState) ScriptError
 plan_ranges purpose instant lo hi c = do
+  checked ← check_purpose purpose
   k ← chunk_named c instant
   n ← passed Core (core.plan k lo hi purpose c)
   Ok (answered (codes "job " ++ decimal n.0), n.1)
@@ -160,6 +169,10 @@ stats_line n = counts_line n.processed n.unparseable n.thrown_away
 abbrev pub tell_stats : CoreState → Result (Answered × CoreState) ScriptError
 tell_stats c = Ok (answered (stats_line (stats c.timeline)), c)
 
+-- `image INSTANT PLACE`: images aren't told yet either
+abbrev pub image_at : List ℕ → ℕ → CoreState → Result (Answered × CoreState) ScriptError
+image_at instant place c = Err (Command BadCommand)
+
 -- what a line asks for is done
 abbrev pub carried_out : CoreState → Request (List ℕ) → Result (Answered × CoreState) ScriptError
 carried_out c (line.Add text) = add_event text c
@@ -171,4 +184,5 @@ carried_out c line.Pin = pin_snapshot c
 carried_out c (line.Query text) = ask_now text c
 carried_out c (line.At number text) = ask_at number text c
 carried_out c (line.Audit text) = audit_now text c
+carried_out c (line.Image instant place) = image_at instant place c
 carried_out c line.Stats = tell_stats c

@@ -19,7 +19,7 @@ abbrev pub seen : Reply → Answered
 seen SpecOk = answered (codes "spec ok")
 seen (Accepted number) = answered (codes "accepted " ++ decimal number)
 seen Sealed = answered (codes "sealed")
-seen (Joined purpose) = answered (joined_line purpose)
+seen (Joined purpose version) = answered (joined_line purpose version)
 seen (Job number) = answered (codes "job " ++ decimal number)
 seen Committed = answered (codes "committed")
 seen (Pinned number) = answered (codes "pin " ++ decimal number)

@@ -2,6 +2,7 @@ ghost use Rattle.std.specs.Prelude.{◌≡◌, ◌++◌, ◌∷◌, [], IsOkUnle
 ghost use Rattle.dr_lines.specs.Failures.{failures_of, inner_of, failures_after};
 ghost use Rattle.dr_lines.specs.Written.{Puts};
 ghost use Rattle.dr_script.specs.Replies.{seen};
+ghost use Rattle.dr_script.specs.Commands.{joined_line};
 
 use crate::hexadecimal::put_hexadecimal_line;
 use dr_lines::{Counted, LineError, LineWriter};
@@ -19,8 +20,8 @@ pub enum Reply {
     Accepted(u64),
     /// `sealed`: the open range of a chunk was sealed.
     Sealed,
-    /// `merged`: sealed ranges became one, for that purpose.
-    Joined(Purpose),
+    /// `merged`, or `published vN`: sealed ranges became one, for that purpose, which has that version.
+    Joined(Purpose, u64),
     /// `job N`: a job was planned, which got that number, from 0.
     Job(usize),
     /// `committed`: a job was committed.
@@ -64,7 +65,7 @@ impl Reply {
             Reply::SpecOk => lines.put_line(writer, b"spec ok"),
             Reply::Accepted(number) => put_number(lines, writer, b"accepted ", number),
             Reply::Sealed => lines.put_line(writer, b"sealed"),
-            Reply::Joined(Purpose::Merge) => lines.put_line(writer, b"merged"),
+            Reply::Joined(purpose, version) => put_joined(lines, writer, purpose, version),
             Reply::Job(number) => put_number(lines, writer, b"job ", number as u64),
             Reply::Committed => lines.put_line(writer, b"committed"),
             Reply::Pinned(number) => put_number(lines, writer, b"pin ", number as u64),
@@ -72,6 +73,24 @@ impl Reply {
             Reply::Hexadecimal(bytes) => put_hexadecimal_line(lines, writer, bytes.as_slice()),
             Reply::Fault(error) => lines.put_line(writer, error.line().as_bytes()),
         }
+    }
+}
+
+// Writes what ranges that became one were joined for.
+fn put_joined<W: Write>(
+    lines: &mut LineWriter,
+    writer: &mut Counted<W>,
+    purpose: Purpose,
+    version: u64,
+) -> Result<(), LineError>
+    ensures bytes { Puts (W.contents (inner_of writer.old)) (W.contents (inner_of writer.new))
+        (lines.old ++ joined_line purpose version ++ 10 ∷ []) lines.new result }
+    ensures fault { IsOkUnless result LineError.WriteFault }
+    ensures failures { failures_of writer.new ≡ failures_after (failures_of writer.old) result }
+{
+    match purpose {
+        Purpose::Merge => lines.put_line(writer, b"merged"),
+        Purpose::Publish => put_number(lines, writer, b"published v", version),
     }
 }
 

@@ -7,7 +7,7 @@ ghost use Rattle.dr_cuts.specs.RawAnswer.{raw_answer};
 ghost use Rattle.dr_cuts.specs.Segments.{pinned, rows_of};
 ghost use Rattle.dr_script.specs.declared.script_error.ScriptError.TheVariants.{Answer};
 ghost use Rattle.dr_timeline.specs.CoreState.{empty_core};
-ghost use Rattle.dr_script.specs.Commands.{add_event, ask_at, ask_now, audit_now as audited_now, carried_out, chunk_named, commit_job, is_memory, join_ranges, pin_snapshot, plan_ranges, seal_chunk, tell_stats};
+ghost use Rattle.dr_script.specs.Commands.{add_event, ask_at, ask_now, audit_now as audited_now, carried_out, check_purpose, chunk_named, commit_job, is_memory, join_ranges, pin_snapshot, plan_ranges, seal_chunk, tell_stats};
 ghost use Rattle.dr_script.specs.Replies.{seen};
 ghost use Rattle.dr_requests.specs.Seen.{seen_request};
 
@@ -78,6 +78,7 @@ impl Session {
             Request::Query(text) => self.query(alloc, text),
             Request::At(number, text) => self.at(alloc, number, text),
             Request::Audit(text) => self.audit(alloc, text),
+            Request::Image(_, _) => Err(ScriptError::Command(CommandError::BadCommand)),
             Request::Stats => self.stats(alloc),
         }
     }
@@ -120,10 +121,12 @@ impl Session {
         ensures step { GivesUnless is_memory (λ reply. (seen reply, self.new)) result (join_ranges purpose instant.now lo hi self.old) }
         ensures err { OnErr result (self.new ≡ self.old) }
     {
+        check_purpose(purpose)?;
         let chunk = self.chunk_named(instant)?;
-        self.core
+        let version = self
+            .core
             .join(alloc, chunk, lo as usize, hi as usize, purpose)?;
-        Ok(Reply::Joined(purpose))
+        Ok(Reply::Joined(purpose, version))
     }
 
     fn plan(
@@ -136,6 +139,7 @@ impl Session {
         ensures step { GivesUnless is_memory (λ reply. (seen reply, self.new)) result (plan_ranges purpose instant.now lo hi self.old) }
         ensures err { OnErr result (self.new ≡ self.old) }
     {
+        check_purpose(purpose)?;
         let chunk = self.chunk_named(instant)?;
         let number = self.core.plan(chunk, lo as usize, hi as usize, purpose)?;
         Ok(Reply::Job(number))
@@ -196,6 +200,16 @@ impl Session {
         let time = instant_in(instant)?;
         let schema = self.core.spec().schema();
         Ok(schema.segment_granularity().truncate(time))
+    }
+}
+
+// Publications aren't carried out yet: a line that asks for one is refused as one that fits no command.
+fn check_purpose(purpose: Purpose) -> Result<(), ScriptError>
+    ensures { GivesUnless is_memory (λ checked. checked) result (check_purpose purpose) }
+{
+    match purpose {
+        Purpose::Merge => Ok(()),
+        Purpose::Publish => Err(ScriptError::Command(CommandError::BadCommand)),
     }
 }
 
