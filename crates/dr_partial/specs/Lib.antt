@@ -1,3 +1,5 @@
 pub mod Partial
 pub mod Grouped
+pub mod Known
+pub mod Source
 pub mod Laws
