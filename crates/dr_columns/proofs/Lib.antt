@@ -1,3 +1,3 @@
-pub mod Narrowing
-pub mod Values
-pub mod Runs
+pub mod NarrowLemmas
+pub mod ValueLemmas
+pub mod RunLemmas

@@ -1,4 +1,4 @@
-ghost use Rattle.std.specs.Prelude.{◌≡◌, ◌<◌, ◌&&◌, false, true, not, length, map, get_or, OnOk, IfOk};
+ghost use Rattle.std.specs.Prelude.{◌≡◌, ◌<◌, ◌&&◌, ℕ, false, true, not, length, map, get_or, OnOk, IfOk};
 ghost use Rattle.dr_time.specs.Union.{union_holds};
 ghost use Rattle.dr_filter.specs.Condition.{condition_in, conditions_in, every_matches, some_matches, matches};
 ghost use Rattle.dr_filter.specs.Match.{holds_of, passes};
@@ -129,10 +129,25 @@ pub fn keep_held(view: &SegmentView<'_>, union: &Union, told: &mut [bool])
     let mut held = union.contains(time);
     for i in 0..told.len() {
         let next = value_at(times, i);
-        if next != time {
-            time = next;
-            held = union.contains(time);
-        }
-        told[i] = told[i] && held;
+        held = is_held(union, time, held, next);
+        time = next;
+        told[i] = both(told[i], held);
     }
+}
+
+fn both(a: bool, b: bool) -> bool
+    ensures { result ≡ (a && b) }
+{
+    a && b
+}
+
+// Whether a time is held, where that is known of the time before.
+fn is_held(union: &Union, before: i64, held: bool, time: i64) -> bool
+    requires { held ≡ union_holds union.now before }
+    ensures { result ≡ union_holds union.now time }
+{
+    if time == before {
+        return held;
+    }
+    union.contains(time)
 }

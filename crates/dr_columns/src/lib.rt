@@ -17,5 +17,5 @@ pub use grouping::{agree, columns, read_group, slot, slot_count};
 pub use numbered::Numbered;
 pub use reading::{Reading, readings};
 pub use runs::{run_end, time_at};
-pub use selection::{Selection, is_apart, selection};
+pub use selection::{Selection, is_apart, rows_selected};
 pub use values::Values;

@@ -75,12 +75,12 @@ pub fn readings<'a>(
 {
     let mut readings = Vec::with_capacity(alloc, aggregations.len())?;
     for aggregation in aggregations {
-        readings.push(reading(view, aggregation))?;
+        readings.push(reading_of(view, aggregation))?;
     }
     Ok(readings)
 }
 
-fn reading<'a>(view: &SegmentView<'a>, aggregation: &Aggregation) -> Reading<'a>
+fn reading_of<'a>(view: &SegmentView<'a>, aggregation: &Aggregation) -> Reading<'a>
     ensures kind { result.kind ≡ aggregation.now.kind }
     ensures each { (i : ℕ) → read_at result i ≡ reading_in aggregation.now.kind aggregation.now.column (row_at view.now i) }
 {

@@ -11,7 +11,7 @@ ghost use Rattle.dr_partial.specs.Partial.{kinds_in};
 
 use crate::selecting::dimensions;
 use dr_ask::Query;
-use dr_columns::{Reading, Selection, columns, readings, selection};
+use dr_columns::{Numbered, Reading, Selection, columns, readings, rows_selected};
 use dr_image::SegmentView;
 use std::alloc::{AllocError, Global};
 
@@ -23,7 +23,7 @@ pub struct Source<'a> {
     pub view: &'a SegmentView<'a>,
     pub selection: Selection,
     pub readings: Vec<Reading<'a>>,
-    pub columns: Vec<&'a [[u8; 4]]>,
+    pub columns: Vec<Numbered<'a>>,
     ghost selected: { (i : ℕ) → i < length view.now.times → tells selection i ≡ selects (asked query.now) (key_at view.now i) },
     ghost kinds: { map (λ r. r.kind) readings.items ≡ kinds_in query.now.aggregations },
     ghost read: { (i : ℕ) → map (λ r. read_at r i) readings.items ≡ map (λ a. reading_in a.kind a.column (row_at view.now i)) query.now.aggregations },
@@ -43,7 +43,7 @@ impl<'a> Source<'a> {
         Ok(Source {
             query,
             view,
-            selection: selection(alloc, query, view)?,
+            selection: rows_selected(alloc, query, view)?,
             readings: readings(alloc, view, query.aggregations.as_slice())?,
             columns: columns(alloc, view, dimensions(query))?,
         })

@@ -1,7 +1,7 @@
-use Rattle.std.proofs.Common.{◌≡◌, ◌<◌, ◌&&◌, ℕ, Bool, not, false, length, drop, get_or}
+use Rattle.std.proofs.Common.{◌≡◌, ◌<◌, ◌&&◌, ℕ, not, false, length, drop, get_or}
 use Rattle.dr_filter.specs.Condition.{conditions_in, every_matches, some_matches}
 use Rattle.dr_columns.specs.Rows.{key_at}
-use Rattle.dr_columns.proofs.Narrowing.{ToNarrow}
+use Rattle.dr_columns.proofs.NarrowLemmas.{ToNarrow}
 use Rattle.dr_columns.proofs.filtering.+narrowing.Given as goal
 
 abbrev pub invariant-narrow_every-loop-filter : goal.invariant-narrow_every-loop-filter

@@ -1,6 +1,5 @@
 use Rattle.std.proofs.Common.{not, false, get_or}
-use Rattle.dr_columns.specs.Rows.{truth_in}
-use Rattle.dr_columns.proofs.Narrowing.{NarrowsTo}
+use Rattle.dr_columns.proofs.NarrowLemmas.{NarrowsTo}
 use Rattle.dr_columns.proofs.telling.drop_where.Given as goal
 
 abbrev pub invariant-loop-i : goal.invariant-loop-i
