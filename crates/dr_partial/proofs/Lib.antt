@@ -3,3 +3,4 @@ pub mod Adding
 pub mod Groups
 pub mod Pieces
 pub mod Made
+pub mod ByColumns

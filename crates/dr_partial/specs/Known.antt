@@ -1,8 +1,11 @@
 -- The groups of an image's rows that were found before. No public contract cites this file.
-use Rattle.std.specs.Prelude.{ℕ, ℤ, List}
+use Rattle.std.specs.Prelude.{ℕ, ℤ, List, [], ◌∷◌, map}
 use Rattle.std.specs.List.{AllByRecursion}
 use Rattle.dr_base.specs.declared.key.Key.{Key}
 use Rattle.dr_base.specs.declared.row.Row.{Row}
+use Rattle.dr_agg.specs.Combination.{fold_of}
+use Rattle.dr_columns.specs.declared.reading.Reading.{Reading}
+use Rattle.dr_columns.specs.Read.{read_at}
 use Rattle.dr_image.specs.Table.{Table}
 use Rattle.dr_columns.specs.Rows.{key_at}
 use Rattle.dr_rollup.specs.Entries.{HasKeyAt}
@@ -21,3 +24,7 @@ AreKnown q t groups known = AllByRecursion (λ k. HasKeyAt (group_in q t k.bucke
 -- what is the key at a place stays so
 abbrev pub KeepsKeys : List Row → List Row → Type 0
 KeepsKeys before after = (k : Key) (place : ℕ) → HasKeyAt k before place → HasKeyAt k after place
+
+-- what is read of a row by each aggregation, alone
+abbrev pub folds_read : List Reading → ℕ → List ℤ
+folds_read readings i = map (λ r. fold_of r.kind (read_at r i ∷ [])) readings

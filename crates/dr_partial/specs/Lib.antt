@@ -1,5 +1,4 @@
 pub mod Partial
 pub mod Grouped
 pub mod Known
-pub mod Source
 pub mod Laws

@@ -3,13 +3,19 @@
 #![tactic(auto)]
 
 mod events;
+mod folds;
 mod group_of;
 mod grouping;
+mod known;
 mod laws;
 mod partial;
+mod placing;
 mod reading;
 mod rows;
 mod selecting;
+mod source;
+mod views;
+mod whole_runs;
 
 pub use laws::groups_from_partial;
 pub use partial::Partial;

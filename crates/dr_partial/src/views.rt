@@ -1,26 +1,21 @@
-ghost use Rattle.std.specs.Prelude.{◌≡◌, ◌<◌, ◌≤◌, ◌∷◌, [], ℕ, true, length, map, IfSome, OnOk, IfOk};
-ghost use Rattle.std.specs.List.{AllByRecursion};
-ghost use Rattle.dr_agg.specs.Combination.{combine_columns, FitsColumns};
-ghost use Rattle.dr_agg.specs.Rollup.{AllFit};
-ghost use Rattle.dr_ask.specs.Asked.{asked, asked_shape, dimensions_by};
-ghost use Rattle.dr_answers.specs.Fold.{folds};
+ghost use Rattle.std.specs.Prelude.{◌≡◌, ◌<◌, ◌≤◌, ◌∷◌, [], ℕ, true, length, map, OnOk};
+ghost use Rattle.dr_ask.specs.Asked.{asked};
 ghost use Rattle.dr_answers.specs.Groups.{bucket as bucket_of};
-ghost use Rattle.dr_answers.specs.Selection.{selects};
 ghost use Rattle.dr_image.specs.Table.{rows_of, row_at};
 ghost use Rattle.dr_columns.specs.Rows.{key_at, rows_between};
-ghost use Rattle.dr_rollup.specs.Entries.{row_of, HasKeyAt};
-ghost use Rattle.dr_partial.specs.Grouped.{IsSound, Adds, AddsAll, CombinesAt};
-ghost use Rattle.dr_partial.specs.Known.{AreKnown, KeepsKeys, group_in};
-ghost use Rattle.dr_partial.specs.Partial.{kinds_in, alone};
+ghost use Rattle.dr_rollup.specs.Entries.{row_of};
+ghost use Rattle.dr_partial.specs.Grouped.{IsSound, AddsAll};
+ghost use Rattle.dr_partial.specs.Known.{AreKnown};
+ghost use Rattle.dr_partial.specs.Partial.{kinds_in};
 
-use crate::group_of::GroupOf;
-use crate::grouping::{add_folds, find, key_of, put};
 use crate::known::Known;
+use crate::placing::add_selected_at;
 use crate::selecting::{bucket_start, dimensions};
 use crate::source::Source;
-use dr_base::{Key, Numbers, Text};
-use dr_columns::{Selection, agree, is_apart, read_group, run_end, time_at};
+use crate::whole_runs::add_whole_runs;
 use dr_ask::Query;
+use dr_base::{Key, Numbers, Text};
+use dr_columns::{is_apart, run_end, time_at};
 use dr_image::SegmentView;
 use indexmap::IndexMap;
 use std::alloc::AllocError;
@@ -38,6 +33,9 @@ pub fn add_view(
         return Ok(());
     }
     let source = Source::of(*groups.allocator(), query, view)?;
+    if source.selection.is_every() && dimensions(query).is_empty() {
+        return add_whole_runs(groups, &source);
+    }
     add_runs(groups, &source)
 }
 
@@ -57,4 +55,50 @@ fn add_runs(groups: &mut IndexMap<Key, Numbers>, source: &Source<'_>) -> Result<
         from = to;
     }
     Ok(())
+}
+
+// Adds the rows of one bucket.
+fn add_run(
+    groups: &mut IndexMap<Key, Numbers>,
+    source: &Source<'_>,
+    known: &mut Vec<Known>,
+    group: &mut Vec<Text>,
+    from: usize,
+    to: usize,
+) -> Result<(), AllocError>
+    requires some { from < to }
+    requires within { to ≤ length source.now.view.now.times }
+    requires same { (i : ℕ) → from ≤ i → i < to → bucket_of (asked source.now.query.now) (key_at source.now.view.now i).time ≡ bucket_of (asked source.now.query.now) (key_at source.now.view.now from).time }
+    requires sound { IsSound (kinds_in source.now.query.now.aggregations) (map row_of groups.old.entries) }
+    requires known { AreKnown (asked source.now.query.now) source.now.view.now (map row_of groups.old.entries) known.old.items }
+    ensures adds { OnOk result (AddsAll (asked source.now.query.now) (map row_of groups.old.entries) (rows_between source.now.view.now from to) (map row_of groups.new.entries)) }
+    ensures known { OnOk result (AreKnown (asked source.now.query.now) source.now.view.now (map row_of groups.new.entries) known.new.items) }
+{
+    let bucket = bucket_start(source.query, time_at(source.view, from));
+    for i in from..to {
+        add_at(groups, source, known, group, bucket, i)?;
+    }
+    Ok(())
+}
+
+// Adds a row, where it is selected.
+fn add_at(
+    groups: &mut IndexMap<Key, Numbers>,
+    source: &Source<'_>,
+    known: &mut Vec<Known>,
+    group: &mut Vec<Text>,
+    bucket: i64,
+    i: usize,
+) -> Result<(), AllocError>
+    requires within { i < length source.now.view.now.times }
+    requires bucket { bucket ≡ bucket_of (asked source.now.query.now) (key_at source.now.view.now i).time }
+    requires sound { IsSound (kinds_in source.now.query.now.aggregations) (map row_of groups.old.entries) }
+    requires known { AreKnown (asked source.now.query.now) source.now.view.now (map row_of groups.old.entries) known.old.items }
+    ensures adds { OnOk result (AddsAll (asked source.now.query.now) (map row_of groups.old.entries) (row_at source.now.view.now i ∷ []) (map row_of groups.new.entries)) }
+    ensures known { OnOk result (AreKnown (asked source.now.query.now) source.now.view.now (map row_of groups.new.entries) known.new.items) }
+{
+    if !source.selection.holds(i) {
+        return Ok(());
+    }
+    add_selected_at(groups, source, known, group, bucket, i)
 }

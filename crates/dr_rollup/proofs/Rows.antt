@@ -23,7 +23,7 @@ use Rattle.dr_rollup.specs.Entries.{same_keys}
 
 -- ---- a row that another of its key is combined into
 
-joined_twice : (kinds : List Kind) (rows : List Row) (x : Row) (m : List ℤ)
+pub joined_twice : (kinds : List Kind) (rows : List Row) (x : Row) (m : List ℤ)
     → add_row true kinds (add_row true kinds rows x) (record { key = x.key; metrics = m }) ≡ add_row true kinds rows (record { key = x.key; metrics = combine_columns kinds x.metrics m })
 unfolding add_row
 joined_twice kinds [] x m =
