@@ -1,17 +1,17 @@
 -- Rows of an image that are added column by column.
 use Rattle.std.proofs.Common.{◌≡◌, ◌∙◌, sym, refl, ap, subst, ℕ, zero, suc, ◌+◌, ◌-◌, ◌<◌, ◌≤◌, ℤ, Bool, true, false, true≢false, cond, List, [], ◌∷◌, ◌++◌, map, length, get_or, drop, take, slice_get, slice_set, is_some, unwrap_or, Option, None, Some, Result, Ok, Err, OnOk, arith}
 use Rattle.std.specs.List.{AllByRecursion, range_with_len}
-use Rattle.std.proofs.lemmas.List.{append-nil}
+use Rattle.std.proofs.lemmas.List.{append-nil, length-map}
 use Rattle.dr_base.specs.declared.key.Key.{Key}
 use Rattle.dr_base.specs.declared.row.Row.{Row}
 use Rattle.dr_agg.specs.declared.kind.Kind.{Kind}
-use Rattle.dr_agg.specs.Combination.{combine_columns, fold_of}
+use Rattle.dr_agg.specs.Combination.{combine_columns, fold_of, FitsColumns}
 use Rattle.dr_agg.specs.Rollup.{add_row, rollup_onto}
 use Rattle.dr_rollup.specs.Entries.{HasKeyAt}
 use Rattle.dr_rollup.proofs.Rows.{joined_twice}
 use Rattle.dr_ask.specs.declared.aggregation.Aggregation.{Aggregation}
 use Rattle.dr_ask.specs.Asked.{Asked, dimensions_by}
-use Rattle.dr_answers.specs.Fold.{reading_in, folds}
+use Rattle.dr_answers.specs.Fold.{reading_in, folded, folds}
 use Rattle.dr_answers.specs.Groups.{group_of}
 use Rattle.dr_answers.specs.Selection.{selects, selected}
 use Rattle.dr_image.specs.Table.{Table, row_at}
@@ -21,7 +21,9 @@ use Rattle.dr_partial.specs.declared.known.Known.{Known}
 use Rattle.dr_partial.specs.Grouped.{IsSound, Adds, AddsAll, CombinesAt, in_order, with_rows}
 use Rattle.dr_partial.specs.Known.{AreKnown, KeepsKeys, group_in}
 use Rattle.dr_partial.specs.Partial.{kinds_in, alone}
+use Rattle.dr_columns.specs.Rows.{rows_between}
 use Rattle.dr_partial.proofs.Groups.{folds_push}
+use Rattle.dr_partial.proofs.Pieces.{no-rows, more-rows, passed-over}
 
 -- ---- what aggregations read, column by column
 
@@ -33,17 +35,20 @@ read_each f g t same [] = refl
 read_each f g t same (i ∷ is) = λ j. same i j ∷ read_each f g t same is j
 
 -- what is read of the rows with these numbers, combined one by one, is what the aggregations fold to over these rows
-pub read-folds : (t : Table) (rs : List Reading) (as : List Aggregation) → map (λ r. r.kind) rs ≡ map (λ a. a.kind) as
-    → ((i : ℕ) → map (λ r. read_at r i) rs ≡ map (λ a. reading_in a.kind a.column (row_at t i)) as)
-    → (is : List ℕ) → map (λ r. fold_of r.kind (map (read_at r) is)) rs ≡ folds as (map (row_at t) is)
+pub read-folds : (t : Table) (rs : List Reading) (aggs : List Aggregation) → map (λ r. r.kind) rs ≡ map (λ a. a.kind) aggs
+    → ((i : ℕ) → map (λ r. read_at r i) rs ≡ map (λ a. reading_in a.kind a.column (row_at t i)) aggs)
+    → (is : List ℕ) → map (λ r. fold_of r.kind (map (read_at r) is)) rs ≡ folds aggs (map (row_at t) is)
 read-folds t [] [] kinds read is = refl
-read-folds t [] (a ∷ as) kinds read is = absurd (omega (arith, ap length kinds))
+read-folds t [] (a ∷ aggs) kinds read is = absurd (omega (arith, ap length kinds))
 read-folds t (r ∷ rs) [] kinds read is = absurd (omega (arith, ap length kinds))
-read-folds t (r ∷ rs) (a ∷ as) kinds read is =
-    let k = parts r.kind a.kind (map (λ x. x.kind) rs) (map (λ x. x.kind) as) kinds in
-    let one : (i : ℕ) → read_at r i ≡ reading_in a.kind a.column (row_at t i) = λ i. (parts (read_at r i) _ (map (λ x. read_at x i) rs) (map (λ x. reading_in x.kind x.column (row_at t i)) as) (read i)).0 in
-    let more : (i : ℕ) → map (λ x. read_at x i) rs ≡ map (λ x. reading_in x.kind x.column (row_at t i)) as = λ i. (parts (read_at r i) _ (map (λ x. read_at x i) rs) (map (λ x. reading_in x.kind x.column (row_at t i)) as) (read i)).1 in
-    λ j. fold_of (k.0 j) (read_each (read_at r) (reading_in a.kind a.column) t one is j) ∷ read-folds t rs as k.1 more is j
+read-folds t (r ∷ rs) (a ∷ aggs) kinds read is =
+    let k = parts r.kind a.kind (map (λ x. x.kind) rs) (map (λ x. x.kind) aggs) kinds in
+    let one : (i : ℕ) → read_at r i ≡ reading_in a.kind a.column (row_at t i) = λ i. (parts (read_at r i) _ (map (λ x. read_at x i) rs) (map (λ x. reading_in x.kind x.column (row_at t i)) aggs) (read i)).0 in
+    let more : (i : ℕ) → map (λ x. read_at x i) rs ≡ map (λ x. reading_in x.kind x.column (row_at t i)) aggs = λ i. (parts (read_at r i) _ (map (λ x. read_at x i) rs) (map (λ x. reading_in x.kind x.column (row_at t i)) aggs) (read i)).1 in
+    λ j. fold_of (k.0 j) (read_each (read_at r) (reading_in a.kind a.column) t one is j) ∷ read-folds t rs aggs k.1 more is j
+
+pub fits-folds : (aggregations : List Aggregation) (rows : List Row) → FitsColumns (kinds_in aggregations) (folds aggregations rows)
+fits-folds aggregations rows = length-map aggregations (λ a. folded a rows) ∙ sym (length-map aggregations (λ a. a.kind))
 
 -- ---- keys stay at their places
 
@@ -121,3 +126,34 @@ module _ (q : Asked) where
             ∙ ap (λ (j : Key). rollup_onto true (kinds_in q.aggregations) (add_row true (kinds_in q.aggregations) (in_order before) (record { key = j; metrics = folds q.aggregations (r ∷ []) })) (map (alone q) (selected q rest))) all.0.1
             ∙ more_of (in_order before) (r ∷ []) rest k all.1);
   }
+
+-- ---- the rows from a number on, up to another
+
+all_counted : (P : Row → Type 0) (t : Table) (a n : ℕ) → ((i : ℕ) → a ≤ i → i < a + n → P (row_at t i)) → AllByRecursion P (map (row_at t) (range_with_len a n))
+all_counted P t a zero each = tt
+all_counted P t a (suc n) each = (each a (omega arith) (omega arith), all_counted P t (a + 1) n (λ i le lt. each i (omega (arith, le)) (omega (arith, lt))))
+
+pub all-between : (P : Row → Type 0) (t : Table) (from to : ℕ) → from ≤ to → ((i : ℕ) → from ≤ i → i < to → P (row_at t i)) → AllByRecursion P (rows_between t from to)
+all-between P t from to le each = all_counted P t from (to - from) (λ i low high. each i low (omega (arith, le, high)))
+
+first-between : (t : Table) (from to : ℕ) → from < to → rows_between t from to ≡ row_at t from ∷ rows_between t (from + 1) to
+first-between t from to lt =
+    let n : to - from ≡ suc (to - (from + 1)) = omega (arith, lt) in
+    ap (λ k. map (row_at t) (range_with_len from k)) n
+
+pub run-added : {E : Type 0} (q : Asked) (t : Table) (from to : ℕ) (before after : List Row) (k : Key) (values : List ℤ) (result : Result (Unit {0}) E) → from < to
+    → ((i : ℕ) → from ≤ i → i < to → IsOf q k (row_at t i)) → values ≡ folds q.aggregations (rows_between t from to)
+    → OnOk result (Adds (kinds_in q.aggregations) before (record { key = k; metrics = values }) after) → OnOk result (AddsAll q before (rows_between t from to) after)
+run-added q t from to before after k values (Err e) lt each is adds = tt
+run-added q t from to before after k values (Ok u) lt each is adds =
+    let first = first-between t from to lt in
+    let rest = rows_between t (from + 1) to in
+    subst (λ l. AddsAll q before l after) (sym first)
+    (together-added q before after k (row_at t from) rest (subst (AllByRecursion (IsOf q k)) first (all-between (IsOf q k) t from to (omega (arith, lt)) each))
+        (subst (λ m. Adds (kinds_in q.aggregations) before (record { key = k; metrics = m }) after) (is ∙ ap (folds q.aggregations) first) adds))
+
+-- ---- rows that are left out
+
+pub none-added : (q : Asked) (rows before : List Row) → AllByRecursion (λ r. selects q r.key ≡ false) rows → IsSound (kinds_in q.aggregations) before → AddsAll q before rows before
+none-added q [] before all so = no-rows q before so
+none-added q (r ∷ rows) before all so = more-rows q before before before (r ∷ []) rows (passed-over q before r all.0 so) (none-added q rows before all.1 so)

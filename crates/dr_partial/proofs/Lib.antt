@@ -4,3 +4,4 @@ pub mod Groups
 pub mod Pieces
 pub mod Made
 pub mod ByColumns
+pub mod Moved

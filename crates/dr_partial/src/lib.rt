@@ -6,6 +6,7 @@ mod events;
 mod folds;
 mod group_of;
 mod grouping;
+mod index;
 mod known;
 mod laws;
 mod partial;
