@@ -9,10 +9,11 @@ use Rattle.dr_agg.specs.declared.kind.Kind.{Kind}
 use Rattle.dr_agg.specs.Rollup.{add_row, rollup, rollup_onto}
 use Rattle.dr_agg.proofs.RollupLaws.{rollup_onto_push}
 use Rattle.dr_agg.proofs.Rearranged.{fold-IsPermutation, rollup-IsPermutation}
+use Rattle.dr_agg.proofs.Sorting.{rollup-nil}
 use Rattle.dr_ask.specs.Asked.{Asked}
 use Rattle.dr_answers.specs.Selection.{selects, selected}
 use Rattle.dr_partial.specs.Grouped.{IsSound, AddsAll, in_order, with_rows}
-use Rattle.dr_partial.specs.Partial.{kinds_in, alone}
+use Rattle.dr_partial.specs.Partial.{kinds_in, alone, partial}
 use Rattle.dr_partial.proofs.Adding.{in_order-rollup}
 
 module _ (q : Asked) where
@@ -33,6 +34,7 @@ module _ (q : Asked) where
   kept rows r reached = elim (selects q r.key) as (λ b. Reached (cond b (add_row true kinds rows (alone q r)) rows)) [ true ↦ pushed rows (alone q r) reached | false ↦ reached ]
 
   two : (rows : List Row) (x y : Row) → (reached : Reached rows) → add_row true kinds (add_row true kinds rows x) y ≡ rollup true kinds (reached.0 ++ (x ∷ y ∷ []))
+  unfolding rollup_onto add_row pushed
   two rows x y reached =
       let es = reached.0 in
       ap (λ l. add_row true kinds l y) (pushed rows x reached).1
@@ -74,3 +76,7 @@ module _ (q : Asked) where
 
 pub all-moved : (P : Row → Type 0) (a b : List Row) → IsPermutation a b → AllByRecursion P b → AllByRecursion P a
 all-moved P a b moved all = recursion_from_All P a (All-permutation P b a (IsPermutation-sym a b moved) (All-from_recursion P b all))
+
+pub partial-moved : (q : Asked) (a b : List Row) → IsPermutation a b → partial q a ≡ partial q b
+partial-moved q a b moved =
+    one_by_one q [] a ∙ sym (fold-IsPermutation (with_one q) (Reached q) (kept q) (exchange q) [] a b ([], sym (rollup-nil (kinds q))) moved) ∙ sym (one_by_one q [] b)

@@ -32,8 +32,8 @@ pub fn add_folds(
     put(groups, key, folds)
 }
 
-// Combines folds into the group at a place.
-fn combine_at(
+/// Combines folds into the group at a place.
+pub fn combine_at(
     groups: &mut IndexMap<Key, Numbers>,
     place: usize,
     aggregations: &[Aggregation],

@@ -9,6 +9,7 @@ mod grouping;
 mod index;
 mod known;
 mod laws;
+mod merging;
 mod partial;
 mod placing;
 mod reading;

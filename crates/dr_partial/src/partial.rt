@@ -1,7 +1,8 @@
-ghost use Rattle.std.specs.Prelude.{◌≡◌, IfOk, length, map, option_map};
+ghost use Rattle.std.specs.Prelude.{◌≡◌, ◌++◌, true, IfOk, List, length, map, option_map};
 ghost use Rattle.std.specs.List.{All, AllByRecursion, flat_map};
-ghost use Rattle.dr_agg.specs.Rollup.{all_rows};
+ghost use Rattle.dr_agg.specs.Rollup.{all_rows, rollup_onto, AllFit};
 ghost use Rattle.dr_ask.specs.Asked.{asked};
+ghost use Rattle.dr_base.specs.declared.row.Row.{Row};
 ghost use Rattle.dr_image.specs.Table.{rows_of};
 ghost use Rattle.dr_intervals.specs.Printable.{StartsPrintable};
 ghost use Rattle.dr_rollup.specs.Entries.{row_of};
@@ -9,11 +10,13 @@ ghost use Rattle.dr_rollup.specs.Unrolled.{unrolled};
 ghost use Rattle.dr_schema.specs.Fits.{FitsSchema};
 ghost use Rattle.dr_time.specs.Instant.{IsInstant};
 ghost use Rattle.dr_time.specs.Printed.{IsPrintable};
-ghost use Rattle.dr_partial.specs.Partial.{partial, values_at};
+ghost use Rattle.dr_partial.specs.Grouped.{IsSound, in_order};
+ghost use Rattle.dr_partial.specs.Partial.{partial, values_at, kinds_in, IsPartial};
 
 use crate::events::add_event_pieces;
 use crate::group_of::GroupOf;
 use crate::index::add_index;
+use crate::merging::add_groups;
 use crate::rows::add_pieces;
 use crate::views::add_view;
 use dr_agg::sort_rows;
@@ -118,6 +121,23 @@ impl Partial {
         Ok(Partial { groups })
     }
 
+    /// The groups of this partial result and another one of the same query, those of one key combined: where they are of some
+    /// rows and of others, those of all of these rows. The groups of the smaller one are added to the larger. The only error is that
+    /// memory ran out. It takes expected time by the groups of the smaller one and the bytes of their dimension values; no key
+    /// is copied.
+    pub fn merge(self, query: &Query, other: Partial) -> Result<Partial, AllocError>
+        requires own { IsPartial (asked query.now) self }
+        requires other { IsPartial (asked query.now) other }
+        ensures value { IfOk result (λ p. (a b : List Row) → self ≡ partial (asked query.now) a → other ≡ partial (asked query.now) b → p ≡ partial (asked query.now) (a ++ b)) }
+        ensures printable { AllByRecursion (λ g. IsPrintable g.key.time) self → AllByRecursion (λ g. IsPrintable g.key.time) other → IfOk result (λ p. AllByRecursion (λ g. IsPrintable g.key.time) p) }
+    {
+        let own = self.groups.len();
+        if own < other.groups.len() {
+            return joined(query, other.groups, self.groups);
+        }
+        joined(query, self.groups, other.groups)
+    }
+
     /// How many groups there are.
     pub fn len(&self) -> usize
         ensures { result ≡ length self.now }
@@ -148,6 +168,21 @@ impl Partial {
         sort_rows(&mut rows)?;
         Ok(rows)
     }
+}
+
+// Groups with each of some others added.
+fn joined(
+    query: &Query,
+    larger: IndexMap<Key, Numbers>,
+    smaller: IndexMap<Key, Numbers>,
+) -> Result<Partial, AllocError>
+    requires sound { IsSound (kinds_in query.now.aggregations) (map row_of larger.entries) }
+    requires fit { AllFit (kinds_in query.now.aggregations) (map row_of smaller.entries) }
+    ensures { IfOk result (λ p. p ≡ rollup_onto true (kinds_in query.now.aggregations) (in_order (map row_of larger.entries)) (map row_of smaller.entries)) }
+{
+    let mut groups = larger;
+    add_groups(&mut groups, query.aggregations.as_slice(), smaller)?;
+    Ok(Partial { groups })
 }
 
 // The groups in the order in which they came.

@@ -13,4 +13,6 @@ loop-i-init c = no-rows (asked c.args.query.now) (map row_of c.args.groups.now.e
 pub loop-i-preserved : goal.loop-i-preserved
 loop-i-preserved c =
     let rows = c.args.rows.now in
-    ?
+    let r : Row = record { key = c.row.result.0.now; metrics = c.row.result.1.now } in
+    next (asked c.args.query.now) (λ l. l) (λ a b. refl) (map row_of c.args.groups.now.entries) (map row_of c.loop-i.groups.entries) (map row_of c.add_parts.new.groups.entries)
+    rows c.loop-i.i r (omega (arith, c.loop-i-test.true, c.len-i-end.ensures)) (sym (get_or_from_slice_get rows c.loop-i.i r r c.row.ensures)) c.loop-i.invariant c.in_ok-add_parts.ensures

@@ -17,7 +17,8 @@ returns c =
     let q = asked s.query.now in
     let t = s.view.now in
     let fits : FitsSigned w64 c.bucket_start-bucket.result = search rules in
-    let start = to_z-of_z w64 c.bucket_start-bucket.result fits ∙ c.bucket_start-bucket.ensures ∙ ap (bucket q) c.time_at.ensures.value in
+    let time : FitsSigned w64 c.time_at.result = search rules in
+    let start = to_z-of_z w64 c.bucket_start-bucket.result fits ∙ c.bucket_start-bucket.ensures ∙ ap (bucket q) (to_z-of_z w64 c.time_at.result time ∙ c.time_at.ensures.value) in
     let k : Key = record { time = to_z w64 (of_z w64 c.bucket_start-bucket.result); dims = [] } in
     let own : (i : ℕ) → c.args.from ≤ i → i < c.args.to → IsOf q k (row_at t i) = λ i le lt. (
       sym (s.selected i (omega (arith, lt, c.requires.within))) ∙ c.requires.every i,
