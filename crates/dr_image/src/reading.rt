@@ -73,6 +73,15 @@ pub(crate) fn number_at(layout: &Layout, d: usize, i: usize) -> usize
     number(&layout.part(d).numbers[i])
 }
 
+// The numbers of the rows' values in a dimension.
+#[tactic(auto, using(crate::proofs::ReadingLemmas::dims_seen, crate::proofs::LayoutLemmas::times_seen))]
+pub(crate) fn numbers_of<'a>(layout: &Layout<'a>, d: usize) -> &'a [[u8; 4]]
+    requires { d < length (read_table layout.now.bytes.now).dims }
+    ensures { map word result.now ≡ (column_at (read_table layout.now.bytes.now) d).numbers }
+{
+    layout.part(d).numbers
+}
+
 // A value of a dimension.
 #[tactic(auto, using(crate::proofs::ReadingLemmas::dims_seen, crate::proofs::LayoutLemmas::times_seen))]
 pub(crate) fn value_of<'a>(layout: &Layout<'a>, d: usize, v: usize) -> &'a str

@@ -10,7 +10,7 @@ use crate::image_error::ImageError;
 use crate::layout::Layout;
 use crate::opening::{check_contents, is_undamaged};
 use crate::reading::{
-    greatest_time, least_time, list_of, metric_at, number_at, time_at, value_of, values_of,
+    greatest_time, least_time, list_of, metric_at, number_at, numbers_of, time_at, value_of, values_of,
 };
 use dr_base::{Key, Numbers, Row, Text, Texts};
 use std::alloc::{AllocError, Global};
@@ -162,6 +162,15 @@ impl<'a> SegmentView<'a> {
         ensures { slice_get (column_at self.now d).numbers i ≡ Some result }
     {
         number_at(&self.layout, d, i)
+    }
+
+    /// The numbers of the rows' values in a dimension as they lie in the image, in the order of the rows: four bytes each, the
+    /// lowest first.
+    pub fn numbers(&self, d: usize) -> &'a [[u8; 4]]
+        requires { d < length self.now.dims }
+        ensures { map word result.now ≡ (column_at self.now d).numbers }
+    {
+        numbers_of(&self.layout, d)
     }
 
     /// The numbers of the rows that have a value of a dimension, rising, as they lie in the image: four bytes each, the lowest

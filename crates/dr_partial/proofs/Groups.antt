@@ -41,7 +41,7 @@ unit_fits LongMin = search arith
 unit_fits LongMax = search arith
 
 -- the unit changes nothing behind a fold
-unit_behind : (k : Kind) (values : List ℤ) (v : ℤ) → combine_of k (fold_of k values) (combine_of k (unit_of k) v) ≡ combine_of k (fold_of k values) v
+pub unit_behind : (k : Kind) (values : List ℤ) (v : ℤ) → combine_of k (fold_of k values) (combine_of k (unit_of k) v) ≡ combine_of k (fold_of k values) v
 unit_behind k values v =
     sym (combine_of-assoc k (fold_of k values) (unit_of k) v)
     ∙ ap (λ c. combine_of k c v) (sym (fold_first k (unit_of k) (unit_of k) values) ∙ ap (λ c. fold (combine_of k) c values) (combine_of-unit k (unit_of k) (unit_fits k)))
@@ -53,7 +53,7 @@ folded_push a rows r =
     ∙ sym (fold-append (combine_of a.kind) (unit_of a.kind) (map read rows) (read r ∷ []))
     ∙ ap (fold_of a.kind) (sym (map-append read rows (r ∷ [])))
 
-folds_push : (aggregations : List Aggregation) (rows : List Row) (r : Row) → combine_columns (kinds_in aggregations) (folds aggregations rows) (folds aggregations (r ∷ [])) ≡ folds aggregations (rows ++ r ∷ [])
+pub folds_push : (aggregations : List Aggregation) (rows : List Row) (r : Row) → combine_columns (kinds_in aggregations) (folds aggregations rows) (folds aggregations (r ∷ [])) ≡ folds aggregations (rows ++ r ∷ [])
 folds_push [] rows r = refl
 folds_push (a ∷ more) rows r = λ i. folded_push a rows r i ∷ folds_push more rows r i
 

@@ -3,3 +3,5 @@ pub mod Adding
 pub mod Groups
 pub mod Pieces
 pub mod Made
+pub mod ByColumns
+pub mod Moved

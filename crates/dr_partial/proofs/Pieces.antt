@@ -75,6 +75,11 @@ module _ (q : Asked) where
   added before after r taken (Ok u) adds =
       added-one before after r taken (subst (λ m. Adds (kinds_in q.aggregations) before (record { key = group_of q (dimensions_by q.shape) r.key; metrics = m }) after) (folds_bare q.aggregations r) adds)
 
+  pub added-alone : {E : Type 0} (before after : List Row) (r : Row) → selects q r.key ≡ true → (result : Result (Unit {0}) E)
+      → OnOk result (Adds (kinds_in q.aggregations) before (alone q r) after) → OnOk result (AddsAll q before (r ∷ []) after)
+  added-alone before after r taken (Err e) adds = tt
+  added-alone before after r taken (Ok u) adds = added-one before after r taken adds
+
   -- a loop's step over what becomes rows, one behind another
   module _ {X : Type 0} (rows_of : List X → List Row) (behind : (a b : List X) → rows_of (a ++ b) ≡ rows_of a ++ rows_of b) where
     pub next : (before between after : List Row) (xs : List X) (i : ℕ) (x : X) → i < length xs → x ≡ get_or xs i x

@@ -39,6 +39,11 @@ pub record Adds (kinds : List Kind) (before : List Row) (g : Row) (after : List 
   pub sound : IsSound kinds after
   pub groups : in_order after ≡ add_row true kinds (in_order before) g
 
+-- some groups are added, one by one
+pub record AddsEach (kinds : List Kind) (before gs after : List Row) : Type 0 where
+  pub sound : IsSound kinds after
+  pub groups : in_order after ≡ rollup_onto true kinds (in_order before) gs
+
 -- groups with those of more rows
 abbrev pub with_rows : Asked → List Row → List Row → List Row
 with_rows q groups rows = rollup_onto true (kinds_in q.aggregations) groups (map (alone q) (selected q rows))

@@ -1,3 +1,4 @@
 pub mod Partial
 pub mod Grouped
+pub mod Known
 pub mod Laws

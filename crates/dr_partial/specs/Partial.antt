@@ -1,6 +1,6 @@
 -- The groups of a query put together row by row: each selected row is a group of its own at first, and groups of one bucket
 -- and the same dimension values are combined (Apache Druid documentation, timeseries and groupBy queries).
-use Rattle.std.specs.Prelude.{ℤ, List, [], ◌∷◌, true, Option, Some, None, unwrap_or, map, if◌then◌else◌}
+use Rattle.std.specs.Prelude.{◌≡◌, ℤ, List, [], ◌∷◌, true, Option, Some, None, unwrap_or, map, if◌then◌else◌}
 use Rattle.dr_base.specs.declared.row.Row.{Row}
 use Rattle.dr_agg.specs.declared.kind.Kind.{Kind}
 use Rattle.dr_agg.specs.Rollup.{rollup}
@@ -22,6 +22,10 @@ alone q r = record { key = group_of q (dimensions_by q.shape) r.key; metrics = f
 -- the groups of the selected rows with their folds, one for each bucket and its dimension values, in the order of these
 abbrev pub partial : Asked → List Row → List Row
 partial q rows = rollup true (kinds_in q.aggregations) (map (alone q) (selected q rows))
+
+-- groups that are those of a query over some rows
+abbrev pub IsPartial : Asked → List Row → Type 0
+IsPartial q groups = (rows : List Row) × (groups ≡ partial q rows)
 
 -- ---- the groups of a query, from these and the span of all rows
 

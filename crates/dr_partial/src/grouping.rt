@@ -33,7 +33,7 @@ pub fn add(
 }
 
 // The key of a group. It shares the long texts.
-fn key_of(alloc: Global, group: &GroupOf<'_>) -> Result<Key, AllocError>
+pub fn key_of(alloc: Global, group: &GroupOf<'_>) -> Result<Key, AllocError>
     ensures { IfOk result (λ key. key ≡ record { time = group.now.time; dims = group.now.dims.now }) }
 {
     Ok(Key {
@@ -43,7 +43,7 @@ fn key_of(alloc: Global, group: &GroupOf<'_>) -> Result<Key, AllocError>
 }
 
 // The place of a group, where there is one.
-fn find(groups: &IndexMap<Key, Numbers>, group: &GroupOf<'_>) -> Option<usize>
+pub fn find(groups: &IndexMap<Key, Numbers>, group: &GroupOf<'_>) -> Option<usize>
     ensures found { IfSome result (HasKeyAt (record { time = group.now.time; dims = group.now.dims.now }) (map row_of groups.now.entries)) }
     ensures none { result ≡ None → NoneHas (record { time = group.now.time; dims = group.now.dims.now }) (map row_of groups.now.entries) }
 {
@@ -65,7 +65,7 @@ fn combine(
 }
 
 // Adds a group.
-fn put(groups: &mut IndexMap<Key, Numbers>, key: Key, values: Numbers) -> Result<(), AllocError>
+pub fn put(groups: &mut IndexMap<Key, Numbers>, key: Key, values: Numbers) -> Result<(), AllocError>
     requires { NoneHas key (map row_of groups.old.entries) }
     ensures { OnOk result (map row_of groups.new.entries ≡ map row_of groups.old.entries ++ record { key = key; metrics = values } ∷ []) }
 {

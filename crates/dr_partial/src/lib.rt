@@ -3,13 +3,21 @@
 #![tactic(auto)]
 
 mod events;
+mod folds;
 mod group_of;
 mod grouping;
+mod index;
+mod known;
 mod laws;
+mod merging;
 mod partial;
+mod placing;
 mod reading;
 mod rows;
 mod selecting;
+mod source;
+mod views;
+mod whole_runs;
 
 pub use laws::groups_from_partial;
 pub use partial::Partial;

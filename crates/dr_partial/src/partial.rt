@@ -1,21 +1,29 @@
-ghost use Rattle.std.specs.Prelude.{◌≡◌, IfOk, length, map, option_map};
+ghost use Rattle.std.specs.Prelude.{◌≡◌, ◌++◌, true, IfOk, List, length, map, option_map};
 ghost use Rattle.std.specs.List.{All, AllByRecursion, flat_map};
-ghost use Rattle.dr_agg.specs.Rollup.{all_rows};
+ghost use Rattle.dr_agg.specs.Rollup.{all_rows, rollup_onto, AllFit};
 ghost use Rattle.dr_ask.specs.Asked.{asked};
+ghost use Rattle.dr_base.specs.declared.row.Row.{Row};
+ghost use Rattle.dr_image.specs.Table.{rows_of};
 ghost use Rattle.dr_intervals.specs.Printable.{StartsPrintable};
 ghost use Rattle.dr_rollup.specs.Entries.{row_of};
 ghost use Rattle.dr_rollup.specs.Unrolled.{unrolled};
 ghost use Rattle.dr_schema.specs.Fits.{FitsSchema};
 ghost use Rattle.dr_time.specs.Instant.{IsInstant};
 ghost use Rattle.dr_time.specs.Printed.{IsPrintable};
-ghost use Rattle.dr_partial.specs.Partial.{partial, values_at};
+ghost use Rattle.dr_partial.specs.Grouped.{IsSound, in_order};
+ghost use Rattle.dr_partial.specs.Partial.{partial, values_at, kinds_in, IsPartial};
 
 use crate::events::add_event_pieces;
 use crate::group_of::GroupOf;
+use crate::index::add_index;
+use crate::merging::add_groups;
 use crate::rows::add_pieces;
+use crate::views::add_view;
 use dr_agg::sort_rows;
 use dr_ask::Query;
 use dr_base::{Event, Key, Numbers, Row};
+use dr_image::SegmentView;
+use dr_rollup::OpenIndex;
 use dr_schema::Schema;
 use indexmap::IndexMap;
 use std::alloc::{AllocError, Global};
@@ -75,6 +83,61 @@ impl Partial {
         Ok(Partial { groups })
     }
 
+    /// The groups of the rows of an image, read column by column: no row is made. What a query selects is decided once for each
+    /// value of a dictionary that its filter asks of, and once for each run of equal times; the bounds of a bucket
+    /// are calculated once for its rows; and a group is found by the numbers of its values, mostly, and its texts are copied
+    /// once. The only error is that memory ran out. An image that lies outside the query's intervals takes time logarithmic in
+    /// their number. Any other takes time by the rows, and expected time by the groups and the bytes of their values; and memory
+    /// by the groups, by a byte a row for each level of the filter, and by at most 65521 places of groups. Without dimensions
+    /// and filter it takes no memory but that of the groups.
+    pub fn of_view(
+        alloc: Global,
+        query: &Query,
+        view: &SegmentView<'_>,
+    ) -> Result<Partial, AllocError>
+        ensures value { IfOk result (λ p. p ≡ partial (asked query.now) (rows_of view.now)) }
+        ensures printable { All StartsPrintable query.now.intervals → IfOk result (λ p. AllByRecursion (λ g. IsPrintable g.key.time) p) }
+    {
+        let mut groups = IndexMap::new(alloc);
+        let _ = view.as_bytes();
+        add_view(&mut groups, query, view)?;
+        Ok(Partial { groups })
+    }
+
+    /// The groups of the rows of an open index, whose times lie from 0001-01-01 to 9999-12-31, in one pass over the rows as they
+    /// lie there: none is copied, and none sorted. Error and cost are those of `of_rows`.
+    pub fn of_index(
+        alloc: Global,
+        query: &Query,
+        index: &OpenIndex,
+    ) -> Result<Partial, AllocError>
+        requires { AllByRecursion (λ r. IsInstant r.key.time) index.now.rows }
+        ensures value { IfOk result (λ p. p ≡ partial (asked query.now) index.now.rows) }
+        ensures printable { All StartsPrintable query.now.intervals → IfOk result (λ p. AllByRecursion (λ g. IsPrintable g.key.time) p) }
+    {
+        let mut groups = IndexMap::new(alloc);
+        let mut group = Vec::new(alloc);
+        add_index(&mut groups, &mut group, query, index)?;
+        Ok(Partial { groups })
+    }
+
+    /// The groups of this partial result and another one of the same query, those of one key combined: where they are of some
+    /// rows and of others, those of all of these rows. The groups of the smaller one are added to the larger. The only error is that
+    /// memory ran out. It takes expected time by the groups of the smaller one and the bytes of their dimension values; no key
+    /// is copied.
+    pub fn merge(self, query: &Query, other: Partial) -> Result<Partial, AllocError>
+        requires own { IsPartial (asked query.now) self }
+        requires other { IsPartial (asked query.now) other }
+        ensures value { IfOk result (λ p. (a b : List Row) → self ≡ partial (asked query.now) a → other ≡ partial (asked query.now) b → p ≡ partial (asked query.now) (a ++ b)) }
+        ensures printable { AllByRecursion (λ g. IsPrintable g.key.time) self → AllByRecursion (λ g. IsPrintable g.key.time) other → IfOk result (λ p. AllByRecursion (λ g. IsPrintable g.key.time) p) }
+    {
+        let own = self.groups.len();
+        if own < other.groups.len() {
+            return joined(query, other.groups, self.groups);
+        }
+        joined(query, self.groups, other.groups)
+    }
+
     /// How many groups there are.
     pub fn len(&self) -> usize
         ensures { result ≡ length self.now }
@@ -101,14 +164,29 @@ impl Partial {
     pub fn into_rows(self) -> Result<Vec<Row>, AllocError>
         ensures { IfOk result (λ rows. rows.items ≡ self) }
     {
-        let mut rows = rows_of(self.groups)?;
+        let mut rows = entry_rows(self.groups)?;
         sort_rows(&mut rows)?;
         Ok(rows)
     }
 }
 
+// Groups with each of some others added.
+fn joined(
+    query: &Query,
+    larger: IndexMap<Key, Numbers>,
+    smaller: IndexMap<Key, Numbers>,
+) -> Result<Partial, AllocError>
+    requires sound { IsSound (kinds_in query.now.aggregations) (map row_of larger.entries) }
+    requires fit { AllFit (kinds_in query.now.aggregations) (map row_of smaller.entries) }
+    ensures { IfOk result (λ p. p ≡ rollup_onto true (kinds_in query.now.aggregations) (in_order (map row_of larger.entries)) (map row_of smaller.entries)) }
+{
+    let mut groups = larger;
+    add_groups(&mut groups, query.aggregations.as_slice(), smaller)?;
+    Ok(Partial { groups })
+}
+
 // The groups in the order in which they came.
-fn rows_of(groups: IndexMap<Key, Numbers>) -> Result<Vec<Row>, AllocError>
+fn entry_rows(groups: IndexMap<Key, Numbers>) -> Result<Vec<Row>, AllocError>
     ensures { IfOk result (λ rows. rows.items ≡ map row_of groups.entries) }
 {
     let mut rows = Vec::with_capacity(*groups.allocator(), groups.len())?;

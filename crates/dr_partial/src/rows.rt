@@ -60,12 +60,27 @@ fn add_row(
     requires sound { IsSound (kinds_in query.now.aggregations) (map row_of groups.old.entries) }
     ensures { OnOk result (AddsAll (asked query.now) (map row_of groups.old.entries) (row.now ∷ []) (map row_of groups.new.entries)) }
 {
-    let time = row.key.time;
-    let dims = row.key.dims.as_slice();
+    add_parts(groups, group, query, &row.key, row.metrics.as_slice())
+}
+
+/// Adds the row of a key and metrics, where the query selects it.
+pub fn add_parts(
+    groups: &mut IndexMap<Key, Numbers>,
+    group: &mut Vec<Text>,
+    query: &Query,
+    key: &Key,
+    metrics: &[i64],
+) -> Result<(), AllocError>
+    requires instant { IsInstant key.now.time }
+    requires sound { IsSound (kinds_in query.now.aggregations) (map row_of groups.old.entries) }
+    ensures { OnOk result (AddsAll (asked query.now) (map row_of groups.old.entries) (record { key = key.now; metrics = metrics.now } ∷ []) (map row_of groups.new.entries)) }
+{
+    let time = key.time;
+    let dims = key.dims.as_slice();
     if !is_selected(query, time, dims) {
         return Ok(());
     }
-    add_selected(groups, group, query, time, dims, row.metrics.as_slice())
+    add_selected(groups, group, query, time, dims, metrics)
 }
 
 /// Adds a row of this time, these dimension values and these metrics.

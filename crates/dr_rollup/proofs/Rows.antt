@@ -7,7 +7,7 @@ use Rattle.std.specs.List.Sorted.{IsPermutation, IsSortedBy, IsStableBy}
 use Rattle.std.specs.declared.cmp.Ordering.{Ordering}
 use Rattle.std.specs.declared.cmp.Ordering.TheVariants.{Less, Equal, Greater}
 use Rattle.std.specs.Ordering.{ordering_reverse, is_lt, is_eq, match_ordering}
-use Rattle.std.proofs.lemmas.List.Sorted.{IsPermutation-to_front, IsPermutation-cons, IsPermutation-append_right}
+use Rattle.std.proofs.lemmas.List.Sorted.{IsPermutation-refl, IsPermutation-trans, IsPermutation-to_front, IsPermutation-cons, IsPermutation-append_right, IsPermutation-append_left}
 use Rattle.dr_base.specs.declared.key.Key.{Key}
 use Rattle.dr_base.specs.declared.row.Row.{Row}
 use Rattle.dr_base.specs.Order.{key_cmp}
@@ -23,7 +23,7 @@ use Rattle.dr_rollup.specs.Entries.{same_keys}
 
 -- ---- a row that another of its key is combined into
 
-joined_twice : (kinds : List Kind) (rows : List Row) (x : Row) (m : List ℤ)
+pub joined_twice : (kinds : List Kind) (rows : List Row) (x : Row) (m : List ℤ)
     → add_row true kinds (add_row true kinds rows x) (record { key = x.key; metrics = m }) ≡ add_row true kinds rows (record { key = x.key; metrics = combine_columns kinds x.metrics m })
 unfolding add_row
 joined_twice kinds [] x m =
@@ -150,3 +150,31 @@ sorted-rollup combines kinds es rows d up stable =
       each = λ q. rows_at-sorted es rows stable q ∙ sym (alone_or_apart combines kinds q es d);
     } in
     same_rollup combines kinds es rows (rollup combines kinds es) is (IsRollup-rollup combines kinds es)
+
+-- ---- the order of rows
+
+push-moved : (kinds : List Kind) (rows : List Row) (r : Row) → IsPermutation (rows ++ r ∷ []) (add_row false kinds rows r)
+unfolding add_row
+push-moved kinds [] r = IsPermutation-refl (r ∷ [])
+push-moved kinds (x ∷ xs) r =
+    let behind : IsPermutation (x ∷ (xs ++ r ∷ [])) (x ∷ add_row false kinds xs r) = IsPermutation-cons x (xs ++ r ∷ []) (add_row false kinds xs r) (push-moved kinds xs r) in
+    elim (key_cmp r.key x.key) as (λ o. IsPermutation (x ∷ (xs ++ r ∷ [])) (match_ordering o (r ∷ x ∷ xs) (x ∷ add_row false kinds xs r) (x ∷ add_row false kinds xs r)))
+    [ Less ↦ IsPermutation-to_front (x ∷ xs) r | Equal ↦ behind | Greater ↦ behind ]
+
+onto-moved : (kinds : List Kind) (rows es : List Row) → IsPermutation (rows ++ es) (rollup_onto false kinds rows es)
+unfolding rollup_onto
+onto-moved kinds rows [] = subst (λ l. IsPermutation l rows) (sym (append-nil rows)) (IsPermutation-refl rows)
+onto-moved kinds rows (e ∷ es) =
+    IsPermutation-trans (rows ++ e ∷ es) (add_row false kinds rows e ++ es) (rollup_onto false kinds (add_row false kinds rows e) es)
+    (subst (λ l. IsPermutation l (add_row false kinds rows e ++ es)) (append_assoc rows (e ∷ []) es) (IsPermutation-append_left es (rows ++ e ∷ []) (add_row false kinds rows e) (push-moved kinds rows e)))
+    (onto-moved kinds (add_row false kinds rows e) es)
+
+pub moved-apart : (kinds : List Kind) (es : List Row) → IsPermutation es (rollup false kinds es)
+moved-apart kinds es = onto-moved kinds [] es
+
+-- rows that are apart are their rollup in another order
+pub moved : (combines : Bool) (kinds : List Kind) (es : List Row) → (combines ≡ true → IsDistinct same_keys (map (λ x. x.key) es)) → IsPermutation es (rollup combines kinds es)
+moved combines kinds es d =
+    let own = IsRollup-rollup false kinds es in
+    let is : IsRollup combines kinds es (rollup false kinds es) = record { ordered = own.ordered; each = λ q. own.each q ∙ sym (alone_or_apart combines kinds q es d) } in
+    subst (IsPermutation es) (same_rollup combines kinds es (rollup false kinds es) (rollup combines kinds es) is (IsRollup-rollup combines kinds es)) (moved-apart kinds es)

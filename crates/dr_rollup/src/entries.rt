@@ -1,4 +1,4 @@
-ghost use Rattle.std.specs.Prelude.{◌≡◌, ◌<◌, ◌++◌, ◌∷◌, [], true, None, length, map, IfSome, IfOk, OnOk};
+ghost use Rattle.std.specs.Prelude.{◌≡◌, ◌<◌, ◌++◌, ◌∷◌, [], true, None, Some, length, map, slice_get, IfSome, IfOk, OnOk};
 ghost use Rattle.std.specs.List.{IsDistinct};
 ghost use Rattle.dr_agg.specs.Rollup.{AllFit};
 ghost use Rattle.dr_rollup.specs.Entries.{row_of, rows_in, is_combined, same_keys, HasKeyAt, NoneHas, HasRoom, Combines};
@@ -44,6 +44,20 @@ impl Entries {
         match self {
             Entries::Combined(rows) => rows.len(),
             Entries::Apart(rows) => rows.len(),
+        }
+    }
+
+    // The key and the metrics of the row at a place.
+    pub fn row(&self, place: usize) -> (&Key, &[i64])
+        requires { place < length (rows_in self.now) }
+        ensures { slice_get (rows_in self.now) place ≡ Some (record { key = result.0.now; metrics = result.1.now }) }
+    {
+        match self {
+            Entries::Combined(rows) => row_at(rows, place),
+            Entries::Apart(rows) => {
+                let row = &rows[place];
+                (&row.key, row.metrics.as_slice())
+            }
         }
     }
 
@@ -112,6 +126,14 @@ impl Entries {
             Entries::Apart(rows) => Ok(Entries::Apart(copy_apart(rows)?)),
         }
     }
+}
+
+fn row_at(rows: &IndexMap<Key, Numbers>, place: usize) -> (&Key, &[i64])
+    requires { place < length rows.now.entries }
+    ensures { slice_get (map row_of rows.now.entries) place ≡ Some (record { key = result.0.now; metrics = result.1.now }) }
+{
+    let (key, metrics) = rows.get_index(place).unwrap();
+    (key, metrics.as_slice())
 }
 
 fn copy_combined(rows: &IndexMap<Key, Numbers>) -> Result<IndexMap<Key, Numbers>, AllocError>

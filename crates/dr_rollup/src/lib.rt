@@ -2,6 +2,7 @@
 //! Its rows are handed out sorted, and are the rollup of its events.
 #![tactic(auto)]
 
+mod arrived;
 mod entries;
 mod key_of;
 mod open_index;
@@ -9,6 +10,7 @@ mod rollup_error;
 mod sorted_rows;
 mod unrolled;
 
+pub use arrived::Arrived;
 pub use open_index::OpenIndex;
 pub use rollup_error::RollupError;
 pub use unrolled::{columns_of, unrolled_row};

@@ -1,9 +1,11 @@
 ghost use Rattle.std.specs.Prelude.{◌≡◌, ◌≤◌, ◌<◌, ◌↔◌, [], true, None, length, IfSome, IfOk, OnOk, OnErr, IsErrOf};
+ghost use Rattle.std.specs.List.Sorted.{IsPermutation};
 ghost use Rattle.dr_schema.specs.Fits.{FitsSchema};
 ghost use Rattle.dr_rollup.specs.OpenRows.{OpenRows, rows_with, with_rows, RollsUp};
 ghost use Rattle.dr_rollup.specs.Unrolled.{unrolled};
 ghost use Rattle.dr_rollup.specs.Entries.{rows_in, is_combined, HasKeyAt, NoneHas};
 
+use crate::arrived::Arrived;
 use crate::entries::Entries;
 use crate::key_of::KeyOf;
 use crate::rollup_error::RollupError;
@@ -91,6 +93,14 @@ impl OpenIndex {
         ensures { IfOk result (λ rows. rows.items ≡ self.now.rows) }
     {
         sorted_rows(&self.entries)
+    }
+
+    /// The rows in the order in which their keys came, lent: those of the index, in another order. It takes constant time and no
+    /// memory.
+    pub fn arrived(&self) -> Arrived<'_>
+        ensures { IsPermutation result self.now.rows }
+    {
+        Arrived::of(&self.entries)
     }
 
     /// The rows with one more event that fits the schema, which isn't added, in the order of their keys and in memory of

@@ -1,6 +1,6 @@
 use Rattle.std.proofs.Common.{◌≡◌, ◌++◌, map}
 use Rattle.dr_rollup.specs.Entries.{row_of}
-use Rattle.dr_partial.proofs.partial.rows_of.Given as goal
+use Rattle.dr_partial.proofs.partial.entry_rows.Given as goal
 
 -- the rows so far, and the groups that are left
 abbrev pub invariant-loop-key : goal.invariant-loop-key

@@ -1,0 +1,3 @@
+pub mod NarrowLemmas
+pub mod ValueLemmas
+pub mod RunLemmas

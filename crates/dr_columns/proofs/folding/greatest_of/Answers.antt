@@ -1,0 +1,16 @@
+use Rattle.std.proofs.Common.{◌≡◌, ◌∙◌, ap, map, get_or, [], rules, FitsSigned, w64, to_z}
+use Rattle.std.proofs.lemmas.Int.{to_z-of_z}
+use Rattle.dr_agg.specs.declared.kind.Kind.TheVariants.{LongMax}
+use Rattle.dr_agg.specs.Combination.{combine_of, fold_of}
+use Rattle.dr_image.specs.Words.{long}
+use Rattle.dr_columns.proofs.RunLemmas.{cells-more}
+use Rattle.dr_columns.proofs.folding.greatest_of.Goals as goal
+
+pub loop-cell-preserved : goal.loop-cell-preserved
+loop-cell-preserved c =
+    let cells = c.args.cells.now in
+    let read : FitsSigned w64 c.signed.result = search rules in
+    let next : FitsSigned w64 c.combine-greatest.result = search rules in
+    let value : c.combine-greatest.result ≡ combine_of LongMax (to_z w64 c.loop-cell.greatest-bits) (long (get_or cells c.loop-cell.cell-index [])) =
+    c.combine-greatest.ensures ∙ ap (combine_of LongMax (to_z w64 c.loop-cell.greatest-bits)) (to_z-of_z w64 c.signed.result read ∙ c.signed.ensures) in
+    cells-more LongMax cells (to_z w64 c.loop-cell.greatest-bits) _ (fold_of LongMax (map long cells)) c.loop-cell.cell-index c.loop-cell-test.true (to_z-of_z w64 c.combine-greatest.result next ∙ value) c.loop-cell.invariant

@@ -1,0 +1,29 @@
+use Rattle.std.proofs.Common.{sym, subst, map, arith}
+use Rattle.dr_ask.specs.Asked.{asked}
+use Rattle.dr_columns.specs.Rows.{rows_between}
+use Rattle.dr_columns.proofs.RunLemmas.{none, joined}
+use Rattle.dr_rollup.specs.Entries.{row_of}
+use Rattle.dr_partial.specs.Grouped.{AddsAll}
+use Rattle.dr_partial.specs.Known.{AreKnown}
+use Rattle.dr_partial.proofs.Pieces.{no-rows, more-rows}
+use Rattle.dr_partial.proofs.views.add_runs.Goals as goal
+
+pub loop-from-init : goal.loop-from-init
+loop-from-init c =
+    let s = c.args.source.now in
+    let before = map row_of c.args.groups.now.entries in
+    (omega arith, subst (λ l. AddsAll (asked s.query.now) before l before) (sym (none s.view.now 0)) (no-rows (asked s.query.now) before c.requires), subst (AreKnown (asked s.query.now) s.view.now before) (sym c.new-known.ensures.items) tt)
+
+pub loop-from-preserved : goal.loop-from-preserved
+loop-from-preserved c =
+    let s = c.args.source.now in
+    let q = asked s.query.now in
+    let before = map row_of c.args.groups.now.entries in
+    let between = map row_of c.loop-from.groups.entries in
+    let after = map row_of c.add_run.new.groups.entries in
+    let from = c.loop-from.from in
+    let to = c.run_end-to.result in
+    (c.run_end-to.ensures.within,
+     subst (λ l. AddsAll q before l after) (joined s.view.now 0 from to (omega arith) (omega (arith, c.run_end-to.ensures.more)))
+        (more-rows q before between after (rows_between s.view.now 0 from) (rows_between s.view.now from to) c.loop-from.invariant.1 c.in_ok-add_run.ensures.adds),
+     c.in_ok-add_run.ensures.known)

@@ -1,0 +1,46 @@
+ghost use Rattle.std.specs.Prelude.{◌≡◌, ◌<◌, Some, length, slice_get};
+ghost use Rattle.dr_rollup.specs.Entries.{rows_in};
+
+use crate::entries::Entries;
+use dr_base::Key;
+use std::marker::Model;
+
+/// The rows of an open index in the order in which their keys came, lent. A contract sees the list of them. Each reader takes
+/// constant time and no memory.
+#[derive(Drop)]
+pub struct Arrived<'a> {
+    entries: &'a Entries,
+}
+
+impl<'a> Model for Arrived<'a> {
+    ghost use Rattle.std.specs.Prelude.{List};
+    ghost use Rattle.dr_base.specs.declared.row.Row.{Row};
+    ghost use Rattle.dr_rollup.specs.Entries.{rows_in};
+
+    ghost Value = { List Row };
+
+    ghost view = { λ a. rows_in a.entries.now };
+}
+
+impl<'a> Arrived<'a> {
+    pub(crate) fn of(entries: &'a Entries) -> Arrived<'a>
+        ensures { result ≡ rows_in entries.now }
+    {
+        Arrived { entries }
+    }
+
+    /// How many rows there are.
+    pub fn len(&self) -> usize
+        ensures { result ≡ length self.now }
+    {
+        self.entries.len()
+    }
+
+    /// The key and the metrics of a row, by its place from 0.
+    pub fn row(&self, place: usize) -> (&'a Key, &'a [i64])
+        requires { place < length self.now }
+        ensures { slice_get self.now place ≡ Some (record { key = result.0.now; metrics = result.1.now }) }
+    {
+        self.entries.row(place)
+    }
+}
