@@ -7,7 +7,7 @@ use Rattle.std.specs.declared.cmp.Ordering.{Ordering}
 use Rattle.dr_having.specs.Condition.{Condition, meets}
 use Rattle.dr_order.specs.declared.order_column.OrderColumn.{OrderColumn}
 use Rattle.dr_order.specs.Order.{groups_cmp}
-use Rattle.dr_ask.specs.Asked.{AskedShape, timeseries, group_by}
+use Rattle.dr_ask.specs.Asked.{AskedShape, timeseries, group_by, scan}
 use Rattle.dr_answers.specs.declared.result_row.ResultRow.{ResultRow}
 
 -- without a `having` each group is kept
@@ -32,7 +32,8 @@ limited None groups = groups
 limited (Some limit) groups = take limit groups
 
 -- a timeseries gives its buckets, in falling order where that is asked for, and then at most so many; a groupBy the groups that
--- are kept, in their order, without the first ones, and then at most so many
+-- are kept, in their order, without the first ones, and then at most so many; a scan has none to give
 abbrev pub given_by : AskedShape → List ResultRow → List ResultRow
 given_by (timeseries t) groups = limited t.limit (if t.descending then reverse groups else groups)
 given_by (group_by g) groups = limited g.limit_spec.limit (drop g.limit_spec.offset (in_order g.limit_spec.columns (filter (is_kept g.having) groups)))
+given_by (scan s) groups = []

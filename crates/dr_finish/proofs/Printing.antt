@@ -19,7 +19,7 @@ use Rattle.dr_gran.specs.Buckets.{IsFilled}
 use Rattle.dr_gran.proofs.BucketsLemmas.{buckets_of-first}
 use Rattle.dr_gran.proofs.TruncationLemmas.{truncation_bounds}
 use Rattle.dr_intervals.specs.Printable.{StartsPrintable}
-use Rattle.dr_ask.specs.Asked.{Asked, AskedShape, timeseries, group_by}
+use Rattle.dr_ask.specs.Asked.{Asked, AskedShape, timeseries, group_by, scan}
 use Rattle.dr_answers.specs.declared.result_row.ResultRow.{ResultRow}
 use Rattle.dr_answers.specs.declared.answer_error.AnswerError.TheVariants.{ResultTooLarge}
 use Rattle.dr_answers.specs.Groups.{filled_in, max_groups}
@@ -88,6 +88,7 @@ printable-groups_by (timeseries t) q span partial instants starts rows =
       | false ↦ All-map HasTime (filled_row q partial) (filled_in q span) (printable-filled_in q span instants starts)
     ]
 printable-groups_by (group_by g) q span partial instants starts rows = All-map HasTime result_row partial (All-from_recursion (λ g. IsPrintable g.key.time) partial rows)
+printable-groups_by (scan s) q span partial instants starts rows = All-from_recursion HasTime [] tt
 
 -- ---- those that it gives
 
@@ -107,6 +108,7 @@ all-given_by P (group_by g) gs all =
     all-limited P g.limit_spec.limit (drop g.limit_spec.offset ordered)
     (All-drop P g.limit_spec.offset ordered
     (All-from_recursion P ordered (all-in_order g.limit_spec.columns P kept (recursion_from_All P kept (All-filter (is_kept g.having) P gs all)))))
+all-given_by P (scan s) gs all = All-from_recursion P [] tt
 
 few-is : (few : Bool) (xs ys : List ResultRow) → (if few then Err ResultTooLarge else Ok xs) ≡ Ok ys → xs ≡ ys
 few-is true xs ys e = cc

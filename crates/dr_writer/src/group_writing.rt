@@ -27,7 +27,7 @@ pub(crate) fn write_group(
     ensures { Adds result out.old out.new (data_tokens (group_data (asked_shape shape.now) (members_at group.now outputs.now) group.now.time)) }
 {
     match shape {
-        Shape::Timeseries(_) => write_result(out, outputs, group, stamp),
+        Shape::Timeseries(_) | Shape::Scan(_) => write_result(out, outputs, group, stamp),
         Shape::GroupBy(_) => write_event(out, outputs, group, stamp),
     }
 }
