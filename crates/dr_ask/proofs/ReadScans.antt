@@ -1,6 +1,9 @@
 -- A scan that is read was made for its schema.
-use Rattle.std.proofs.Common.{◌≡◌, ◌≤◌, ◌==◌, ℕ, zero, suc, length, Bool, true, false, List, [], ◌∷◌, map, codes, Ok, Option, Some, None, if◌then◌else◌, refl, sym, ◌∙◌, subst, arith}
+use Rattle.std.proofs.Common.{◌≡◌, ◌≤◌, ◌==◌, ℕ, zero, suc, length, Bool, true, false, List, [], ◌∷◌, map, codes, Ok, Err, Option, Some, None, if◌then◌else◌, refl, sym, ap, ◌∙◌, subst, arith}
+use Rattle.std.proofs.Math.Dec.{eqb-suc-zero}
 use Rattle.std.specs.List.{AllByRecursion}
+use Rattle.dr_base.specs.declared.base_error.BaseError.TheVariants.{WrongKind}
+use Rattle.dr_ask.specs.declared.query_error.QueryError.TheVariants.{Base}
 use Rattle.serde_json.specs.Data.{Data, Members}
 use Rattle.dr_base.specs.Fields.{field}
 use Rattle.dr_schema.specs.declared.schema.Schema.{Schema}
@@ -36,7 +39,7 @@ named-columns_of schema d columns e =
 some_rows-batch : (n m : ℕ) → some_rows n ≡ Ok m → 1 ≤ m
 some_rows-batch zero m e = absurd (cc)
 some_rows-batch (suc n) m e =
-    let given : some_rows (suc n) ≡ Ok (suc n) = refl in
+    let given : some_rows (suc n) ≡ Ok (suc n) = ap (λ (b : Bool). if b then Err (Base (WrongKind (codes "batchSize"))) else Ok (suc n)) (eqb-suc-zero n) in
     let both : Ok (suc n) ≡ Ok m = sym given ∙ e in
     let same : suc n ≡ m = cc in
     subst (λ k. 1 ≤ k) same (omega arith)

@@ -1,10 +1,12 @@
 -- The entries of a scan (Apache Druid documentation, scan queries; where offset, limit and `batchSize` cut is this project's own
 -- rule).
-use Rattle.std.specs.Prelude.{ℕ, ◌-◌, ◌==◌, Bool, List, [], ◌∷◌, ◌++◌, length, map, drop, Option, Some, None, if◌then◌else◌}
-use Rattle.std.specs.List.{fold, flat_map}
-use Rattle.std.specs.Ordering.{int_lt}
+use Rattle.std.specs.Prelude.{ℕ, ℤ, ◌-◌, ◌==◌, List, [], ◌∷◌, ◌++◌, length, map, drop, Option, Some, None, if◌then◌else◌}
+use Rattle.std.specs.List.{flat_map}
+use Rattle.std.specs.Ordering.{int_cmp}
+use Rattle.std.specs.declared.cmp.Ordering.{Ordering}
 use Rattle.dr_base.specs.declared.row.Row.{Row}
 use Rattle.dr_answers.specs.Given.{limited}
+use Rattle.dr_answers.specs.InOrder.{in_order_by}
 use Rattle.dr_answers.specs.Selection.{selected}
 use Rattle.dr_ask.specs.declared.scan.Scan.{Scan}
 use Rattle.dr_ask.specs.declared.time_order.TimeOrder.{TimeOrder}
@@ -50,18 +52,14 @@ entries_of size g = map (λ rows. record { segment_id = Some g.identifier; rows 
 
 -- ---- with an order: one entry
 
--- the time of the row is earlier, or later where they descend
-abbrev pub comes_before : TimeOrder → Row → Row → Bool
-comes_before Ascending a b = int_lt a.key.time b.key.time
-comes_before Descending a b = int_lt b.key.time a.key.time
+-- the earlier time first, or the later one
+abbrev pub times_cmp : TimeOrder → ℤ → ℤ → Ordering
+times_cmp Ascending a b = int_cmp a b
+times_cmp Descending a b = int_cmp b a
 
--- one more row among some in that order, behind those that it doesn't come before
-abbrev pub put_by_time : TimeOrder → List Row → Row → List Row
-put_by_time order [] r = r ∷ []
-put_by_time order (s ∷ ss) r = if comes_before order r s then r ∷ s ∷ ss else s ∷ put_by_time order ss r
-
+-- rows of equal times stay in their order
 abbrev pub by_time : TimeOrder → List Row → List Row
-by_time order rows = fold (put_by_time order) [] rows
+by_time order rows = in_order_by (λ a b. times_cmp order a.key.time b.key.time) rows
 
 -- none of no rows
 abbrev pub one_entry : List Row → List Entry
