@@ -12,11 +12,7 @@ use Rattle.dr_ask.specs.declared.scan.Scan.{Scan}
 use Rattle.dr_ask.specs.declared.time_order.TimeOrder.{TimeOrder}
 use Rattle.dr_ask.specs.declared.time_order.TimeOrder.TheVariants.{Ascending, Descending}
 use Rattle.dr_ask.specs.Asked.{Asked, AskedShape, timeseries, group_by, scan}
-
--- a segment: its identifier, and its rows in order
-pub record Segment : Type 0 where
-  pub identifier : List ℕ
-  pub rows : List Row
+use Rattle.dr_scan.specs.declared.segment.Segment.{Segment}
 
 -- some rows of a segment, or of all of them
 pub record Entry : Type 0 where
@@ -25,16 +21,17 @@ pub record Entry : Type 0 where
 
 -- ---- without an order: segment by segment
 
+-- what is left of a limit
+abbrev pub less : Option ℕ → ℕ → Option ℕ
+less None n = None
+less (Some limit) n = Some (limit - n)
+
 -- the rows behind the first ones, and of these at most so many, over all segments together
 abbrev pub within : ℕ → Option ℕ → List Segment → List Segment
 within offset limit [] = []
 within offset limit (g ∷ gs) =
     record { identifier = g.identifier; rows = limited limit (drop offset g.rows) }
-    ∷ within (offset - length g.rows) (left_of limit (length (drop offset g.rows))) gs
-  where
-    left_of : Option ℕ → ℕ → Option ℕ
-    left_of None n = None
-    left_of (Some limit) n = Some (limit - n)
+    ∷ within (offset - length g.rows) (less limit (length g.rows - offset)) gs
 
 -- rows in lists of that length, the last one of what is left; a list is begun already
 abbrev pub batches_from : ℕ → List Row → List Row → List (List Row)

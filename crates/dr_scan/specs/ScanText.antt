@@ -16,7 +16,8 @@ use Rattle.dr_ask.specs.declared.result_format.ResultFormat.TheVariants as forma
 use Rattle.dr_ask.specs.declared.scan.Scan.{Scan}
 use Rattle.dr_ask.specs.declared.scan_column.ScanColumn.{ScanColumn}
 use Rattle.dr_ask.specs.Asked.{Asked, AskedShape, timeseries, group_by, scan}
-use Rattle.dr_scan.specs.Entries.{Entry, Segment, entries}
+use Rattle.dr_scan.specs.declared.segment.Segment.{Segment}
+use Rattle.dr_scan.specs.Entries.{Entry, entries}
 
 -- what a column has of a row; a time is a number of milliseconds since the epoch
 abbrev pub data_in : ColumnSource → Row → Data

@@ -124,8 +124,9 @@ fn dim_at(group: &ResultRow, place: usize) -> Option<&Text>
     group.dims.as_slice().get(place)
 }
 
-/// Writes the value of a dimension: `null` for the empty text.
-fn write_dimension(out: &mut Writer, text: &str) -> Result<(), AllocError>
+/// Writes the value of a dimension: `null` for the empty text. The only error is that memory ran out. It takes time by the bytes
+/// of the text.
+pub fn write_dimension(out: &mut Writer, text: &str) -> Result<(), AllocError>
     ensures { Adds result out.old out.new (data_tokens (dimension_data text.now)) }
 {
     if text.is_empty() {
