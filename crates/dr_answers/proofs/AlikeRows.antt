@@ -8,7 +8,7 @@ use Rattle.dr_base.specs.declared.key.Key.{Key}
 use Rattle.dr_base.specs.declared.row.Row.{Row}
 use Rattle.dr_base.specs.Order.{key_cmp}
 use Rattle.dr_ask.specs.declared.dimension.Dimension.{Dimension}
-use Rattle.dr_ask.specs.Asked.{Asked, AskedShape, timeseries, group_by, dimensions_by}
+use Rattle.dr_ask.specs.Asked.{Asked, AskedShape, timeseries, group_by, scan, dimensions_by}
 use Rattle.dr_answers.specs.Answer.{answer, given_of, text_of}
 use Rattle.dr_answers.specs.Fold.{folds}
 use Rattle.dr_answers.specs.Groups.{group_of, is_same_group, groups_of, filled_in, filled, keys_by, group, groups}
@@ -36,6 +36,7 @@ module _ (q : Asked) (a b : List Row) (alike : Alike q a b) where
   keys-alike : (shape : AskedShape) → keys_by shape q a ≡ keys_by shape q b
   keys-alike (timeseries t) = λ i. if t.skips_empty_buckets then groups_of-alike [] i else filled-alike i
   keys-alike (group_by g) = groups_of-alike g.dimensions
+  keys-alike (scan s) = refl
 
   group-alike : (g : Key) → group q a g ≡ group q b g
   group-alike g =

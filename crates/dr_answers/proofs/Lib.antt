@@ -1,5 +1,6 @@
 pub mod Rows
 pub mod Keys
 pub mod Spans
+pub mod StableOrder
 pub mod AlikeRows
 pub mod RearrangedRows

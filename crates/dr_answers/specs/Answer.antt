@@ -10,7 +10,7 @@ use Rattle.dr_base.specs.declared.row.Row.{Row}
 use Rattle.dr_time.specs.Printed.{instant_text}
 use Rattle.dr_ask.specs.declared.aggregation.Aggregation.{Aggregation}
 use Rattle.dr_ask.specs.declared.dimension.Dimension.{Dimension}
-use Rattle.dr_ask.specs.Asked.{Asked, AskedShape, timeseries, group_by}
+use Rattle.dr_ask.specs.Asked.{Asked, AskedShape, timeseries, group_by, scan}
 use Rattle.dr_answers.specs.declared.result_row.ResultRow.{ResultRow}
 use Rattle.dr_answers.specs.declared.answer_error.AnswerError.{AnswerError}
 use Rattle.dr_answers.specs.declared.answer_error.AnswerError.TheVariants.{ResultTooLarge}
@@ -33,7 +33,8 @@ with_dims members [] dims = members
 with_dims members (d ∷ more) [] = members
 with_dims members (d ∷ more) (v ∷ dims) = with_dims (put d.name (dimension_data v) members) more dims
 
--- `{"result":{..},"timestamp":".."}`, and `{"event":{..},"timestamp":"..","version":"v1"}`
+-- `{"result":{..},"timestamp":".."}`, and `{"event":{..},"timestamp":"..","version":"v1"}`; a scan has no groups, and one of it
+-- would be written as that of a timeseries
 abbrev pub result_data : AskedShape → List Aggregation → ResultRow → Data
 result_data (timeseries t) aggregations g = object (
     member (codes "result") (object (with_values no_members aggregations g.values))
@@ -42,6 +43,9 @@ result_data (group_by asked) aggregations g = object (
     member (codes "event") (object (with_values (with_dims no_members asked.dimensions g.dims) aggregations g.values))
     (member (codes "timestamp") (string (instant_text g.time))
     (member (codes "version") (string (codes "v1")) no_members)))
+result_data (scan s) aggregations g = object (
+    member (codes "result") (object (with_values no_members aggregations g.values))
+    (member (codes "timestamp") (string (instant_text g.time)) no_members))
 
 -- a list of them, without spaces
 abbrev pub text_of : Asked → List ResultRow → List ℕ

@@ -11,7 +11,7 @@ use Rattle.dr_base.specs.Order.{key_cmp}
 use Rattle.dr_filter.specs.Match.{value_at}
 use Rattle.dr_gran.specs.Buckets as gran
 use Rattle.dr_ask.specs.declared.dimension.Dimension.{Dimension}
-use Rattle.dr_ask.specs.Asked.{Asked, AskedShape, timeseries, group_by, dimensions_by}
+use Rattle.dr_ask.specs.Asked.{Asked, AskedShape, timeseries, group_by, scan, dimensions_by}
 use Rattle.dr_answers.specs.declared.result_row.ResultRow.{ResultRow}
 use Rattle.dr_answers.specs.Fold.{folds}
 use Rattle.dr_answers.specs.Selection.{selected}
@@ -54,10 +54,12 @@ filled_in q (Some span) = gran.buckets_of (suc max_groups) q.granularity q.inter
 abbrev pub filled : Asked → List Row → List Key
 filled q rows = map (λ b. record { time = b; dims = [] }) (filled_in q (span rows))
 
--- a timeseries has each filled bucket, or only those with a selected row; a groupBy has each group of a selected row
+-- a timeseries has each filled bucket, or only those with a selected row; a groupBy has each group of a selected row; a scan has
+-- none
 abbrev pub keys_by : AskedShape → Asked → List Row → List Key
 keys_by (timeseries t) q rows = if t.skips_empty_buckets then groups_of q [] (selected q rows) else filled q rows
 keys_by (group_by g) q rows = groups_of q g.dimensions (selected q rows)
+keys_by (scan s) q rows = []
 
 -- a group with the folds of its selected rows
 abbrev pub group : Asked → List Row → Key → ResultRow

@@ -15,6 +15,9 @@ use Rattle.dr_ask.specs.declared.query_error.QueryError.TheVariants.{Base}
 use Rattle.dr_ask.specs.AggregationsOf.{no_dimension, column_of, kind_named, count_of, over_column_of, of_kind, aggregation_by, aggregation_of, aggregations_of}
 use Rattle.dr_ask.specs.Fields.{no_unlisted}
 use Rattle.dr_ask.specs.MadeFor.{IsColumn}
+use Rattle.dr_ask.specs.QueryOf.{aggregations_by}
+use Rattle.dr_ask.specs.declared.query_type.QueryType.{QueryType}
+use Rattle.dr_ask.specs.declared.query_type.QueryType.TheVariants as type
 use Rattle.dr_ask.proofs.ReadSteps.{through, each-all}
 
 abbrev ReadsIts : Schema → Aggregation → Type 0
@@ -94,3 +97,8 @@ pub columns-aggregations_of : (schema : Schema) (d : Option Data) (all : List Ag
 columns-aggregations_of schema None all e = let same : [] ≡ all = cc in subst (AllByRecursion (ReadsIts schema)) same tt
 columns-aggregations_of schema (Some d) all e =
     through (passed Base (as_list (codes "aggregations") d)) _ all e (λ items _ e. each-all (ReadsIts schema) (aggregation_of schema) (of_item schema) [] items all tt e)
+
+pub columns-aggregations_by : (kind : QueryType) (schema : Schema) (d : Option Data) (all : List Aggregation) → aggregations_by kind schema d ≡ Ok all → AllByRecursion (ReadsIts schema) all
+columns-aggregations_by type.Timeseries schema d all e = columns-aggregations_of schema d all e
+columns-aggregations_by type.GroupBy schema d all e = columns-aggregations_of schema d all e
+columns-aggregations_by type.Scan schema d all e = let same : [] ≡ all = cc in subst (AllByRecursion (ReadsIts schema)) same tt

@@ -1,5 +1,5 @@
 -- The outputs of a query that is read have names that differ.
-use Rattle.std.proofs.Common.{◌≡◌, ℕ, List, [], ◌∷◌, ◌++◌, Bool, true, false, if◌then◌else◌, bytes_eq, codes, Ok, Err, refl, sym, subst, ◌∙◌, append_assoc, append-nil}
+use Rattle.std.proofs.Common.{◌≡◌, ℕ, List, [], ◌∷◌, ◌++◌, Bool, true, false, if◌then◌else◌, bytes_eq, codes, Ok, Err, Option, refl, sym, subst, ◌∙◌, append_assoc, append-nil}
 use Rattle.std.specs.Cmp.Lexicographic.{nat_list_eq_equiv}
 use Rattle.std.specs.List.{AllByRecursion, IsDistinct, list_any}
 use Rattle.std.proofs.lemmas.Bool.{or_parts}
@@ -13,11 +13,13 @@ use Rattle.dr_ask.specs.declared.query_error.QueryError.TheVariants.{DuplicateOu
 use Rattle.dr_ask.specs.declared.query_type.QueryType.{QueryType}
 use Rattle.dr_ask.specs.declared.query_type.QueryType.TheVariants as type
 use Rattle.dr_ask.specs.declared.timeseries.Timeseries.{Timeseries}
-use Rattle.dr_ask.specs.Asked.{AskedGroups, AskedShape, timeseries, group_by, dimensions_by}
+use Rattle.dr_ask.specs.Asked.{AskedGroups, AskedShape, timeseries, group_by, scan, dimensions_by}
 use Rattle.dr_ask.specs.ContextOf.{context_of}
 use Rattle.dr_ask.specs.DimensionsOf.{dimensions_of}
 use Rattle.dr_ask.specs.Fields.{no_unlisted}
 use Rattle.dr_ask.specs.Outputs.{aggregation_names, dimension_names, distinct_from}
+use Rattle.dr_ask.specs.QueryOf.{aggregations_by}
+use Rattle.dr_ask.specs.ScanOf.{scan_of}
 use Rattle.dr_ask.specs.ShapeOf.{timeseries_of, having_or_none, group_by_keys, group_by_of, shape_by}
 use Rattle.dr_ask.proofs.ReadSteps.{through}
 
@@ -80,11 +82,15 @@ of_group_by schema aggregations d ms g e =
     subst (λ g. OutputsDiffer aggregations (group_by g)) same
     (Differ-read (aggregation_names aggregations) (dimension_names dimensions) folded (Differ-read (dimension_names dimensions) [] grouped none_differ first) behind))))))))
 
-pub outputs-differ : (kind : QueryType) (schema : Schema) (aggregations : List Aggregation) (d : Data) (ms : Members) (shape : AskedShape)
-    → shape_by kind schema aggregations d ms ≡ Ok shape → OutputsDiffer aggregations shape
-outputs-differ type.Timeseries schema aggregations d ms shape e =
+pub outputs-differ : (kind : QueryType) (schema : Schema) (asked : Option Data) (aggregations : List Aggregation) (d : Data) (ms : Members) (shape : AskedShape)
+    → aggregations_by kind schema asked ≡ Ok aggregations → shape_by kind schema aggregations d ms ≡ Ok shape → OutputsDiffer aggregations shape
+outputs-differ type.Timeseries schema asked aggregations d ms shape read e =
     through (timeseries_of aggregations d ms) _ shape e (λ t read e.
     let same : timeseries t ≡ shape = cc in subst (OutputsDiffer aggregations) same (of_timeseries aggregations d ms t read))
-outputs-differ type.GroupBy schema aggregations d ms shape e =
+outputs-differ type.GroupBy schema asked aggregations d ms shape read e =
     through (group_by_of schema aggregations d ms) _ shape e (λ g read e.
     let same : group_by g ≡ shape = cc in subst (OutputsDiffer aggregations) same (of_group_by schema aggregations d ms g read))
+outputs-differ type.Scan schema asked aggregations d ms shape read e =
+    let none : [] ≡ aggregations = cc in
+    through (scan_of schema d ms) _ shape e (λ s read e.
+    let same : scan s ≡ shape = cc in subst (OutputsDiffer aggregations) same (subst (λ (a : List Aggregation). Differ (aggregation_names a)) none none_differ))

@@ -1,5 +1,5 @@
--- What a query asks (Apache Druid documentation, timeseries and groupBy queries).
-use Rattle.std.specs.Prelude.{Bool, List, [], Option, option_map}
+-- What a query asks (Apache Druid documentation, timeseries, groupBy and scan queries).
+use Rattle.std.specs.Prelude.{Bool, true, false, List, [], Option, option_map}
 use Rattle.dr_time.specs.declared.interval.Interval.{Interval}
 use Rattle.dr_gran.specs.declared.gran.Gran.{Gran}
 use Rattle.dr_filter.specs.Condition as filter
@@ -9,6 +9,7 @@ use Rattle.dr_ask.specs.declared.aggregation.Aggregation.{Aggregation}
 use Rattle.dr_ask.specs.declared.dimension.Dimension.{Dimension}
 use Rattle.dr_ask.specs.declared.timeseries.Timeseries.{Timeseries}
 use Rattle.dr_ask.specs.declared.group_by.GroupBy.{GroupBy}
+use Rattle.dr_ask.specs.declared.scan.Scan.{Scan}
 use Rattle.dr_ask.specs.declared.shape.Shape.{Shape}
 use Rattle.dr_ask.specs.declared.shape.Shape.TheVariants as shape
 use Rattle.dr_ask.specs.declared.query.Query.{Query}
@@ -23,11 +24,19 @@ pub record AskedGroups : Type 0 where
 pub data AskedShape : Type 0 where
   timeseries : Timeseries → AskedShape
   group_by : AskedGroups → AskedShape
+  scan : Scan → AskedShape
 
--- the dimensions that it groups by: none in a timeseries
+-- whether it asks for rows, and not for groups of them
+abbrev pub is_scan : AskedShape → Bool
+is_scan (timeseries t) = false
+is_scan (group_by g) = false
+is_scan (scan s) = true
+
+-- the dimensions that it groups by: none in a timeseries, and none in a scan
 abbrev pub dimensions_by : AskedShape → List Dimension
 dimensions_by (timeseries t) = []
 dimensions_by (group_by g) = g.dimensions
+dimensions_by (scan s) = []
 
 -- of which rows, in which buckets, and what of them; and whether the rows of the schema are rolled up
 pub record Asked : Type 0 where
@@ -45,6 +54,7 @@ asked_groups g = record { dimensions = g.dimensions; having = option_map having.
 abbrev pub asked_shape : Shape → AskedShape
 asked_shape (shape.Timeseries t) = timeseries t
 asked_shape (shape.GroupBy g) = group_by (asked_groups g)
+asked_shape (shape.Scan s) = scan s
 
 abbrev pub asked : Query → Asked
 asked q = record { intervals = q.intervals; granularity = q.granularity; filter = option_map filter.condition_in q.filter; aggregations = q.aggregations; shape = asked_shape q.shape; rollup = q.rollup }

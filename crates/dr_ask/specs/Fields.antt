@@ -35,6 +35,19 @@ abbrev pub limit_or_none : List ℕ → Option Data → Result (Option ℕ) Quer
 limit_or_none name None = Ok None
 limit_or_none name (Some d) = as_limit name d
 
+abbrev pub only_whole : List ℕ → Option ℕ → Result ℕ QueryError
+only_whole name None = Err (Base (WrongKind name))
+only_whole name (Some n) = Ok n
+
+-- a whole number from 0 to 2^64 - 1, where each counts
+abbrev pub as_whole : List ℕ → Data → Result ℕ QueryError
+as_whole name null = Err (Base (WrongKind name))
+as_whole name (boolean b) = Err (Base (WrongKind name))
+as_whole name (number n) = only_whole name (as_u64 n)
+as_whole name (string s) = Err (Base (WrongKind name))
+as_whole name (array ds) = Err (Base (WrongKind name))
+as_whole name (object ms) = Err (Base (WrongKind name))
+
 -- the one text that is read
 abbrev pub only_text : List ℕ → List ℕ → Result (Unit {0}) QueryError
 only_text only text = if bytes_eq text only then Ok tt else Err (Unsupported text)

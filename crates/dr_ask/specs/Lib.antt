@@ -6,6 +6,8 @@ pub mod AggregationsOf
 pub mod DimensionsOf
 pub mod ContextOf
 pub mod TypeOf
+pub mod ColumnsOf
+pub mod ScanOf
 pub mod Asked
 pub mod ShapeOf
 pub mod Matching

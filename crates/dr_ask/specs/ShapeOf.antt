@@ -1,5 +1,5 @@
--- What a timeseries and a groupBy ask, each with its fields in the order of their table (Apache Druid documentation,
--- timeseries and groupBy queries).
+-- What a query asks by its type: a timeseries and a groupBy here, with their fields in the order of their table (Apache Druid
+-- documentation, timeseries and groupBy queries), and a scan.
 use Rattle.std.specs.Prelude.{ℕ, List, [], ◌∷◌, Option, Some, None, Result, Ok, codes}
 use Rattle.serde_json.specs.Data.{Data, Members}
 use Rattle.dr_base.specs.Fields.{field}
@@ -14,11 +14,12 @@ use Rattle.dr_ask.specs.declared.query_error.QueryError.TheVariants.{Having, Ord
 use Rattle.dr_ask.specs.declared.query_type.QueryType.{QueryType}
 use Rattle.dr_ask.specs.declared.query_type.QueryType.TheVariants as type
 use Rattle.dr_ask.specs.declared.timeseries.Timeseries.{Timeseries}
-use Rattle.dr_ask.specs.Asked.{AskedGroups, AskedShape, timeseries, group_by}
+use Rattle.dr_ask.specs.Asked.{AskedGroups, AskedShape, timeseries, group_by, scan}
 use Rattle.dr_ask.specs.ContextOf.{context_of}
 use Rattle.dr_ask.specs.DimensionsOf.{dimensions_of}
 use Rattle.dr_ask.specs.Fields.{truth_or_false, limit_or_none, no_unlisted}
 use Rattle.dr_ask.specs.Outputs.{aggregation_names, dimension_names, distinct_from}
+use Rattle.dr_ask.specs.ScanOf.{scan_of}
 
 abbrev pub timeseries_keys : List (List ℕ)
 timeseries_keys = codes "queryType" ∷ codes "dataSource" ∷ codes "intervals" ∷ codes "granularity" ∷ codes "filter" ∷ codes "aggregations" ∷ codes "descending" ∷ codes "limit" ∷ codes "context" ∷ []
@@ -64,7 +65,13 @@ group_by_shape schema aggregations d ms = do
   asked ← group_by_of schema aggregations d ms
   Ok (group_by asked)
 
+abbrev pub scan_shape : Schema → Data → Members → Result AskedShape QueryError
+scan_shape schema d ms = do
+  asked ← scan_of schema d ms
+  Ok (scan asked)
+
 -- by its type
 abbrev pub shape_by : QueryType → Schema → List Aggregation → Data → Members → Result AskedShape QueryError
 shape_by type.Timeseries schema aggregations d ms = timeseries_shape aggregations d ms
 shape_by type.GroupBy schema aggregations d ms = group_by_shape schema aggregations d ms
+shape_by type.Scan schema aggregations d ms = scan_shape schema d ms

@@ -123,7 +123,8 @@ fn is_among(name: &str, names: &[Text]) -> bool
     names.iter().any(|other| name == other.as_str())
 }
 
-fn column(metrics: &Metrics, name: &str) -> Option<Column>
+/// The first metric of that name; none where no metric has it.
+pub fn column(metrics: &Metrics, name: &str) -> Option<Column>
     ensures { result ≡ column_of metrics.now name.now }
 {
     for (place, metric) in metrics.as_slice().iter().enumerate() {

@@ -111,7 +111,8 @@ fn is_metric(metrics: &Metrics, name: &str) -> bool
         .any(|metric| name == metric.name.as_str())
 }
 
-fn place(names: &[Text], name: &str) -> Option<usize>
+/// The place of a name, from 0; none where it isn't there.
+pub fn place(names: &[Text], name: &str) -> Option<usize>
     ensures { result ≡ position (bytes_eq name.now) names.now }
 {
     names.iter().position(|other| name == other.as_str())

@@ -1,6 +1,6 @@
 ghost use Rattle.std.specs.Prelude.{◌≡◌, map, option_map};
 ghost use Rattle.serde_json.specs.View.{view, members_view};
-ghost use Rattle.dr_ask.specs.Fields.{truth_or_false, as_limit, some_limit, limit_or_none, only_text, no_unlisted};
+ghost use Rattle.dr_ask.specs.Fields.{truth_or_false, as_limit, as_whole, some_limit, limit_or_none, only_text, no_unlisted};
 ghost use Rattle.dr_ask.specs.Refusal.{Gives};
 
 use crate::query_error::QueryError;
@@ -41,6 +41,16 @@ fn some_limit(number: u64) -> Option<u64>
     ensures { result ≡ some_limit number }
 {
     if number == 0 { None } else { Some(number) }
+}
+
+/// The whole number from 0 to 2^64 - 1 that the value is. Refusals: 3 `WrongKind` of that name where it is none.
+pub fn whole(alloc: Global, value: &Value, name: &str) -> Result<u64, QueryError>
+    ensures { Gives (λ n. n) result (as_whole name.now (view value.now)) }
+{
+    match value.as_u64() {
+        Some(number) => Ok(number),
+        None => Err(QueryError::Base(wrong_kind(alloc, name))),
+    }
 }
 
 /// Refuses each text but one, by 76 `Unsupported` with it.

@@ -10,9 +10,10 @@ use std::alloc::Global;
 pub enum QueryType {
     Timeseries,
     GroupBy,
+    Scan,
 }
 
-/// The type of that name. Refusals: 76 `Unsupported` `scan`, which is not read yet, 70 `UnknownQueryType` with another text.
+/// The type of that name. Refusals: 70 `UnknownQueryType` with another text.
 pub fn type_named(alloc: Global, name: &str) -> Result<QueryType, QueryError>
     ensures { Gives (λ t. t) result (type_named name.now) }
 {
@@ -21,7 +22,7 @@ pub fn type_named(alloc: Global, name: &str) -> Result<QueryType, QueryError>
     } else if name == "groupBy" {
         Ok(QueryType::GroupBy)
     } else if name == "scan" {
-        Err(QueryError::Unsupported(Text::from_str(alloc, name)?))
+        Ok(QueryType::Scan)
     } else {
         Err(QueryError::UnknownQueryType(Text::from_str(alloc, name)?))
     }

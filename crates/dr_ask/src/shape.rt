@@ -1,4 +1,5 @@
 use crate::group_by::GroupBy;
+use crate::scan::Scan;
 use crate::timeseries::Timeseries;
 
 /// What a query asks by its type.
@@ -6,4 +7,5 @@ use crate::timeseries::Timeseries;
 pub enum Shape {
     Timeseries(Timeseries),
     GroupBy(GroupBy),
+    Scan(Scan),
 }

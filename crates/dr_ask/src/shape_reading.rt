@@ -13,6 +13,7 @@ use crate::group_by::GroupBy;
 use crate::outputs::add_names;
 use crate::query_error::QueryError;
 use crate::query_type::QueryType;
+use crate::scan_reading::scan;
 use crate::shape::Shape;
 use crate::timeseries::Timeseries;
 use dr_base::{Text, field};
@@ -42,6 +43,10 @@ pub fn read_shape(
         QueryType::GroupBy => {
             let asked = group_by(alloc, value, members, aggregations, schema)?;
             Ok(Shape::GroupBy(asked))
+        }
+        QueryType::Scan => {
+            let asked = scan(alloc, value, members, schema)?;
+            Ok(Shape::Scan(asked))
         }
     }
 }

@@ -16,7 +16,7 @@ use Rattle.dr_schema.specs.Columns.{kinds_of}
 use Rattle.dr_rollup.specs.Unrolled.{unrolled}
 use Rattle.dr_ask.specs.declared.aggregation.Aggregation.{Aggregation}
 use Rattle.dr_ask.specs.declared.column.Column.{Column}
-use Rattle.dr_ask.specs.Asked.{Asked}
+use Rattle.dr_ask.specs.Asked.{Asked, is_scan}
 use Rattle.dr_ask.specs.MadeFor.{IsColumn, MadeFor}
 use Rattle.dr_ask.specs.Matching.{matches_optional, matches_in, aggregation_matches, is_matching}
 use Rattle.dr_answers.specs.Answer.{answer}
@@ -126,7 +126,8 @@ folds-cut_rows schema (a ∷ more) test es cuts are h =
 
 matching-all : (q : Asked) (b : Bool) → q.rollup ≡ b → is_matching q ≡ true → b ≡ true → list_all aggregation_matches q.aggregations ≡ true
 matching-all q b is h on =
-    let e : (not true || list_all aggregation_matches q.aggregations) ≡ true = ap (λ c. not c || list_all aggregation_matches q.aggregations) (sym (is ∙ on)) ∙ h in e
+    let matches : (not q.rollup || list_all aggregation_matches q.aggregations) ≡ true = (and-true (not (is_scan q.shape)) (not q.rollup || list_all aggregation_matches q.aggregations) h).1 in
+    let e : (not true || list_all aggregation_matches q.aggregations) ≡ true = ap (λ c. not c || list_all aggregation_matches q.aggregations) (sym (is ∙ on)) ∙ matches in e
 
 -- ---- so they are alike
 

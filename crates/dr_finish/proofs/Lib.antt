@@ -1,3 +1,2 @@
 pub mod ResultOrder
-pub mod StableOrder
 pub mod Printing

@@ -19,14 +19,15 @@ use Rattle.dr_gran.specs.Buckets.{IsFilled}
 use Rattle.dr_gran.proofs.BucketsLemmas.{buckets_of-first}
 use Rattle.dr_gran.proofs.TruncationLemmas.{truncation_bounds}
 use Rattle.dr_intervals.specs.Printable.{StartsPrintable}
-use Rattle.dr_ask.specs.Asked.{Asked, AskedShape, timeseries, group_by}
+use Rattle.dr_ask.specs.Asked.{Asked, AskedShape, timeseries, group_by, scan}
 use Rattle.dr_answers.specs.declared.result_row.ResultRow.{ResultRow}
 use Rattle.dr_answers.specs.declared.answer_error.AnswerError.TheVariants.{ResultTooLarge}
 use Rattle.dr_answers.specs.Groups.{filled_in, max_groups}
-use Rattle.dr_answers.specs.Given.{given_by, limited, in_order, is_kept}
+use Rattle.dr_answers.specs.Given.{given_by, limited, in_order, is_kept, result_cmp}
 use Rattle.dr_partial.specs.Partial.{result_row, filled_row, groups_by, groups_from}
 use Rattle.dr_finish.specs.Finished.{few_of}
-use Rattle.dr_finish.proofs.StableOrder.{all-in_order}
+use Rattle.dr_answers.proofs.StableOrder.{all-in_order}
+use Rattle.dr_finish.proofs.ResultOrder.{result_total}
 
 -- ---- the starts of buckets
 
@@ -88,6 +89,7 @@ printable-groups_by (timeseries t) q span partial instants starts rows =
       | false ↦ All-map HasTime (filled_row q partial) (filled_in q span) (printable-filled_in q span instants starts)
     ]
 printable-groups_by (group_by g) q span partial instants starts rows = All-map HasTime result_row partial (All-from_recursion (λ g. IsPrintable g.key.time) partial rows)
+printable-groups_by (scan s) q span partial instants starts rows = All-from_recursion HasTime [] tt
 
 -- ---- those that it gives
 
@@ -106,7 +108,8 @@ all-given_by P (group_by g) gs all =
     let ordered = in_order g.limit_spec.columns kept in
     all-limited P g.limit_spec.limit (drop g.limit_spec.offset ordered)
     (All-drop P g.limit_spec.offset ordered
-    (All-from_recursion P ordered (all-in_order g.limit_spec.columns P kept (recursion_from_All P kept (All-filter (is_kept g.having) P gs all)))))
+    (All-from_recursion P ordered (all-in_order (result_cmp g.limit_spec.columns) (result_total g.limit_spec.columns) P kept (recursion_from_All P kept (All-filter (is_kept g.having) P gs all)))))
+all-given_by P (scan s) gs all = All-from_recursion P [] tt
 
 few-is : (few : Bool) (xs ys : List ResultRow) → (if few then Err ResultTooLarge else Ok xs) ≡ Ok ys → xs ≡ ys
 few-is true xs ys e = cc

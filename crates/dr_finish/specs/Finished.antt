@@ -1,7 +1,7 @@
 -- The groups that a query gives, from its partial result and the span of all rows.
 use Rattle.std.specs.Prelude.{ℤ, Bool, false, not, nat_lt, length, List, Option, Result, Ok, Err, if◌then◌else◌}
 use Rattle.dr_base.specs.declared.row.Row.{Row}
-use Rattle.dr_ask.specs.Asked.{Asked, AskedShape, timeseries, group_by}
+use Rattle.dr_ask.specs.Asked.{Asked, AskedShape, timeseries, group_by, scan}
 use Rattle.dr_answers.specs.declared.result_row.ResultRow.{ResultRow}
 use Rattle.dr_answers.specs.declared.answer_error.AnswerError.{AnswerError}
 use Rattle.dr_answers.specs.declared.answer_error.AnswerError.TheVariants.{ResultTooLarge}
@@ -17,6 +17,7 @@ few_of groups = if nat_lt max_groups (length groups) then Err ResultTooLarge els
 abbrev pub fills_buckets : AskedShape → Bool
 fills_buckets (timeseries t) = not t.skips_empty_buckets
 fills_buckets (group_by g) = false
+fills_buckets (scan s) = false
 
 abbrev pub finished : Asked → Option (ℤ × ℤ) → List Row → Result (List ResultRow) AnswerError
 finished q span partial = given_of q (groups_from q span partial)

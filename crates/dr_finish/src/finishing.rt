@@ -20,7 +20,7 @@ use std::alloc::Global;
 /// least to the greatest time, both included, in milliseconds since the epoch (Apache Druid documentation, timeseries and
 /// groupBy queries, having and limitSpec). The buckets of a timeseries are filled, unless it skips empty ones, and turned round
 /// where it is descending; the groups of a groupBy are those that its having keeps, in the order of its limitSpec, without the
-/// first ones that its offset leaves out; of either there are at most as many as its limit. Refusals: 81 `ResultTooLarge` where
+/// first ones that its offset leaves out; of either there are at most as many as its limit. A scan gives none. Refusals: 81 `ResultTooLarge` where
 /// there are over 100000 groups or buckets before having, offset and limit; 0 `NoMemory` may come in the place of any other
 /// answer.
 ///
@@ -43,7 +43,7 @@ pub fn finish(
     Ok(given(&query.shape, groups)?)
 }
 
-/// The groups or buckets of a query.
+/// The groups or buckets of a query; a scan has none.
 fn groups(
     alloc: Global,
     query: &Query,
@@ -55,6 +55,8 @@ fn groups(
 {
     if is_filled(&query.shape) {
         filled(alloc, query, &partial, span)
+    } else if query.is_scan() {
+        Ok(Vec::new(alloc))
     } else {
         listed(alloc, partial)
     }
@@ -66,6 +68,6 @@ fn is_filled(shape: &Shape) -> bool
 {
     match shape {
         Shape::Timeseries(series) => !series.skips_empty_buckets,
-        Shape::GroupBy(_) => false,
+        Shape::GroupBy(_) | Shape::Scan(_) => false,
     }
 }

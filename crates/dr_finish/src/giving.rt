@@ -1,4 +1,4 @@
-ghost use Rattle.std.specs.Prelude.{◌≡◌, IfOk, reverse, if◌then◌else◌};
+ghost use Rattle.std.specs.Prelude.{◌≡◌, [], IfOk, reverse, if◌then◌else◌};
 ghost use Rattle.dr_answers.specs.Given.{given_by};
 ghost use Rattle.dr_ask.specs.Asked.{asked_shape, asked_groups, timeseries, group_by};
 
@@ -16,7 +16,16 @@ pub fn given(shape: &Shape, groups: Vec<ResultRow>) -> Result<Vec<ResultRow>, Al
     match shape {
         Shape::Timeseries(series) => Ok(given_buckets(*series, groups)),
         Shape::GroupBy(by) => given_groups(by, groups),
+        Shape::Scan(_) => Ok(none_of(groups)),
     }
+}
+
+fn none_of(groups: Vec<ResultRow>) -> Vec<ResultRow>
+    ensures { result.items ≡ [] }
+{
+    let mut none = groups;
+    none.clear();
+    none
 }
 
 fn given_buckets(series: Timeseries, groups: Vec<ResultRow>) -> Vec<ResultRow>

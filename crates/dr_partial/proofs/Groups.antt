@@ -21,7 +21,7 @@ use Rattle.dr_agg.proofs.RollupLaws.{IsRollup-rollup, IsRising-rollup}
 use Rattle.dr_rollup.proofs.Keys.{parts-same_keys}
 use Rattle.dr_rollup.proofs.Rows.{same_keys-comm}
 use Rattle.dr_ask.specs.declared.aggregation.Aggregation.{Aggregation}
-use Rattle.dr_ask.specs.Asked.{Asked, AskedShape, timeseries, group_by, dimensions_by}
+use Rattle.dr_ask.specs.Asked.{Asked, AskedShape, timeseries, group_by, scan, dimensions_by}
 use Rattle.dr_answers.specs.Fold.{reading_in, folded, folds}
 use Rattle.dr_answers.specs.Groups.{group_of, is_same_group, with_group, groups_of, filled_in, filled, keys_by, group, groups}
 use Rattle.dr_answers.specs.Selection.{selected}
@@ -216,6 +216,7 @@ module _ (q : Asked) (rows : List Row) where
         | false ↦ all_buckets (filled_in q (span rows))
       ]
   by_shape (group_by g) e = ap (λ s. map (group q rows) (groups_of q (dimensions_by s) (selected q rows))) (sym e) ∙ all_groups
+  by_shape (scan s) e = refl
 
   pub groups-from_partial : groups q rows ≡ groups_from q (span rows) (partial q rows)
   groups-from_partial = by_shape q.shape refl

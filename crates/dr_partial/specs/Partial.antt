@@ -5,7 +5,7 @@ use Rattle.dr_base.specs.declared.row.Row.{Row}
 use Rattle.dr_agg.specs.declared.kind.Kind.{Kind}
 use Rattle.dr_agg.specs.Rollup.{rollup}
 use Rattle.dr_ask.specs.declared.aggregation.Aggregation.{Aggregation}
-use Rattle.dr_ask.specs.Asked.{Asked, AskedShape, timeseries, group_by, dimensions_by}
+use Rattle.dr_ask.specs.Asked.{Asked, AskedShape, timeseries, group_by, scan, dimensions_by}
 use Rattle.dr_answers.specs.declared.result_row.ResultRow.{ResultRow}
 use Rattle.dr_answers.specs.Fold.{folds}
 use Rattle.dr_answers.specs.Groups.{group_of, is_same_group, filled_in}
@@ -44,6 +44,7 @@ filled_row q partial b = record { time = b; dims = []; values = unwrap_or (value
 abbrev pub groups_by : AskedShape → Asked → Option (ℤ × ℤ) → List Row → List ResultRow
 groups_by (timeseries t) q span partial = if t.skips_empty_buckets then map result_row partial else map (filled_row q partial) (filled_in q span)
 groups_by (group_by g) q span partial = map result_row partial
+groups_by (scan s) q span partial = []
 
 abbrev pub groups_from : Asked → Option (ℤ × ℤ) → List Row → List ResultRow
 groups_from q span partial = groups_by q.shape q span partial

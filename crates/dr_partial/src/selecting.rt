@@ -41,7 +41,7 @@ pub fn dimensions(query: &Query) -> &[Dimension]
     ensures { result.now ≡ dimensions_by (asked_shape query.now.shape) }
 {
     match &query.shape {
-        Shape::Timeseries(_) => &[],
+        Shape::Timeseries(_) | Shape::Scan(_) => &[],
         Shape::GroupBy(groups) => groups.dimensions.as_slice(),
     }
 }

@@ -1,5 +1,5 @@
 -- What each command of a script does: what is written for it, and the state after it, or its refusal, which changes nothing.
-use Rattle.std.specs.Prelude.{ℕ, ℤ, Bool, true, false, List, ◌++◌, Option, None, Result, Ok, Err, codes, decimal, slice_get}
+use Rattle.std.specs.Prelude.{ℕ, ℤ, Bool, true, false, List, ◌++◌, Option, None, Result, Ok, Err, codes, decimal, slice_get, if◌then◌else◌}
 use Rattle.dr_base.specs.FaultLine.{fault_line, arg_part}
 use Rattle.dr_base.specs.Reading.{◌>>=◌, passed}
 use Rattle.dr_base.specs.declared.fault.Arg.{Arg}
@@ -11,8 +11,12 @@ use Rattle.dr_events.specs.Refusal as event
 use Rattle.dr_events.specs.EventOf.{event_of}
 use Rattle.dr_answers.specs.Answer.{answer}
 use Rattle.dr_answers.specs.AnswerRefusal as no_answer
+use Rattle.dr_ask.specs.Asked.{Asked, is_scan}
+use Rattle.dr_ask.specs.declared.query_error.QueryError.{QueryError}
+use Rattle.dr_ask.specs.declared.query_error.QueryError.TheVariants.{Unsupported}
 use Rattle.dr_ask.specs.QueryOf.{query_of}
 use Rattle.dr_ask.specs.Refusal as query
+use Rattle.dr_schema.specs.declared.schema.Schema.{Schema}
 use Rattle.dr_timeline.specs.declared.outcome.Outcome.TheVariants.{Unparseable as NotParsed}
 use Rattle.dr_timeline.specs.declared.stats.Stats.{Stats}
 use Rattle.dr_timeline.specs.Noted.{stats}
@@ -136,10 +140,19 @@ commit_job number c = do
 abbrev pub pin_snapshot : CoreState → Result (Answered × CoreState) ScriptError
 pin_snapshot c = Ok (answered (codes "pin " ++ decimal (core.pin c).0), (core.pin c).1)
 
+-- a query that asks for groups; a scan is not answered yet
+abbrev pub no_scan : Asked → Result Asked QueryError
+no_scan q = if is_scan q.shape then Err (Unsupported (codes "scan")) else Ok q
+
+abbrev pub grouping_of : Schema → List ℕ → Result Asked QueryError
+grouping_of schema text = do
+  q ← query_of schema text
+  no_scan q
+
 -- `query JSON`: a query is answered over the rows as they are
 abbrev pub ask_now : List ℕ → CoreState → Result (Answered × CoreState) ScriptError
 ask_now text c = do
-  q ← passed BadQuery (query_of c.timeline.schema text)
+  q ← passed BadQuery (grouping_of c.timeline.schema text)
   a ← passed Answer (answer q (rows_of (pinned c.timeline)))
   Ok (answered a, c)
 
@@ -147,14 +160,14 @@ ask_now text c = do
 abbrev pub ask_at : ℕ → List ℕ → CoreState → Result (Answered × CoreState) ScriptError
 ask_at number text c = do
   p ← passed Core (core.given (slice_get c.pins number))
-  q ← passed BadQuery (query_of c.timeline.schema text)
+  q ← passed BadQuery (grouping_of c.timeline.schema text)
   a ← passed Answer (answer q (rows_of p))
   Ok (answered a, c)
 
 -- `audit JSON`: it is answered over the accepted events, one by one
 abbrev pub audit_now : List ℕ → CoreState → Result (Answered × CoreState) ScriptError
 audit_now text c = do
-  q ← passed BadQuery (query_of c.timeline.schema text)
+  q ← passed BadQuery (grouping_of c.timeline.schema text)
   a ← passed Answer (raw_answer c.timeline.schema q c.timeline.stream)
   Ok (answered a, c)
 

@@ -5,16 +5,17 @@ ghost use Rattle.dr_ask.specs.MadeFor.{MadeFor};
 ghost use Rattle.dr_base.specs.Reading.{GivesUnless, passed};
 ghost use Rattle.dr_cuts.specs.RawAnswer.{raw_answer};
 ghost use Rattle.dr_cuts.specs.Segments.{pinned, rows_of};
-ghost use Rattle.dr_script.specs.declared.script_error.ScriptError.TheVariants.{Answer};
+ghost use Rattle.dr_script.specs.declared.script_error.ScriptError.TheVariants.{Answer, Query as BadQuery};
 ghost use Rattle.dr_timeline.specs.CoreState.{empty_core};
-ghost use Rattle.dr_script.specs.Commands.{add_event, ask_at, ask_now, audit_now as audited_now, carried_out, check_purpose, chunk_named, commit_job, is_memory, join_ranges, pin_snapshot, plan_ranges, seal_chunk, tell_stats};
+ghost use Rattle.dr_script.specs.Commands.{add_event, ask_at, ask_now, audit_now as audited_now, carried_out, check_purpose, chunk_named, commit_job, is_memory, join_ranges, pin_snapshot, plan_ranges, seal_chunk, tell_stats, grouping_of};
 ghost use Rattle.dr_script.specs.Replies.{seen};
 ghost use Rattle.dr_requests.specs.Seen.{seen_request};
 
 use crate::reply::Reply;
 use crate::script_error::ScriptError;
 use crate::wording::{stats_line, unparseable_line};
-use dr_ask::Query;
+use dr_ask::{Query, QueryError};
+use dr_base::Text;
 use dr_core::{Core, CoreError};
 use dr_events::{EventReader, Unparseable};
 use dr_merge::Purpose;
@@ -165,7 +166,7 @@ impl Session {
         ensures step { GivesUnless is_memory (λ reply. (seen reply, self.new)) result (ask_now text.now self.old) }
         ensures same { self.new ≡ self.old }
     {
-        let query = Query::parse(alloc, text, self.core.spec().schema())?;
+        let query = self.grouping(alloc, text)?;
         Ok(Reply::Said(answer_now(&mut self.core, &query)?))
     }
 
@@ -175,7 +176,7 @@ impl Session {
         let Some(snapshot) = self.core.snapshot(number as usize) else {
             return Err(ScriptError::Core(CoreError::NoSuch));
         };
-        let query = Query::parse(alloc, text, self.core.spec().schema())?;
+        let query = self.grouping(alloc, text)?;
         Ok(Reply::Said(snapshot.answer_one(&query)?))
     }
 
@@ -183,7 +184,7 @@ impl Session {
         ensures step { GivesUnless is_memory (λ reply. (seen reply, self.new)) result (audited_now text.now self.old) }
         ensures same { self.new ≡ self.old }
     {
-        let query = Query::parse(alloc, text, self.core.spec().schema())?;
+        let query = self.grouping(alloc, text)?;
         Ok(Reply::Said(audit_now(&mut self.core, &query)?))
     }
 
@@ -191,6 +192,19 @@ impl Session {
         ensures { GivesUnless is_memory (λ reply. (seen reply, self.now)) result (tell_stats self.now) }
     {
         Ok(Reply::Said(stats_line(alloc, self.core.stats())?))
+    }
+
+    // The query of a text, which is no scan.
+    fn grouping(&self, alloc: Global, text: &[u8]) -> Result<Query, ScriptError>
+        ensures value { GivesUnless is_memory asked result (passed BadQuery (grouping_of self.now.timeline.schema text.now)) }
+        ensures made { IfOk result (λ q. MadeFor self.now.timeline.schema (asked q)) }
+    {
+        let query = Query::parse(alloc, text, self.core.spec().schema())?;
+        if query.is_scan() {
+            let name = Text::from_str(alloc, "scan")?;
+            return Err(ScriptError::Query(QueryError::Unsupported(name)));
+        }
+        Ok(query)
     }
 
     // The start of the chunk in which an instant lies, in milliseconds since the epoch.

@@ -8,7 +8,7 @@ use Rattle.serde_json.specs.View.{items_of}
 use Rattle.serde_json.specs.Written.{compact_text}
 use Rattle.serde_json.proofs.Texts.{print-outline}
 use Rattle.dr_ask.specs.declared.aggregation.Aggregation.{Aggregation}
-use Rattle.dr_ask.specs.Asked.{Asked, AskedShape, timeseries, group_by, dimensions_by}
+use Rattle.dr_ask.specs.Asked.{Asked, AskedShape, timeseries, group_by, scan, dimensions_by}
 use Rattle.dr_answers.specs.declared.result_row.ResultRow.{ResultRow}
 use Rattle.dr_answers.specs.Answer.{result_data, text_of, with_dims, with_values}
 use Rattle.dr_time.specs.Printed.{IsPrintable}
@@ -31,6 +31,7 @@ event-tokens t0 t1 t2 t3 t4 t5 t6 members time version name e1 e2 e3 e4 e5 e6 =
 group-data : (shape : AskedShape) (aggregations : List Aggregation) (g : ResultRow) → group_data shape (with_values (with_dims no_members (dimensions_by shape) g.dims) aggregations g.values) g.time ≡ result_data shape aggregations g
 group-data (timeseries t) aggregations g = refl
 group-data (group_by asked) aggregations g = refl
+group-data (scan s) aggregations g = refl
 
 groups-data : (q : Asked) (os : List Output) → ((g : ResultRow) → members_at g os ≡ members_of q g) → (groups : List ResultRow) → groups_data q.shape os groups ≡ map (result_data q.shape q.aggregations) groups
 groups-data q os same [] = refl

@@ -6,7 +6,7 @@ use Rattle.json.specs.Written.{Written}
 use Rattle.serde_json.specs.Data.{Data, string, object, Members, no_members, member}
 use Rattle.serde_json.specs.Written.{outline}
 use Rattle.dr_time.specs.Printed.{instant_text}
-use Rattle.dr_ask.specs.Asked.{AskedShape, timeseries, group_by}
+use Rattle.dr_ask.specs.Asked.{AskedShape, timeseries, group_by, scan}
 use Rattle.dr_answers.specs.declared.result_row.ResultRow.{ResultRow}
 use Rattle.dr_writer.specs.declared.output.Output.{Output}
 use Rattle.dr_writer.specs.Outputs.{members_at}
@@ -38,6 +38,7 @@ event_object members time = object (
 abbrev pub group_data : AskedShape → Members → ℤ → Data
 group_data (timeseries t) members time = result_object members time
 group_data (group_by asked) members time = event_object members time
+group_data (scan s) members time = result_object members time
 
 -- the groups with their members in the order of the outputs
 abbrev pub groups_data : AskedShape → List Output → List ResultRow → List Data

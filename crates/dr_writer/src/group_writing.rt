@@ -27,7 +27,7 @@ pub(crate) fn write_group(
     ensures { Adds result out.old out.new (data_tokens (group_data (asked_shape shape.now) (members_at group.now outputs.now) group.now.time)) }
 {
     match shape {
-        Shape::Timeseries(_) => write_result(out, outputs, group, stamp),
+        Shape::Timeseries(_) | Shape::Scan(_) => write_result(out, outputs, group, stamp),
         Shape::GroupBy(_) => write_event(out, outputs, group, stamp),
     }
 }
@@ -124,8 +124,9 @@ fn dim_at(group: &ResultRow, place: usize) -> Option<&Text>
     group.dims.as_slice().get(place)
 }
 
-/// Writes the value of a dimension: `null` for the empty text.
-fn write_dimension(out: &mut Writer, text: &str) -> Result<(), AllocError>
+/// Writes the value of a dimension: `null` for the empty text. The only error is that memory ran out. It takes time by the bytes
+/// of the text.
+pub fn write_dimension(out: &mut Writer, text: &str) -> Result<(), AllocError>
     ensures { Adds result out.old out.new (data_tokens (dimension_data text.now)) }
 {
     if text.is_empty() {

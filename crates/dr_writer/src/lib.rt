@@ -7,4 +7,5 @@ mod output;
 mod stamp;
 mod writing;
 
+pub use group_writing::write_dimension;
 pub use writing::text_of;

@@ -23,12 +23,12 @@ pub(crate) fn outputs_in_order(alloc: Global, query: &Query) -> Result<Vec<Outpu
     outputs_of(alloc, places)
 }
 
-/// The dimensions of a groupBy; a timeseries has none.
+/// The dimensions of a groupBy; a timeseries has none, and a scan none.
 fn add_shape(places: &mut BTreeMap<Text, Place>, shape: &Shape) -> Result<(), AllocError>
     ensures { OnOk result (places.new.entries ≡ with_places dim_at 0 places.old.entries (dimension_names (dimensions_by (asked_shape shape.now)))) }
 {
     match shape {
-        Shape::Timeseries(_) => Ok(()),
+        Shape::Timeseries(_) | Shape::Scan(_) => Ok(()),
         Shape::GroupBy(group_by) => add_dimensions(places, group_by.dimensions.as_slice()),
     }
 }

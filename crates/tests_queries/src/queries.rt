@@ -8,7 +8,7 @@ use std::test::Fail;
 const SPEC: &[u8] =
     br#"{"dataSchema":{"dataSource":"w","timestampSpec":{"column":"t","format":"iso"},"dimensionsSpec":{"dimensions":["page","lang"]},"metricsSpec":[{"type":"count","name":"n"},{"type":"longSum","name":"added","fieldName":"a"}]}}"#;
 
-// 0 for a timeseries and 1 for a groupBy, 10 more where it matches, and the number of the refusal.
+// 0 for a timeseries, 1 for a groupBy and 4 for a scan, 10 more where it matches, and the number of the refusal.
 fn read(alloc: Global, query: &[u8]) -> Result<u16, Fail> {
     let spec = IngestSpec::parse(alloc, SPEC)?;
     match Query::parse(alloc, query, spec.schema()) {
@@ -18,11 +18,12 @@ fn read(alloc: Global, query: &[u8]) -> Result<u16, Fail> {
 }
 
 fn shape_number(query: &Query) -> u16
-    ensures { (result ≤ 1) }
+    ensures { (result ≤ 4) }
 {
     match &query.shape {
         Shape::Timeseries(_) => 0,
         Shape::GroupBy(_) => 1,
+        Shape::Scan(_) => 4,
     }
 }
 
@@ -41,7 +42,7 @@ const QUERIES: [(&[u8], u16); 12] = [
     ),
     (br#"nope"#, 1),
     (br#"{"queryType":"topN"}"#, 70),
-    (br#"{"queryType":"scan"}"#, 76),
+    (br#"{"queryType":"scan"}"#, 2),
     (br#"{"queryType":"timeseries","dataSource":"x"}"#, 71),
     (
         br#"{"queryType":"timeseries","dataSource":"w","intervals":[],"granularity":"fortnight"}"#,

@@ -4,7 +4,7 @@ use Rattle.std.proofs.lemmas.Fn.{answers_by}
 use Rattle.dr_answers.specs.declared.result_row.ResultRow.{ResultRow}
 use Rattle.dr_answers.specs.Given.{result_cmp}
 use Rattle.dr_finish.proofs.ResultOrder.{result_total}
-use Rattle.dr_finish.proofs.StableOrder.{in_order-sorted}
+use Rattle.dr_answers.proofs.StableOrder.{in_order-sorted}
 use Rattle.dr_finish.proofs.ordering.ordered.Goals as goal
 
 pub returns : goal.returns
@@ -20,4 +20,4 @@ returns c =
       let own : is_lt r ≡ is_lt (result_cmp f.0.now a.0.now a.1.0.now) = search rules in own ∙ ap (λ cs. is_lt (result_cmp cs a.0.now a.1.0.now)) i,
       let kept : g.0.now ≡ f.0.now = search rules in kept ∙ i,
     )) _ refl) in
-    in_order-sorted columns c.args.groups.items c.sort_by.new.self.items up stable
+    in_order-sorted (result_cmp columns) (result_total columns) c.args.groups.items c.sort_by.new.self.items up stable

@@ -1,0 +1,6 @@
+mod ImageRows
+mod RowMembers
+mod Windows
+mod Batches
+mod EntryTokens
+mod PlaceLemmas

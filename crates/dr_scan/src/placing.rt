@@ -1,0 +1,101 @@
+ghost use Rattle.std.specs.Prelude.{◌≡◌, ◌++◌, IfOk, OnOk, drop};
+ghost use Rattle.std.specs.Ordering.{int_cmp};
+ghost use Rattle.dr_answers.specs.Given.{limited as limited_of};
+ghost use Rattle.dr_answers.specs.InOrder.{in_order_by};
+ghost use Rattle.dr_ask.specs.Asked.{asked};
+ghost use Rattle.dr_scan.specs.Places.{places_cmp, places_in, places_over};
+
+use crate::row_place::RowPlace;
+use crate::segment::Segment;
+use crate::segment_rows::SegmentRows;
+use crate::selecting::is_selected;
+use dr_ask::{Query, TimeOrder};
+use dr_base::Text;
+use std::alloc::{AllocError, Global};
+use std::cmp::Ordering;
+
+/// The places of the rows that a query selects, segments in order, rows in order.
+pub(crate) fn selected_places(
+    alloc: Global,
+    query: &Query,
+    segments: &[Segment<'_>],
+) -> Result<Vec<RowPlace>, AllocError>
+    ensures { IfOk result (λ ps. ps.items ≡ places_over (asked query.now) 0 segments.now) }
+{
+    let mut places = Vec::new(alloc);
+    let mut dims = Vec::new(alloc);
+    for (i, segment) in segments.iter().enumerate() {
+        add_places(&mut places, &mut dims, query, &segment.rows, i)?;
+    }
+    Ok(places)
+}
+
+/// Adds those of a segment. `dims` is memory to use again.
+fn add_places(
+    places: &mut Vec<RowPlace>,
+    dims: &mut Vec<Text>,
+    query: &Query,
+    rows: &SegmentRows<'_>,
+    segment: usize,
+) -> Result<(), AllocError>
+    ensures { OnOk result (places.new.items ≡ places.old.items ++ places_in (asked query.now) segment 0 rows.now) }
+{
+    for row in 0..rows.len() {
+        if !is_selected(query, rows, row, dims)? {
+            continue;
+        }
+        let time = rows.time(row);
+        places.push(RowPlace { time, segment, row })?;
+    }
+    Ok(())
+}
+
+/// The places by the times of their rows; rows of equal times stay in their order.
+pub(crate) fn by_time(places: Vec<RowPlace>, order: TimeOrder) -> Result<Vec<RowPlace>, AllocError>
+    ensures { IfOk result (λ ps. ps.items ≡ in_order_by (places_cmp order) places.items) }
+{
+    match order {
+        TimeOrder::Ascending => ascending(places),
+        TimeOrder::Descending => descending(places),
+    }
+}
+
+fn ascending(places: Vec<RowPlace>) -> Result<Vec<RowPlace>, AllocError>
+    ensures { IfOk result (λ ps. ps.items ≡ in_order_by (λ a b. int_cmp a.time b.time) places.items) }
+{
+    let mut sorted = places;
+    sorted.sort_by(
+        |a: &RowPlace, b: &RowPlace| -> Ordering
+            ensures { result ≡ int_cmp a.now.time b.now.time }
+        { a.time.cmp(&b.time) },
+    )?;
+    Ok(sorted)
+}
+
+fn descending(places: Vec<RowPlace>) -> Result<Vec<RowPlace>, AllocError>
+    ensures { IfOk result (λ ps. ps.items ≡ in_order_by (λ a b. int_cmp b.time a.time) places.items) }
+{
+    let mut sorted = places;
+    sorted.sort_by(
+        |a: &RowPlace, b: &RowPlace| -> Ordering
+            ensures { result ≡ int_cmp b.now.time a.now.time }
+        { b.time.cmp(&a.time) },
+    )?;
+    Ok(sorted)
+}
+
+/// The places behind the first ones, and of these at most as many as the limit.
+pub(crate) fn given(places: &[RowPlace], offset: u64, limit: Option<u64>) -> &[RowPlace]
+    ensures { result.now ≡ limited_of limit (drop offset places.now) }
+{
+    limited(&places[places.len().min(offset as usize)..], limit)
+}
+
+fn limited(places: &[RowPlace], limit: Option<u64>) -> &[RowPlace]
+    ensures { result.now ≡ limited_of limit places.now }
+{
+    match limit {
+        Some(limit) => &places[..places.len().min(limit as usize)],
+        None => places,
+    }
+}

@@ -1,0 +1,89 @@
+ghost use Rattle.std.specs.Prelude.{◌≡◌, ◌<◌, Some, length, option_map};
+ghost use Rattle.dr_answers.specs.Selection.{selected};
+ghost use Rattle.dr_ask.specs.Asked.{asked};
+ghost use Rattle.dr_scan.specs.Window.{after, given};
+ghost use Rattle.dr_scan.specs.Written.{at_end, before_row, count_with, entry_back, entry_front, segment_tokens};
+ghost use Rattle.dr_writer.specs.Written.{Adds};
+ghost use Rattle.std.specs.Prelude.{OnOk};
+
+use crate::entry_writing::{begin_entry, end_entry};
+use crate::row_writing::write_row;
+use crate::segment::Segment;
+use crate::selecting::is_selected;
+use crate::window::Window;
+use dr_ask::{Query, Scan, ScanColumn};
+use dr_base::Text;
+use json::Writer;
+use std::alloc::{AllocError, Global};
+
+/// Writes the entries of a segment: of the rows that a query selects those that the window gives. The columns are those of the
+/// scan, in the order in which they are written.
+pub(crate) fn write_segment(
+    alloc: Global,
+    out: &mut Writer,
+    window: &mut Window,
+    query: &Query,
+    scan: &Scan,
+    columns: &[ScanColumn],
+    segment: &Segment<'_>,
+) -> Result<(), AllocError>
+    ensures tokens { Adds result out.old out.new (segment_tokens scan.now columns.now segment.now.identifier 0 (given window.old (selected (asked query.now) segment.now.rows))) }
+    ensures window { OnOk result (window.new ≡ after window.old (length (selected (asked query.now) segment.now.rows))) }
+{
+    let rows = &segment.rows;
+    let mut dims = Vec::new(alloc);
+    let mut count = 0;
+    for i in 0..rows.len() {
+        if !is_selected(query, rows, i, &mut dims)? {
+            continue;
+        }
+        if !window.takes() {
+            continue;
+        }
+        write_before_row(out, scan, &segment.identifier, count)?;
+        write_row(out, scan.result_format, columns, rows, i)?;
+        count = count_with(scan.batch_size, count);
+    }
+    write_at_end(out, &segment.identifier, count)
+}
+
+/// Before a row, where so many rows of an entry are written: ends it where it is full, and begins one where there is none.
+fn write_before_row(
+    out: &mut Writer,
+    scan: &Scan,
+    identifier: &Text,
+    count: u64,
+) -> Result<(), AllocError>
+    ensures { Adds result out.old out.new (before_row (entry_front scan.now.columns) (entry_back (Some identifier.now)) scan.now.batch_size count) }
+{
+    if count == 0 {
+        return begin_entry(out, scan.columns.as_slice());
+    }
+    if count == scan.batch_size {
+        end_entry(out, Some(identifier))?;
+        return begin_entry(out, scan.columns.as_slice());
+    }
+    Ok(())
+}
+
+/// How many rows the entry has with one more.
+fn count_with(size: u64, count: u64) -> u64
+    requires { count < 18446744073709551615 }
+    ensures { result ≡ count_with size count }
+{
+    if count == 0 || count == size {
+        1
+    } else {
+        count + 1
+    }
+}
+
+/// Behind the last row: ends the entry where there is one.
+fn write_at_end(out: &mut Writer, identifier: &Text, count: u64) -> Result<(), AllocError>
+    ensures { Adds result out.old out.new (at_end (entry_back (Some identifier.now)) count) }
+{
+    if count == 0 {
+        return Ok(());
+    }
+    end_entry(out, Some(identifier))
+}
