@@ -9,7 +9,7 @@ use crate::sealed_range::SealedRange;
 use crate::sealed_ranges::SealedRanges;
 use dr_base::Event;
 use dr_cuts::RangeInfo;
-use dr_fragment::{Fragment, Fragments, SharedFragment};
+use dr_fragment::{Fragment, PinnedFragment, PinnedFragments, SharedFragment};
 use dr_rollup::RollupError;
 use dr_schema::Schema;
 use std::alloc::{AllocError, Global};
@@ -61,14 +61,11 @@ impl Chunk {
     }
 
     /// The open range with a share of its index, of which no row is copied. The only error is that memory ran out.
-    pub fn open_fragment(&self, alloc: Global) -> Result<SharedFragment, AllocError>
+    pub fn open_fragment(&self, alloc: Global) -> Result<PinnedFragment, AllocError>
         ensures { IfOk result (λ fragment. fragment ≡ open_fragment self.now) }
     {
         let from = self.sealed.end();
-        let fragment = self
-            .open_range
-            .fragment(alloc, self.start, from, self.events)?;
-        Ok(SharedFragment::new(alloc, fragment)?)
+        self.open_range.pin(alloc, self.start, from, self.events)
     }
 
     // The open range with its rows in the order of their keys, in memory of their own.
@@ -85,7 +82,7 @@ impl Chunk {
     pub fn pin(
         &self,
         alloc: Global,
-        pinned: &mut Fragments,
+        pinned: &mut PinnedFragments,
         ranges: &mut Vec<RangeInfo>,
     ) -> Result<(), AllocError>
         ensures pinned { OnOk result (pinned.new ≡ pinned.old ++ fragments_of_chunk self.now) }

@@ -5,7 +5,7 @@ ghost use Rattle.dr_rollup.specs.OpenRows.{rows_with, with_rows};
 ghost use Rattle.dr_chunks.specs.Open.{index_of};
 
 use dr_base::{Event, Row};
-use dr_fragment::{Fragment, SharedIndex};
+use dr_fragment::{Fragment, OpenFragment, PinnedFragment, SharedFragment, SharedIndex};
 use dr_rollup::{OpenIndex, RollupError, unrolled_row};
 use dr_schema::Schema;
 use std::alloc::{AllocError, Global};
@@ -97,20 +97,26 @@ impl OpenRange {
         }
     }
 
-    /// The range as a fragment of its chunk, with a share of its index, of which no row is copied. The only error is that there
-    /// are 2^63 shares.
-    pub fn fragment(
+    /// The range as it is now, as a fragment of its chunk, with a share of its index, of which no row is copied. The only error
+    /// is that memory ran out, which a range with events doesn't take.
+    pub fn pin(
         &self,
         alloc: Global,
         chunk: i64,
         from: usize,
         to: usize,
-    ) -> Result<Fragment, AllocError>
+    ) -> Result<PinnedFragment, AllocError>
         ensures { IfOk result (λ fragment. fragment ≡ record { chunk = chunk; from = from; to = to; rows = self.now.rows }) }
     {
         match &self.index {
-            Some(shared) => Ok(Fragment::of_index(chunk, from, to, shared.share()?)),
-            None => Ok(Fragment::of_rows(chunk, from, to, Vec::new(alloc))),
+            Some(shared) => {
+                let open = OpenFragment::new(chunk, from, to, shared.share()?);
+                Ok(PinnedFragment::open(open))
+            }
+            None => {
+                let empty = Fragment::of_rows(chunk, from, to, Vec::new(alloc));
+                Ok(PinnedFragment::sealed(SharedFragment::new(alloc, empty)?))
+            }
         }
     }
 

@@ -4,7 +4,7 @@ ghost use Rattle.dr_cuts.specs.State.{open_from};
 
 use crate::sealed_range::SealedRange;
 use dr_cuts::RangeInfo;
-use dr_fragment::Fragments;
+use dr_fragment::{PinnedFragment, PinnedFragments};
 use std::alloc::{AllocError, Global};
 use std::marker::Model;
 
@@ -76,7 +76,7 @@ impl SealedRanges {
     /// memory ran out.
     pub fn pin(
         &self,
-        pinned: &mut Fragments,
+        pinned: &mut PinnedFragments,
         ranges: &mut Vec<RangeInfo>,
     ) -> Result<(), AllocError>
         ensures pinned { OnOk result (pinned.new ≡ pinned.old ++ map (λ s. s.fragment) self.now) }
@@ -84,7 +84,7 @@ impl SealedRanges {
     {
         for range in self.as_slice() {
             ranges.push(range.info())?;
-            pinned.push(range.fragment.share()?)?;
+            pinned.push(PinnedFragment::sealed(range.fragment.share()?))?;
         }
         Ok(())
     }

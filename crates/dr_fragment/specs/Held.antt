@@ -17,7 +17,6 @@ use Rattle.dr_fragment.specs.declared.form.Form.TheVariants as form
 abbrev pub rows_held : Held → List Row
 rows_held (held.Rows rows) = rows
 rows_held (held.Image bytes) = rows_of (read_table bytes.items)
-rows_held (held.Index index) = index.rows
 
 -- bytes that are an image of that range of that chunk
 pub record IsImageAt (chunk : ℤ) (from to : ℕ) (bytes : List ℕ) : Type 0 where
@@ -30,7 +29,6 @@ pub record IsImageAt (chunk : ℤ) (from to : ℕ) (bytes : List ℕ) : Type 0 w
 abbrev pub IsHeld : ℤ → ℕ → ℕ → Held → Type 0
 IsHeld chunk from to (held.Rows rows) = IsInOrder rows
 IsHeld chunk from to (held.Image bytes) = IsImageAt chunk from to bytes.items
-IsHeld chunk from to (held.Index index) = Unit {0}
 
 -- what is handed out stands for the rows: a list in the order of their keys, the columns of the image of the range, or an
 -- index whose rows they are once they are sorted

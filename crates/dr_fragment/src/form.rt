@@ -2,7 +2,7 @@ use dr_base::Row;
 use dr_image::SegmentView;
 use dr_rollup::OpenIndex;
 
-/// What holds the rows of a fragment, lent by it.
+/// What holds the rows of a range, lent by it.
 #[derive(Drop)]
 pub enum Form<'a> {
     /// The rows, in the order of their keys.

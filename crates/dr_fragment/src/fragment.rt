@@ -8,15 +8,14 @@ ghost use Rattle.dr_fragment.specs.Held.{StandsFor, IsImageAt, IsRangeOpened};
 use crate::form::Form;
 use crate::ordered_rows::OrderedRows;
 use crate::rows::Rows;
-use crate::shared_index::SharedIndex;
 use dr_base::Row;
 use dr_image::{ImageError, SegmentView};
 use std::alloc::{AllocError, Global};
 use std::marker::Model;
 
-/// A range of a chunk's list of events, rolled up: a list of rows, the bytes of an image, or the index of an open range as it
-/// was. A contract sees the start of the chunk in milliseconds since the epoch, the range `[from, to)` of the list, and the
-/// rows in the order of their keys, whatever holds them.
+/// A range of a chunk's list of events, rolled up: a list of rows, or the bytes of an image. A contract sees the start of the
+/// chunk in milliseconds since the epoch, the range `[from, to)` of the list, and the rows in the order of their keys,
+/// whatever holds them.
 #[derive(Drop)]
 pub struct Fragment {
     chunk: i64,
@@ -30,7 +29,6 @@ pub struct Fragment {
 pub(crate) enum Held {
     Rows(Rows),
     Image(Vec<u8>),
-    Index(SharedIndex),
 }
 
 impl Model for Fragment {
@@ -88,19 +86,6 @@ impl Fragment {
         }
     }
 
-    /// A fragment of the index of an open range, of which it is a share. Its rows are those of the index now, in the order of
-    /// their keys; they are sorted when somebody wants them in order.
-    pub fn of_index(chunk: i64, from: usize, to: usize, index: SharedIndex) -> Fragment
-        ensures { result ≡ record { chunk = chunk; from = from; to = to; rows = index.rows } }
-    {
-        Fragment {
-            chunk,
-            from,
-            to,
-            held: Held::Index(index),
-        }
-    }
-
     /// The start of the chunk, in milliseconds since the epoch.
     pub fn chunk(&self) -> i64
         ensures { result ≡ self.now.chunk }
@@ -123,7 +108,6 @@ impl Fragment {
         match &self.held {
             Held::Rows(rows) => rows.len(),
             Held::Image(bytes) => SegmentView::of_image(bytes).row_count(),
-            Held::Index(index) => index.index().len(),
         }
     }
 
@@ -134,57 +118,52 @@ impl Fragment {
         match &self.held {
             Held::Rows(rows) => Form::Rows(rows.as_slice()),
             Held::Image(bytes) => Form::Image(SegmentView::of_image(bytes)),
-            Held::Index(index) => Form::Index(index.index()),
         }
     }
 
-    /// The columns of the image; none where the rows are a list or in an index. It takes constant time and no memory.
+    /// The columns of the image; none where the rows are a list. It takes constant time and no memory.
     pub fn view(&self) -> Option<SegmentView<'_>>
         ensures { IfSome result (λ view. range_in view ≡ self.now) }
     {
         match &self.held {
             Held::Image(bytes) => Some(SegmentView::of_image(bytes)),
             Held::Rows(_) => None,
-            Held::Index(_) => None,
         }
     }
 
-    /// The rows in the order of their keys, ready to be read. Those of an index are copied and sorted, the others are lent and
-    /// take no memory. The only error is that memory ran out.
-    pub fn ordered(&self, alloc: Global) -> Result<OrderedRows<'_>, AllocError>
-        ensures { IfOk result (λ rows. rows ≡ self.now.rows) }
+    /// The rows in the order of their keys, lent. It takes constant time and no memory.
+    pub fn ordered(&self) -> OrderedRows<'_>
+        ensures { result ≡ self.now.rows }
     {
         match &self.held {
-            Held::Rows(rows) => Ok(OrderedRows::lent(rows.as_slice())),
-            Held::Image(bytes) => Ok(OrderedRows::in_image(SegmentView::of_image(bytes))),
-            Held::Index(index) => Ok(OrderedRows::own(index.index().rows()?)),
+            Held::Rows(rows) => OrderedRows::lent(rows.as_slice()),
+            Held::Image(bytes) => OrderedRows::in_image(SegmentView::of_image(bytes)),
         }
     }
 
-    /// A copy of the row at a place, from 0. The only error is that memory ran out. Of an index it takes the time and the
-    /// memory that sorting its rows takes: who wants many takes them of `ordered`.
+    /// A copy of the row at a place, from 0. The only error is that memory ran out. It takes time by the columns and by the
+    /// bytes of the row's texts.
     pub fn row(&self, alloc: Global, i: usize) -> Result<Row, AllocError>
         requires { i < length self.now.rows }
         ensures { IfOk result (λ row. slice_get self.now.rows i ≡ Some row) }
     {
-        let rows = self.ordered(alloc)?;
+        let rows = self.ordered();
         rows.row(i).copy(alloc)
     }
 
-    /// Whether the other fragment has the same chunk, range and rows, whatever holds them. The only error is that memory ran
-    /// out, which only rows of an index take. Two images are compared by their bytes first; rows are compared up to the
-    /// first that differs, and only where chunk, range and number of rows are the same.
-    pub fn equals(&self, alloc: Global, other: &Fragment) -> Result<bool, AllocError>
-        ensures { IfOk result (λ same. IsTrue same ↔ (self.now ≡ other.now)) }
+    /// Whether the other fragment has the same chunk, range and rows, whatever holds them. Two images are compared by their
+    /// bytes first; rows are compared up to the first that differs, and only where chunk, range and number of rows are the
+    /// same. It takes no memory.
+    pub fn equals(&self, other: &Fragment) -> bool
+        ensures { IsTrue result ↔ (self.now ≡ other.now) }
     {
         if !self.has_range_of(other) {
-            return Ok(false);
+            return false;
         }
         if self.has_bytes_of(other) {
-            return Ok(true);
+            return true;
         }
-        let rows = self.ordered(alloc)?;
-        Ok(are_equal(&rows, &other.ordered(alloc)?))
+        are_equal(&self.ordered(), &other.ordered())
     }
 
     // Whether chunk and range are the same.

@@ -18,7 +18,7 @@ pub(crate) fn ordered_inputs(
 {
     let mut ordered = Vec::with_capacity(alloc, inputs.len())?;
     for input in inputs {
-        ordered.push(input.fragment().ordered(alloc)?)?;
+        ordered.push(input.fragment().ordered())?;
     }
     Ok(ordered)
 }
