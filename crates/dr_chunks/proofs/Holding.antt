@@ -12,7 +12,7 @@ use Rattle.dr_schema.specs.Columns.{kinds_of}
 use Rattle.dr_schema.specs.declared.schema.Schema.{Schema}
 use Rattle.dr_rollup.specs.OpenRows.{OpenRows, rows_with, with_rows}
 use Rattle.dr_chunks.specs.declared.chunk.Chunk.{Chunk}
-use Rattle.dr_merge.specs.declared.fragment.Fragment.{Fragment}
+use Rattle.dr_fragment.specs.declared.fragment.Fragment.{Fragment}
 use Rattle.dr_chunks.specs.declared.sealed_range.SealedRange.{SealedRange}
 use Rattle.dr_rollup.specs.Unrolled.{unrolled, rolled_up}
 use Rattle.dr_cuts.specs.Chunks.{chunk, chunk_list}

@@ -7,7 +7,7 @@ use Rattle.dr_base.specs.declared.event.Event.{Event}
 use Rattle.dr_base.specs.declared.row.Row.{Row}
 use Rattle.dr_schema.specs.declared.schema.Schema.{Schema}
 use Rattle.dr_chunks.specs.declared.chunk.Chunk.{Chunk}
-use Rattle.dr_merge.specs.declared.fragment.Fragment.{Fragment}
+use Rattle.dr_fragment.specs.declared.fragment.Fragment.{Fragment}
 use Rattle.dr_cuts.specs.declared.range_info.RangeInfo.{RangeInfo}
 use Rattle.dr_chunks.specs.declared.sealed_range.SealedRange.{SealedRange}
 use Rattle.dr_rollup.specs.Unrolled.{rolled_up}
@@ -71,12 +71,12 @@ has_open c = nat_lt (open_from (ranges_of c)) c.events
 abbrev pub open_info_of : Chunk → RangeInfo
 open_info_of c = record { chunk = c.start; from = open_from (ranges_of c); to = c.events; version = 0; rows = length c.open_range.rows; sealed = false }
 
--- the ranges of a chunk as a snapshot shows them, and the rows of each
+-- the ranges of a chunk as a snapshot shows them, and with their rows
 abbrev pub infos_of_chunk : Chunk → List RangeInfo
 infos_of_chunk c = map info_of c.sealed ++ (if has_open c then open_info_of c ∷ [] else [])
 
-abbrev pub rows_of_chunk : Chunk → List (List Row)
-rows_of_chunk c = map (λ s. s.fragment.rows) c.sealed ++ (if has_open c then c.open_range.rows ∷ [] else [])
+abbrev pub fragments_of_chunk : Chunk → List Fragment
+fragments_of_chunk c = map (λ s. s.fragment) c.sealed ++ (if has_open c then open_fragment c ∷ [] else [])
 
 -- its open range, up to the end of so many events and with these rows, as a sealed one
 abbrev pub with_sealed_rows : ℕ → ℕ → List Row → Chunk → Chunk

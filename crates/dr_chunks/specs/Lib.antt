@@ -1,5 +1,4 @@
 pub mod Blocks
 pub mod Open
 pub mod Held
-pub mod Pinned
 pub mod Ranges

@@ -2,7 +2,7 @@
 use Rattle.std.specs.Prelude.{ℤ, List}
 use Rattle.dr_base.specs.declared.event.Event.{Event}
 use Rattle.dr_schema.specs.declared.schema.Schema.{Schema}
-use Rattle.dr_merge.specs.declared.fragment.Fragment.{Fragment}
+use Rattle.dr_fragment.specs.declared.fragment.Fragment.{Fragment}
 use Rattle.dr_rollup.specs.Unrolled.{rolled_up}
 use Rattle.dr_cuts.specs.Chunks.{chunk_list}
 use Rattle.dr_cuts.specs.State.{Range, events_of}

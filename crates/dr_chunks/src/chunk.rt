@@ -2,16 +2,14 @@ ghost use Rattle.std.specs.Prelude.{◌≡◌, ◌+◌, ◌<◌, ◌++◌, ◌�
 ghost use Rattle.dr_schema.specs.Fits.{FitsSchema};
 ghost use Rattle.dr_rollup.specs.OpenRows.{rows_with};
 ghost use Rattle.dr_cuts.specs.State.{open_from};
-ghost use Rattle.dr_chunks.specs.Held.{no_chunk, with_one, grown, is_full, seals_of, with_open_sealed, with_sealed_rows, has_open, open_info_of, open_fragment, ranges_of, infos_of_chunk, rows_of_chunk};
+ghost use Rattle.dr_chunks.specs.Held.{no_chunk, with_one, grown, is_full, seals_of, with_open_sealed, with_sealed_rows, has_open, open_info_of, open_fragment, ranges_of, infos_of_chunk, fragments_of_chunk};
 
 use crate::open_range::OpenRange;
-use crate::pinned_range::PinnedRange;
-use crate::pinned_ranges::PinnedRanges;
 use crate::sealed_range::SealedRange;
 use crate::sealed_ranges::SealedRanges;
 use dr_base::Event;
 use dr_cuts::RangeInfo;
-use dr_merge::{Fragment, SharedFragment};
+use dr_fragment::{Fragment, PinnedFragment, PinnedFragments, SharedFragment};
 use dr_rollup::RollupError;
 use dr_schema::Schema;
 use std::alloc::{AllocError, Global};
@@ -62,33 +60,38 @@ impl Chunk {
         }
     }
 
-    /// The open range with its rows, in memory of their own. The only error is that memory ran out.
-    pub fn open_fragment(&self, alloc: Global) -> Result<SharedFragment, AllocError>
+    /// The open range with a share of its index, of which no row is copied. The only error is that memory ran out.
+    pub fn open_fragment(&self, alloc: Global) -> Result<PinnedFragment, AllocError>
         ensures { IfOk result (λ fragment. fragment ≡ open_fragment self.now) }
     {
-        let fragment = Fragment {
-            chunk: self.start,
-            from: self.sealed.end(),
-            to: self.events,
-            rows: self.open_range.rows(alloc)?,
-        };
+        let from = self.sealed.end();
+        self.open_range.pin(alloc, self.start, from, self.events)
+    }
+
+    // The open range with its rows in the order of their keys, in memory of their own.
+    fn sorted_fragment(&self, alloc: Global) -> Result<SharedFragment, AllocError>
+        ensures { IfOk result (λ fragment. fragment ≡ open_fragment self.now) }
+    {
+        let rows = self.open_range.rows(alloc)?;
+        let fragment = Fragment::of_rows(self.start, self.sealed.end(), self.events, rows);
         Ok(SharedFragment::new(alloc, fragment)?)
     }
 
-    /// Puts the ranges behind these, as a snapshot shows them and with their rows. No row is copied. The only error is that
-    /// memory ran out.
+    /// Puts the ranges behind these, as a snapshot shows them, and shares of their fragments. No row is copied. The only
+    /// error is that memory ran out.
     pub fn pin(
         &self,
-        pinned: &mut PinnedRanges,
+        alloc: Global,
+        pinned: &mut PinnedFragments,
         ranges: &mut Vec<RangeInfo>,
     ) -> Result<(), AllocError>
-        ensures pinned { OnOk result (pinned.new ≡ pinned.old ++ rows_of_chunk self.now) }
+        ensures pinned { OnOk result (pinned.new ≡ pinned.old ++ fragments_of_chunk self.now) }
         ensures ranges { OnOk result (ranges.new.items ≡ ranges.old.items ++ infos_of_chunk self.now) }
     {
         self.sealed.pin(pinned, ranges)?;
         if self.has_open() {
             ranges.push(self.open_info())?;
-            pinned.push(PinnedRange::Open(self.open_range.share()?))?;
+            pinned.push(self.open_fragment(alloc)?)?;
         }
         Ok(())
     }
@@ -122,12 +125,8 @@ impl Chunk {
         ensures ok { OnOk result (self.new ≡ with_sealed_rows serial (self.old.events + 1) (rows_with self.old.open_range event.now) self.old) }
         ensures err { OnErr result (self.new ≡ self.old) }
     {
-        let fragment = Fragment {
-            chunk: self.start,
-            from: self.sealed.end(),
-            to: self.events + 1,
-            rows: self.open_range.rows_with(alloc, event)?,
-        };
+        let rows = self.open_range.rows_with(alloc, event)?;
+        let fragment = Fragment::of_rows(self.start, self.sealed.end(), self.events + 1, rows);
         let shared = SharedFragment::new(alloc, fragment)?;
         self.seal_as(serial, self.events + 1, shared)
     }
@@ -137,7 +136,7 @@ impl Chunk {
         ensures ok { OnOk result (self.new ≡ with_open_sealed serial self.old) }
         ensures err { OnErr result (self.new ≡ self.old) }
     {
-        let fragment = self.open_fragment(alloc)?;
+        let fragment = self.sorted_fragment(alloc)?;
         self.seal_as(serial, self.events, fragment)
     }
 

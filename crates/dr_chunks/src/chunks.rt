@@ -2,13 +2,13 @@ ghost use Rattle.std.specs.Prelude.{◌≡◌, ◌+◌, ◌<◌, ◌≤◌, ◌+
 ghost use Rattle.std.specs.List.{AllByRecursion, flat_map};
 ghost use Rattle.dr_schema.specs.declared.schema.Schema.{Schema as SchemaOf};
 ghost use Rattle.dr_schema.specs.Fits.{FitsSchema};
-ghost use Rattle.dr_chunks.specs.Held.{grown, is_full, seals_of, at_start, chunk_at, chunk_in, with_open_sealed, with_range, with_one, infos_of_chunk, rows_of_chunk};
+ghost use Rattle.dr_chunks.specs.Held.{grown, is_full, seals_of, at_start, chunk_at, chunk_in, with_open_sealed, with_range, with_one, infos_of_chunk, fragments_of_chunk};
 
 use crate::chunk::Chunk;
-use crate::pinned_ranges::PinnedRanges;
 use crate::sealed_range::SealedRange;
 use dr_base::Event;
 use dr_cuts::RangeInfo;
+use dr_fragment::PinnedFragments;
 use dr_schema::Schema;
 use std::alloc::{AllocError, Global};
 use std::collections::BTreeMap;
@@ -95,18 +95,19 @@ impl Chunks {
         chunk.sealed.replace(place, count, range);
     }
 
-    /// Puts the ranges of each chunk behind these, as a snapshot shows them and with their rows. No row is copied. The only
-    /// error is that memory ran out.
+    /// Puts the ranges of each chunk behind these, as a snapshot shows them, and shares of their fragments. No row is copied.
+    /// The only error is that memory ran out.
     pub fn pin(
         &self,
-        pinned: &mut PinnedRanges,
+        alloc: Global,
+        pinned: &mut PinnedFragments,
         ranges: &mut Vec<RangeInfo>,
     ) -> Result<(), AllocError>
-        ensures pinned { OnOk result (pinned.new ≡ pinned.old ++ flat_map rows_of_chunk self.now) }
+        ensures pinned { OnOk result (pinned.new ≡ pinned.old ++ flat_map fragments_of_chunk self.now) }
         ensures ranges { OnOk result (ranges.new.items ≡ ranges.old.items ++ flat_map infos_of_chunk self.now) }
     {
         for (_, chunk) in self.0.iter() {
-            chunk.pin(pinned, ranges)?;
+            chunk.pin(alloc, pinned, ranges)?;
         }
         Ok(())
     }

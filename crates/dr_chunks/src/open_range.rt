@@ -1,11 +1,11 @@
 ghost use Rattle.std.specs.Prelude.{◌≡◌, ◌<◌, ◌≤◌, [], length, IfOk, OnOk, OnErr, IsErrOf};
+ghost use Rattle.dr_agg.specs.Rollup.{IsInOrder};
 ghost use Rattle.dr_schema.specs.Fits.{FitsSchema};
 ghost use Rattle.dr_rollup.specs.OpenRows.{rows_with, with_rows};
 ghost use Rattle.dr_chunks.specs.Open.{index_of};
 
-use crate::shared_index::SharedIndex;
-use dr_base::Event;
-use dr_merge::Rows;
+use dr_base::{Event, Row};
+use dr_fragment::{Fragment, OpenFragment, PinnedFragment, SharedFragment, SharedIndex};
 use dr_rollup::{OpenIndex, RollupError, unrolled_row};
 use dr_schema::Schema;
 use std::alloc::{AllocError, Global};
@@ -75,40 +75,48 @@ impl OpenRange {
     }
 
     /// The rows in memory of their own. The only error is that memory ran out. It takes the time that sorting them takes.
-    pub fn rows(&self, alloc: Global) -> Result<Rows, AllocError>
-        ensures { IfOk result (λ rows. rows ≡ self.now.rows) }
+    pub fn rows(&self, alloc: Global) -> Result<Vec<Row>, AllocError>
+        ensures rows { IfOk result (λ rows. rows.items ≡ self.now.rows) }
+        ensures ordered { IfOk result (λ rows. IsInOrder rows.items) }
     {
         match &self.index {
-            Some(shared) => Ok(Rows::from_vec(shared.index().rows()?)),
-            None => Ok(Rows::from_vec(Vec::new(alloc))),
+            Some(shared) => shared.index().rows(),
+            None => Ok(Vec::new(alloc)),
         }
     }
 
     /// The rows with one more event, which isn't added, in memory of their own. The only error is that memory ran out.
-    pub fn rows_with(&self, alloc: Global, event: &Event) -> Result<Rows, AllocError>
+    pub fn rows_with(&self, alloc: Global, event: &Event) -> Result<Vec<Row>, AllocError>
         requires { FitsSchema self.now.schema event.now }
-        ensures { IfOk result (λ rows. rows ≡ rows_with self.now event.now) }
+        ensures rows { IfOk result (λ rows. rows.items ≡ rows_with self.now event.now) }
+        ensures ordered { IfOk result (λ rows. IsInOrder rows.items) }
     {
         match &self.index {
-            Some(shared) => Ok(Rows::from_vec(shared.index().rows_with(event)?)),
+            Some(shared) => shared.index().rows_with(event),
             None => one_row(alloc, &self.schema, event),
         }
     }
 
-    /// The same range, with a share of its index, which copies no row. The only error is that there are 2^63 shares.
-    pub fn share(&self) -> Result<OpenRange, AllocError>
-        ensures { IfOk result (λ range. range ≡ self.now) }
+    /// The range as it is now, as a fragment of its chunk, with a share of its index, of which no row is copied. The only error
+    /// is that memory ran out, which a range with events doesn't take.
+    pub fn pin(
+        &self,
+        alloc: Global,
+        chunk: i64,
+        from: usize,
+        to: usize,
+    ) -> Result<PinnedFragment, AllocError>
+        ensures { IfOk result (λ fragment. fragment ≡ record { chunk = chunk; from = from; to = to; rows = self.now.rows }) }
     {
-        let schema = self.schema.copy()?;
         match &self.index {
-            Some(shared) => Ok(OpenRange {
-                schema,
-                index: Some(shared.share()?),
-            }),
-            None => Ok(OpenRange {
-                schema,
-                index: None,
-            }),
+            Some(shared) => {
+                let open = OpenFragment::new(chunk, from, to, shared.share()?);
+                Ok(PinnedFragment::open(open))
+            }
+            None => {
+                let empty = Fragment::of_rows(chunk, from, to, Vec::new(alloc));
+                Ok(PinnedFragment::sealed(SharedFragment::new(alloc, empty)?))
+            }
         }
     }
 
@@ -121,12 +129,13 @@ impl OpenRange {
 }
 
 // The rows of one event.
-fn one_row(alloc: Global, schema: &Schema, event: &Event) -> Result<Rows, AllocError>
+fn one_row(alloc: Global, schema: &Schema, event: &Event) -> Result<Vec<Row>, AllocError>
     requires { FitsSchema schema.now event.now }
-    ensures { IfOk result (λ rows. rows ≡ rows_with (index_of schema.now []) event.now) }
+    ensures rows { IfOk result (λ rows. rows.items ≡ rows_with (index_of schema.now []) event.now) }
+    ensures ordered { IfOk result (λ rows. IsInOrder rows.items) }
 {
     let row = unrolled_row(alloc, schema, event)?;
     let mut rows = Vec::with_capacity(alloc, 1)?;
     rows.push(row)?;
-    Ok(Rows::from_vec(rows))
+    Ok(rows)
 }

@@ -2,7 +2,7 @@ ghost use Rattle.std.specs.Prelude.{◌≡◌};
 ghost use Rattle.dr_chunks.specs.Held.{info_of};
 
 use dr_cuts::RangeInfo;
-use dr_merge::SharedFragment;
+use dr_fragment::SharedFragment;
 
 /// A sealed range of a chunk: the number of seals and commits before it, its version, and its rows.
 #[derive(Drop)]
@@ -18,12 +18,13 @@ impl SealedRange {
         ensures { result ≡ info_of self.now }
     {
         let fragment = self.fragment.fragment();
+        let (from, to) = fragment.range();
         RangeInfo {
-            chunk: fragment.chunk,
-            from: fragment.from,
-            to: fragment.to,
+            chunk: fragment.chunk(),
+            from,
+            to,
             version: self.version,
-            rows: fragment.rows.len(),
+            rows: fragment.len(),
             sealed: true,
         }
     }

@@ -2,10 +2,9 @@ ghost use Rattle.std.specs.Prelude.{◌≡◌, ◌+◌, ◌≤◌, ◌<◌, ◌+
 ghost use Rattle.dr_chunks.specs.Held.{range_of, info_of};
 ghost use Rattle.dr_cuts.specs.State.{open_from};
 
-use crate::pinned_range::PinnedRange;
-use crate::pinned_ranges::PinnedRanges;
 use crate::sealed_range::SealedRange;
 use dr_cuts::RangeInfo;
+use dr_fragment::{PinnedFragment, PinnedFragments};
 use std::alloc::{AllocError, Global};
 use std::marker::Model;
 
@@ -50,7 +49,7 @@ impl SealedRanges {
     {
         match self.0.last() {
             None => 0,
-            Some(range) => range.fragment.fragment().to,
+            Some(range) => range.fragment.fragment().range().1,
         }
     }
 
@@ -73,19 +72,19 @@ impl SealedRanges {
         drop(self.0.drain(place + 1..place + count));
     }
 
-    /// Puts the ranges behind these, as a snapshot shows them and with their rows. No row is copied. The only error is that
+    /// Puts the ranges behind these, as a snapshot shows them, and shares of their fragments. No row is copied. The only error is that
     /// memory ran out.
     pub fn pin(
         &self,
-        pinned: &mut PinnedRanges,
+        pinned: &mut PinnedFragments,
         ranges: &mut Vec<RangeInfo>,
     ) -> Result<(), AllocError>
-        ensures pinned { OnOk result (pinned.new ≡ pinned.old ++ map (λ s. s.fragment.rows) self.now) }
+        ensures pinned { OnOk result (pinned.new ≡ pinned.old ++ map (λ s. s.fragment) self.now) }
         ensures ranges { OnOk result (ranges.new.items ≡ ranges.old.items ++ map info_of self.now) }
     {
         for range in self.as_slice() {
             ranges.push(range.info())?;
-            pinned.push(PinnedRange::Sealed(range.fragment.share()?))?;
+            pinned.push(PinnedFragment::sealed(range.fragment.share()?))?;
         }
         Ok(())
     }

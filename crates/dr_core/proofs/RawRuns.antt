@@ -38,7 +38,8 @@ use Rattle.dr_core.specs.Headline.{accepted_by, pinned_by, IsRaw, AnswersRaw, An
 use Rattle.dr_core.proofs.CutSteps.{cuts-opened, cuts-after_seal, cuts-after_merge}
 use Rattle.dr_cuts.proofs.Matching.{answer-cut_rows}
 use Rattle.dr_timeline.proofs.Placing.{place_of-stands}
-use Rattle.dr_core.proofs.Running.{told-if, told-unless, told-given, told-with, with_answer}
+use Rattle.dr_core.proofs.Running.{told-if, told-unless, told-given, told-with, told-worked, with_answer}
+use Rattle.dr_merge.specs.Joined.{joined_fragment}
 
 -- ---- an event that may seal
 
@@ -131,6 +132,9 @@ Follows schema es ess s t = IsRunSoFar schema (es ++ accepted_by s t.0) (ess ++ 
 refused-run : (schema : Schema) (es : List Event) (ess : List (List Event)) (old : CoreState) (s : Step) (e : TimelineError) → IsRunSoFar schema es ess old → Follows schema es ess s (Refused (number_of e), old)
 refused-run schema es ess old s e h = stays schema es ess old (accepted_by s (Refused (number_of e))) (pinned_by es s (Refused (number_of e))) (none-accepted s (number_of e)) (none-pinned es s (number_of e)) h
 
+refused-with : (schema : Schema) (es : List Event) (ess : List (List Event)) (old : CoreState) (s : Step) (n : ℕ) → IsRunSoFar schema es ess old → Follows schema es ess s (Refused n, old)
+refused-with schema es ess old s n h = stays schema es ess old (accepted_by s (Refused n)) (pinned_by es s (Refused n)) (none-accepted s n) (none-pinned es s n) h
+
 pub accept-run : (schema : Schema) (es : List Event) (ess : List (List Event)) (old : CoreState) (e : Event) → 1 ≤ schema.limits.max_rows_in_memory → IsRunSoFar schema es ess old → IsRunSoFar schema (es ++ e ∷ []) (ess ++ []) (with_timeline (accepted old.timeline e) old)
 accept-run schema es ess old e least h =
     let t : State = old.timeline in
@@ -162,7 +166,9 @@ commit-at schema es ess old n job (Some place) is h =
     (λ _. recut schema es ess old (committed old.timeline job place) refl refl (cuts-after_merge old.timeline job place h.are_cuts (place_of-stands old.timeline job place is)) h)
 
 pub commit-run : (schema : Schema) (es : List Event) (ess : List (List Event)) (old : CoreState) (n : ℕ) (job : Job) → IsRunSoFar schema es ess old → Follows schema es ess (Commit n) (told (λ (a : ℕ × CoreState). (Committed a.0, a.1)) old (commit_job job old))
-commit-run schema es ess old n job h = commit-at schema es ess old n job (place_of old.timeline job) refl h
+commit-run schema es ess old n job h =
+    told-worked (Follows schema es ess (Commit n)) (λ (a : ℕ × CoreState). (Committed a.0, a.1)) (with_answer old) old _ (joined_fragment old.timeline.schema job) _ (refused-with schema es ess old (Commit n) 59 h)
+    (commit-at schema es ess old n job (place_of old.timeline job) refl h)
 
 -- what is pinned now
 pub pin-now : (schema : Schema) (es : List Event) (ess : List (List Event)) (c : CoreState) → IsRunSoFar schema es ess c → IsPin schema es (pinned c.timeline)

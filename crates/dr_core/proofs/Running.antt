@@ -6,7 +6,10 @@ use Rattle.dr_base.specs.declared.event.Event.{Event}
 use Rattle.dr_ask.specs.Asked.{asked}
 use Rattle.dr_answers.specs.Answer.{answer}
 use Rattle.dr_core.specs.declared.core_error.CoreError.{CoreError}
-use Rattle.dr_core.specs.declared.core_error.CoreError.TheVariants.{Timeline}
+use Rattle.dr_core.specs.declared.core_error.CoreError.TheVariants.{Merge, Timeline}
+use Rattle.dr_fragment.specs.declared.fragment.Fragment.{Fragment}
+use Rattle.dr_merge.specs.declared.merge_error.MergeError.TheVariants.{ImageTooLarge}
+use Rattle.dr_merge.specs.Joined.{joined_fragment}
 use Rattle.dr_core.specs.declared.step.Step.{Step}
 use Rattle.dr_core.specs.declared.step.Step.TheVariants.{Accept, Seal, Plan, Commit, Pin, Ask, Audit}
 use Rattle.dr_core.specs.declared.reply.Reply.{Reply}
@@ -75,12 +78,21 @@ commit-schema : (old : CoreState) (job : Job) (place : Option ℕ) → KeepsSche
 commit-schema old job None = refl
 commit-schema old job (Some place) = told-if (KeepsSchema old) (λ (a : ℕ × CoreState). (Committed a.0, a.1)) (with_answer old) old _ CommitsFull _ (λ _. refl) (λ _. refl)
 
+-- the work of a job, which is refused where its image is too large
+pub told-worked : {B : Type 0} (P : Reply × CoreState → Type 0) (done : B → Reply × CoreState) (next : ℕ × State → Result B CoreError) (old : CoreState) (fits : Bool) (f : Fragment) (r : Result (ℕ × State) TimelineError)
+    → P (Refused 59, old) → P (told done old (passed Timeline r >>= next)) → P (told done old ((passed Merge (cond fits (Ok f) (Err ImageTooLarge)) >>= (λ fragment. passed Timeline r)) >>= next))
+told-worked P done next old true f r refused taken = taken
+told-worked P done next old false f r refused taken = refused
+
+commit_job-schema : (old : CoreState) (job : Job) → KeepsSchema old (told (λ (a : ℕ × CoreState). (Committed a.0, a.1)) old (commit_job job old))
+commit_job-schema old job = told-worked (KeepsSchema old) (λ (a : ℕ × CoreState). (Committed a.0, a.1)) (with_answer old) old _ (joined_fragment old.timeline.schema job) _ refl (commit-schema old job (place_of old.timeline job))
+
 taken-schema : (old : CoreState) (s : Step) → KeepsSchema old (taken old s)
 taken-schema old (Accept e) = told-if (KeepsSchema old) (λ (a : ℕ × CoreState). (Accepted a.0, a.1)) (with_answer old) old _ StreamFull _ (λ _. refl) (λ _. accepted-schema old.timeline e)
 taken-schema old (Seal k) = told-if (KeepsSchema old) (λ new. (Sealed, new)) (λ t. Ok (with_timeline t old)) old _ NothingToSeal _ (λ _. refl) (λ _. refl)
 taken-schema old (Plan k lo hi purpose) = told-unless (KeepsSchema old) (λ (a : ℕ × CoreState). (JobGiven a.0, a.1)) (λ job. Ok (length old.jobs, with_job job old)) old _ NoSuchRange _ refl refl
 taken-schema old (Commit n) =
-    told-with (KeepsSchema old) (λ (a : ℕ × CoreState). (Committed a.0, a.1)) (λ job. commit_job job old) old (slice_get old.jobs n) refl (λ job. commit-schema old job (place_of old.timeline job))
+    told-with (KeepsSchema old) (λ (a : ℕ × CoreState). (Committed a.0, a.1)) (λ job. commit_job job old) old (slice_get old.jobs n) refl (λ job. commit_job-schema old job)
 taken-schema old Pin = refl
 taken-schema old (Ask n q) = told-given (KeepsSchema old) (λ p. (reply_to (answer (asked q) (rows_of p)), old)) old (slice_get old.pins n) refl (λ p. refl)
 taken-schema old (Audit n q) = told-given (KeepsSchema old) (λ p. (reply_to (raw_answer p.schema (asked q) p.stream), old)) old (slice_get old.pins n) refl (λ p. refl)

@@ -15,6 +15,7 @@ use Rattle.dr_core.specs.declared.core_error.CoreError.{CoreError}
 use Rattle.dr_core.specs.declared.core_error.CoreError.TheVariants as error
 use Rattle.dr_core.specs.Steps.{accept, seal, plan, commit, pin, given}
 use Rattle.dr_timeline.specs.declared.timeline_error.TimelineError.TheVariants.{NoMemory}
+use Rattle.dr_merge.specs.Refusal as merge
 use Rattle.dr_timeline.specs.Refusal.{number_of}
 use Rattle.dr_cuts.specs.RawAnswer.{raw_answer}
 use Rattle.dr_timeline.specs.CoreState.{CoreState, empty_core}
@@ -38,6 +39,7 @@ reply_to (Err e) = Refused (no_answer.number_of e)
 -- the reply that a refusal makes
 abbrev pub reply_for : CoreError → Reply
 reply_for error.NoSuch = NoSuch
+reply_for (error.Merge e) = Refused (merge.number_of e)
 reply_for (error.Timeline e) = Refused (number_of e)
 
 -- what a step makes of the run, or its refusal, which changes nothing

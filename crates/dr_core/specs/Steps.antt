@@ -3,14 +3,16 @@ use Rattle.std.specs.Prelude.{ℕ, ℤ, length, Option, Some, None, Result, Ok, 
 use Rattle.dr_base.specs.Reading.{◌>>=◌, passed}
 use Rattle.dr_base.specs.declared.event.Event.{Event}
 use Rattle.dr_merge.specs.declared.job.Job.{Job}
+use Rattle.dr_merge.specs.Joined.{worked}
 use Rattle.dr_merge.specs.declared.purpose.Purpose.{Purpose}
+use Rattle.dr_cuts.specs.State.{State}
 use Rattle.dr_cuts.specs.Segments.{pinned}
 use Rattle.dr_timeline.specs.declared.outcome.Outcome.{Outcome}
 use Rattle.dr_timeline.specs.CoreState.{CoreState, with_timeline, with_job, with_pin}
 use Rattle.dr_timeline.specs.Noted.{noted}
 use Rattle.dr_timeline.specs.Stepping as timeline
 use Rattle.dr_core.specs.declared.core_error.CoreError.{CoreError}
-use Rattle.dr_core.specs.declared.core_error.CoreError.TheVariants.{NoSuch, Timeline}
+use Rattle.dr_core.specs.declared.core_error.CoreError.TheVariants.{NoSuch, Merge, Timeline}
 
 -- the job or the snapshot of a number, where there is one
 abbrev pub given : {A : Type 0} → Option A → Result A CoreError
@@ -39,10 +41,15 @@ plan k lo hi purpose c = do
   job ← passed Timeline (timeline.plan c.timeline k lo hi purpose)
   Ok (length c.jobs, with_job job c)
 
--- the ranges of a job become one; the answer is the version of that range
+-- the ranges of a job become one, where its image isn't too large; the answer is the version of that range
+abbrev pub committed : State → Job → Result (ℕ × State) CoreError
+committed s job = do
+  fragment ← passed Merge (worked s.schema job)
+  passed Timeline (timeline.commit s job)
+
 abbrev pub commit_job : Job → CoreState → Result (ℕ × CoreState) CoreError
 commit_job job c = do
-  n ← passed Timeline (timeline.commit c.timeline job)
+  n ← committed c.timeline job
   Ok (n.0, with_timeline n.1 c)
 
 -- the same for the job of a number

@@ -3,6 +3,7 @@ ghost use Rattle.dr_core.specs.declared.core_error.CoreError.TheVariants as erro
 ghost use Rattle.dr_core.specs.Refusal.{number_of, name_of};
 ghost use Rattle.dr_timeline.specs.declared.timeline_error.TimelineError.TheVariants.{NoMemory};
 
+use dr_merge::MergeError;
 use dr_timeline::TimelineError;
 use std::alloc::{AllocError, AllocFailed};
 use thiserror::Error;
@@ -13,18 +14,22 @@ pub enum CoreError {
     /// 101: there is no job or no snapshot of that number.
     #[error("there is no job or snapshot of that number")]
     NoSuch,
+    /// A refusal of the work of a job: 0 or 59.
+    #[error(transparent)]
+    Merge(MergeError),
     /// A refusal of the timeline: 0, 90 to 93, or 95.
     #[error(transparent)]
     Timeline(TimelineError),
 }
 
 impl CoreError {
-    /// The number of the refusal: 0, 90 to 93, 95 or 101.
+    /// The number of the refusal: 0, 59, 90 to 93, 95 or 101.
     pub fn number(&self) -> u16
         ensures { result ≡ number_of self.now }
     {
         match self {
             CoreError::NoSuch => 101,
+            CoreError::Merge(error) => error.number(),
             CoreError::Timeline(error) => error.number(),
         }
     }
@@ -35,8 +40,17 @@ impl CoreError {
     {
         match self {
             CoreError::NoSuch => "BadCommand",
+            CoreError::Merge(error) => error.name(),
             CoreError::Timeline(error) => error.name(),
         }
+    }
+}
+
+impl From<MergeError> for CoreError {
+    ghost from_gives = { λ e result. result ≡ error.Merge e };
+
+    fn from(error: MergeError) -> CoreError {
+        CoreError::Merge(error)
     }
 }
 

@@ -141,6 +141,7 @@ fn refused(error: CoreError) -> Reply
 {
     match error {
         CoreError::NoSuch => Reply::NoSuch,
+        CoreError::Merge(error) => Reply::Refused(error.number()),
         CoreError::Timeline(error) => Reply::Refused(error.number()),
     }
 }

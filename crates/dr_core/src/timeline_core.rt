@@ -5,16 +5,16 @@ ghost use Rattle.dr_schema.specs.WellFormed.{IsWellFormed};
 ghost use Rattle.dr_cuts.specs.Segments.{pinned};
 ghost use Rattle.dr_timeline.specs.CoreState.{empty_core};
 ghost use Rattle.dr_timeline.specs.Noted.{stats};
-ghost use Rattle.dr_timeline.specs.Refusal as timeline_refusal;
-ghost use Rattle.dr_timeline.specs.Stepping as timeline_step;
+ghost use Rattle.dr_merge.specs.Joined.{IsJobOf};
 ghost use Rattle.dr_core.specs.Refusal.{is_memory};
 ghost use Rattle.dr_core.specs.Steps as step;
+ghost use Rattle.dr_core.specs.Steps.{committed};
 
 use crate::core_error::CoreError;
 use dr_base::Event;
 use dr_merge::{Job, Purpose, work};
 use dr_spec::IngestSpec;
-use dr_timeline::{Outcome, Snapshot, Stats, Timeline, TimelineError};
+use dr_timeline::{Outcome, Snapshot, Stats, Timeline};
 use std::alloc::{AllocError, Global};
 use std::marker::Model;
 
@@ -28,13 +28,13 @@ pub struct Core {
 }
 
 impl Model for Core {
-    ghost use Rattle.dr_timeline.specs.CoreState.{CoreState, HaveSchema};
+    ghost use Rattle.dr_timeline.specs.CoreState.{CoreState, CanWork, HaveSchema};
 
     ghost Value = { CoreState };
 
     ghost view = { λ c. record { timeline = c.timeline; jobs = c.jobs.items; pins = c.pins.items } };
 
-    ghost invariant = { λ c. HaveSchema c.timeline.schema c.pins.items };
+    ghost invariant = { λ c. CanWork c.timeline.schema c.jobs.items × HaveSchema c.timeline.schema c.pins.items };
 }
 
 impl Core {
@@ -109,8 +109,8 @@ impl Core {
 
     /// Works on the job of that number and puts the range that it makes in the place of the job's ranges, wherever these
     /// stand by now. The answer is the version of that range. An error leaves the core as it was. Refusals: 101 where there is
-    /// no such job, 93 `Stale` where its ranges don't stand next to each other any more, and then 95 `CommitsFull`. It
-    /// takes time by the rows of the ranges, which are sorted, and memory for their rows once.
+    /// no such job, 59 `ImageTooLarge` where the image of the range would be too large, then 93 `Stale` where its ranges don't
+    /// stand next to each other any more, and then 95 `CommitsFull`. What it costs, `work` of `dr_merge` says.
     pub fn commit(&mut self, alloc: Global, number: usize) -> Result<u64, CoreError>
         ensures step { GivesUnless is_memory (λ version. (version, self.new)) result (step.commit number self.old) }
         ensures err { OnErr result (self.new ≡ self.old) }
@@ -119,11 +119,12 @@ impl Core {
         let Some(job) = self.jobs.get(number) else {
             return Err(CoreError::NoSuch);
         };
-        Ok(commit_to(alloc, &mut self.timeline, job)?)
+        commit_to(alloc, &mut self.timeline, job)
     }
 
     /// Does what [`Core::plan`] and [`Core::commit`] do one after the other, and keeps no job. The answer is the version of
-    /// the range that was made. An error leaves the core as it was. Refusals: 92 `NoSuchRange`, and then 95 `CommitsFull`.
+    /// the range that was made. An error leaves the core as it was. Refusals: 92 `NoSuchRange`,
+    /// then 59 `ImageTooLarge`, and then 95 `CommitsFull`.
     pub fn join(
         &mut self,
         alloc: Global,
@@ -137,7 +138,7 @@ impl Core {
         ensures schema { self.new.timeline.schema ≡ self.old.timeline.schema }
     {
         let planned = self.timeline.plan(chunk, lo, hi, purpose)?;
-        Ok(commit_to(alloc, &mut self.timeline, &planned)?)
+        commit_to(alloc, &mut self.timeline, &planned)
     }
 
     /// Keeps a snapshot of the timeline as it is now, and answers its number, from 0. An error leaves the core as it was.
@@ -179,10 +180,12 @@ impl Core {
 }
 
 // Works on a job and commits it.
-fn commit_to(alloc: Global, timeline: &mut Timeline, job: &Job) -> Result<u64, TimelineError>
-    ensures step { GivesUnless timeline_refusal.is_memory (λ version. (version, timeline.new)) result (timeline_step.commit timeline.old job.now) }
+fn commit_to(alloc: Global, timeline: &mut Timeline, job: &Job) -> Result<u64, CoreError>
+    requires { IsJobOf timeline.old.schema job.now }
+    ensures step { GivesUnless is_memory (λ version. (version, timeline.new)) result (committed timeline.old job.now) }
     ensures err { OnErr result (timeline.new ≡ timeline.old) }
+    ensures schema { timeline.new.schema ≡ timeline.old.schema }
 {
     let fragment = work(alloc, timeline.spec().schema(), job)?;
-    timeline.commit(job, fragment)
+    Ok(timeline.commit(job, fragment)?)
 }

@@ -1,1 +1,4 @@
+mod Adding
+mod Works
+pub mod Rolled
 pub mod Joins

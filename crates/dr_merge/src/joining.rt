@@ -1,31 +1,69 @@
-ghost use Rattle.std.specs.Prelude.{◌≡◌, ◌++◌, IfOk, OnOk, map};
-ghost use Rattle.dr_agg.specs.Rollup.{all_rows, join};
-ghost use Rattle.dr_merge.specs.Joined.{joined_fragment, first_from, last_to};
+ghost use Rattle.std.specs.Prelude.{◌≡◌, ◌≤◌, IfOk, map, length};
+ghost use Rattle.dr_base.specs.Reading.{GivesUnless};
+ghost use Rattle.dr_agg.specs.Rollup.{join};
+ghost use Rattle.dr_schema.specs.Columns.{kinds_of};
+ghost use Rattle.dr_segment.specs.Encoding.{sealed, encoded};
+ghost use Rattle.dr_merge.specs.Joined.{IsJobOf, worked, first_from, last_to};
+ghost use Rattle.dr_merge.specs.Refusal.{is_memory, not_written};
+ghost use Rattle.dr_base.specs.Reading.{passed};
 
-use crate::fragment::Fragment;
+use crate::combining::rolled_up;
+use crate::inputs::{ordered_inputs, rows_of_all, sort};
 use crate::job::Job;
-use crate::rows::Rows;
-use crate::shared_fragment::SharedFragment;
-use dr_agg::{Kind, roll_up};
+use crate::merge_error::MergeError;
 use dr_base::Row;
+use dr_fragment::{Fragment, SharedFragment};
+use dr_image::ImageError;
 use dr_rollup::columns_of;
 use dr_schema::Schema;
+use dr_segment::encode;
 use std::alloc::{AllocError, Global};
 
-/// What the inputs of a job are joined to: the range from the first to the last, and the rows in the order of their keys,
-/// with rollup one for each key (Apache Druid documentation, ingestion: merging of persisted segments). It needs no
-/// timeline. The only error is that memory ran out.
-pub fn work(alloc: Global, schema: &Schema, job: &Job) -> Result<Fragment, AllocError>
-    ensures { IfOk result (λ fragment. fragment ≡ joined_fragment schema.now job.now) }
+/// What the inputs of a job are joined to, as an image: the range from the first to the last, and the rows in the order of
+/// their keys, with rollup one for each key (Apache Druid documentation, ingestion: merging of persisted segments). It needs no
+/// timeline. The job has an input and as many serials as inputs, and these are adjacent ranges of its chunk that each have an
+/// image. Refusals: 59 `ImageTooLarge` exactly where the image of the joined range has more than the schema's
+/// `max_image_bytes`.
+///
+/// It takes time by the rows of the inputs and the logarithm of how many inputs there are, for they stand in order already,
+/// and what `encode` takes; memory for a reference to each input row, for the joined rows, and what `encode` takes.
+pub fn work(alloc: Global, schema: &Schema, job: &Job) -> Result<Fragment, MergeError>
+    requires { IsJobOf schema.now job.now }
+    ensures { GivesUnless is_memory (λ fragment. fragment) result (worked schema.now job.now) }
 {
-    let kinds = columns_of(alloc, schema)?;
-    let rows = join(alloc, schema.rollup(), &kinds, job.inputs.as_slice())?;
-    Ok(Fragment {
-        chunk: job.chunk,
-        from: first_from(job.inputs.as_slice()),
-        to: last_to(job.inputs.as_slice()),
-        rows: Rows::from_vec(rows),
-    })
+    let inputs = job.inputs.as_slice();
+    let rows = joined_rows(alloc, schema, inputs)?;
+    let image = written(alloc, schema, job.chunk, first_from(inputs), last_to(inputs), &rows)?;
+    Ok(Fragment::of_known_image(image))
+}
+
+// The image of a range, or 59.
+fn written(
+    alloc: Global,
+    schema: &Schema,
+    chunk: i64,
+    from: usize,
+    to: usize,
+    rows: &[Row],
+) -> Result<Vec<u8>, MergeError>
+    ensures gives { GivesUnless is_memory (λ bytes. bytes.items) result (passed not_written (encoded schema.now.limits.max_image_bytes (sealed schema.now chunk from to rows.now))) }
+    ensures small { schema.now.limits.max_image_bytes ≤ 1073741824 }
+{
+    let _ = schema.fields();
+    match encode(alloc, schema, chunk, from as u64, to as u64, rows) {
+        Ok(bytes) => Ok(bytes),
+        Err(error) => Err(not_written(error)),
+    }
+}
+
+// Nothing but memory and the size of the image is refused where one is written.
+fn not_written(error: ImageError) -> MergeError
+    ensures { result ≡ not_written error }
+{
+    match error {
+        ImageError::ImageTooLarge => MergeError::ImageTooLarge,
+        _ => MergeError::NoMemory,
+    }
 }
 
 fn first_from(inputs: &[SharedFragment]) -> usize
@@ -33,7 +71,7 @@ fn first_from(inputs: &[SharedFragment]) -> usize
 {
     match inputs.first() {
         None => 0,
-        Some(input) => input.fragment().from,
+        Some(input) => input.fragment().range().0,
     }
 }
 
@@ -42,39 +80,23 @@ fn last_to(inputs: &[SharedFragment]) -> usize
 {
     match inputs.last() {
         None => 0,
-        Some(input) => input.fragment().to,
+        Some(input) => input.fragment().range().1,
     }
 }
 
-fn join(
+// The join of the rows of the inputs. Each of these stands in order, so the sort only merges them: it keeps what is in order
+// and merges it pair by pair.
+fn joined_rows(
     alloc: Global,
-    combines: bool,
-    kinds: &[Kind],
+    schema: &Schema,
     inputs: &[SharedFragment],
 ) -> Result<Vec<Row>, AllocError>
-    ensures { IfOk result (λ rows. rows.items ≡ join combines kinds.now (map (λ f. f.rows) inputs.now)) }
+    ensures { IfOk result (λ rows. rows.items ≡ join schema.now.rollup (kinds_of schema.now) (map (λ f. f.rows) inputs.now)) }
 {
-    let rows = all_rows(alloc, inputs)?;
-    roll_up(combines, kinds, rows)
-}
-
-// Copies of the rows of the inputs, one input after another.
-fn all_rows(alloc: Global, inputs: &[SharedFragment]) -> Result<Vec<Row>, AllocError>
-    ensures { IfOk result (λ rows. rows.items ≡ all_rows (map (λ f. f.rows) inputs.now)) }
-{
-    let mut rows = Vec::new(alloc);
-    for input in inputs {
-        copy_onto(&mut rows, input.fragment().rows.as_slice())?;
-    }
-    Ok(rows)
-}
-
-fn copy_onto(rows: &mut Vec<Row>, more: &[Row]) -> Result<(), AllocError>
-    ensures { OnOk result (rows.new.items ≡ rows.old.items ++ more.now) }
-{
-    rows.reserve(more.len())?;
-    for row in more {
-        rows.push(row.copy()?)?;
-    }
-    Ok(())
+    let kinds = columns_of(alloc, schema)?;
+    let ordered = ordered_inputs(alloc, inputs)?;
+    let mut rows = rows_of_all(alloc, &ordered)?;
+    sort(&mut rows)?;
+    let rolled = rolled_up(alloc, schema.rollup(), &kinds, &rows)?;
+    Ok(rolled)
 }

@@ -1,21 +1,17 @@
-//! Rolled-up ranges of a chunk, and the work of joining adjacent ones to one. A fragment is shared by the timeline, its
-//! snapshots and its jobs, and never changes.
+//! Jobs over adjacent sealed ranges of a chunk, and the work of a job: the ranges joined to one, as an image. A job holds shares
+//! of its fragments and nothing of the timeline.
 #![tactic(auto)]
 
-mod fragment;
-mod fragments;
+mod combining;
+mod inputs;
 mod job;
 mod joining;
+mod merge_error;
 mod purpose;
-mod rows;
 mod serials;
-mod shared_fragment;
 
-pub use fragment::Fragment;
-pub use fragments::Fragments;
 pub use job::Job;
 pub use joining::work;
+pub use merge_error::MergeError;
 pub use purpose::Purpose;
-pub use rows::Rows;
 pub use serials::Serials;
-pub use shared_fragment::SharedFragment;

@@ -13,10 +13,10 @@ use Rattle.dr_base.specs.declared.row.Row.{Row}
 use Rattle.dr_base.specs.Order.{key_cmp}
 use Rattle.dr_agg.specs.declared.kind.Kind.{Kind}
 use Rattle.dr_agg.specs.Combination.{combine_columns}
-use Rattle.dr_agg.specs.Rollup.{rows_at, together, IsRollup, joined, add_row, rollup_onto, rollup}
+use Rattle.dr_agg.specs.Rollup.{rows_at, together, IsInOrder, IsRollup, joined, add_row, rollup_onto, rollup}
 use Rattle.dr_agg.proofs.KeyOrder.{key_cmp_total, itself}
 use Rattle.dr_agg.proofs.ColumnLaws.{combine_columns-assoc}
-use Rattle.dr_agg.proofs.RollupLaws.{rollup_onto_push, IsRollup-rollup, same_rollup, list_any-rollup}
+use Rattle.dr_agg.proofs.RollupLaws.{rollup_onto_push, IsRollup-rollup, same_rollup, list_any-rollup, IsSound, IsSound-nil, IsSound-add_row, IsSound-rollup_onto, IsInOrder-from_rising}
 use Rattle.dr_agg.proofs.Rearranged.{rollup-IsPermutation}
 use Rattle.dr_agg.proofs.Sorting.{in_order, rows_at-sorted}
 use Rattle.dr_rollup.specs.Entries.{same_keys}
@@ -178,3 +178,14 @@ moved combines kinds es d =
     let own = IsRollup-rollup false kinds es in
     let is : IsRollup combines kinds es (rollup false kinds es) = record { ordered = own.ordered; each = λ q. own.each q ∙ sym (alone_or_apart combines kinds q es d) } in
     subst (IsPermutation es) (same_rollup combines kinds es (rollup false kinds es) (rollup combines kinds es) is (IsRollup-rollup combines kinds es)) (moved-apart kinds es)
+
+-- ---- a row that is added to a rollup
+
+in_order_from_sound : (combines : Bool) (rows : List Row) → IsSound combines rows → IsInOrder rows
+in_order_from_sound true rows sound = IsInOrder-from_rising rows sound
+in_order_from_sound false rows sound = sound
+
+pub added_in_order : (combines other : Bool) (kinds more : List Kind) (es rows : List Row) (r : Row) → rows ≡ rollup combines kinds es → other ≡ combines → IsInOrder (add_row other more rows r)
+added_in_order combines other kinds more es rows r e same =
+    let sound = subst (IsSound combines) (sym e) (IsSound-rollup_onto combines kinds [] es (IsSound-nil combines)) in
+    subst (λ b. IsInOrder (add_row b more rows r)) (sym same) (in_order_from_sound combines (add_row combines more rows r) (IsSound-add_row combines more rows r sound))

@@ -1,6 +1,7 @@
 ghost use Rattle.std.specs.Prelude.{◌≡◌, ◌≤◌, ◌<◌, ◌↔◌, [], true, None, length, IfSome, IfOk, OnOk, OnErr, IsErrOf};
 ghost use Rattle.std.specs.List.Sorted.{IsPermutation};
 ghost use Rattle.dr_schema.specs.Fits.{FitsSchema};
+ghost use Rattle.dr_agg.specs.Rollup.{IsInOrder};
 ghost use Rattle.dr_rollup.specs.OpenRows.{OpenRows, rows_with, with_rows, RollsUp};
 ghost use Rattle.dr_rollup.specs.Unrolled.{unrolled};
 ghost use Rattle.dr_rollup.specs.Entries.{rows_in, is_combined, HasKeyAt, NoneHas};
@@ -90,7 +91,8 @@ impl OpenIndex {
     /// The rows in the order of their keys, in memory of their own. The only error is that memory ran out. It takes the time
     /// that sorting them takes.
     pub fn rows(&self) -> Result<Vec<Row>, AllocError>
-        ensures { IfOk result (λ rows. rows.items ≡ self.now.rows) }
+        ensures rows { IfOk result (λ rows. rows.items ≡ self.now.rows) }
+        ensures ordered { IfOk result (λ rows. IsInOrder rows.items) }
     {
         sorted_rows(&self.entries)
     }
@@ -107,7 +109,8 @@ impl OpenIndex {
     /// their own. The only error is that memory ran out.
     pub fn rows_with(&self, event: &Event) -> Result<Vec<Row>, AllocError>
         requires { FitsSchema self.now.schema event.now }
-        ensures { IfOk result (λ rows. rows.items ≡ rows_with self.now event.now) }
+        ensures rows { IfOk result (λ rows. rows.items ≡ rows_with self.now event.now) }
+        ensures ordered { IfOk result (λ rows. IsInOrder rows.items) }
     {
         let alloc = self.entries.allocator();
         let kinds = columns_of(alloc, &self.schema)?;

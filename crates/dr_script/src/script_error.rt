@@ -16,7 +16,7 @@ pub enum ScriptError {
     Command(CommandError),
     /// Why a word is no instant: 10 or 11.
     Time(TimeError),
-    /// A refusal of the core: 0, 90 to 93, 95, or 101 where there is no job or snapshot of a number.
+    /// A refusal of the core: 0, 59, 90 to 93, 95, or 101 where there is no job or snapshot of a number.
     Core(CoreError),
     /// Why a text is no query: 0 to 3, 11 to 13, 22, 60 to 62, or 70 to 77.
     Query(QueryError),

@@ -19,7 +19,7 @@ use Rattle.dr_cuts.specs.AtKey.{at_key}
 use Rattle.dr_cuts.specs.State.{State, Cut, Range, open_from, open_events, sealed_in, at_chunk, open_cut}
 use Rattle.dr_timeline.specs.Steps.{with_seal, open_in, with_event, sealed_at, accepted}
 use Rattle.dr_chunks.specs.Held.{range_of, ranges_of, cut_of, index_of, Holds, HasFewRows, open_count, no_chunk, with_one, with_open_sealed, is_full, seals_of, sealed_if_full, grown, at_start, chunk_at, has_open, IsFirst, chunk_in}
-use Rattle.dr_timeline.specs.Kept.{Keeps}
+use Rattle.dr_timeline.specs.Kept.{Keeps, HasTexts}
 use Rattle.dr_cuts.proofs.Parts.{has, part-none, values_onto-push, rising-values, Covers-values_onto, int_eq-itself, is_eq-true}
 use Rattle.dr_chunks.proofs.Places.{chunk_at-none}
 use Rattle.dr_cuts.proofs.Each.{All-push, All-same}
@@ -116,6 +116,7 @@ keeps-sealed schema es cs seals commits k i serial kept lt before here test =
     record {
       formed = kept.formed;
       fit = kept.fit;
+      texts = kept.texts;
       retained = kept.retained;
       starts = starts-here schema cs k i (with_open_sealed serial) (λ c. refl) lt before here ∙ kept.starts;
       each = All-at_start schema (Holds schema es) (Holds schema es) cs k (with_open_sealed serial) (λ c e h. h) (holds-sealed schema es serial (chunk_at schema k cs) some held.0) kept.each rising;
@@ -164,9 +165,9 @@ grown-open serial true old new le =
     let sealed : open_count (with_open_sealed serial new) + 1 ≤ open_count old + 1 = omega arith in sealed
 grown-open serial false old new le = let same : open_count new + 0 ≤ open_count old + 1 = omega arith in same
 
-pub keeps-grown : (schema : Schema) (es : List Event) (cs : List Chunk) (seals commits : ℕ) (e : Event) (serial : ℕ) → Keeps schema es cs seals commits → FitsSchema schema e → length es < schema.limits.max_retained
+pub keeps-grown : (schema : Schema) (es : List Event) (cs : List Chunk) (seals commits : ℕ) (e : Event) (serial : ℕ) → Keeps schema es cs seals commits → FitsSchema schema e → HasTexts e → length es < schema.limits.max_retained
     → Keeps schema (es ++ e ∷ []) (at_start schema (grown serial e) (chunk schema e) cs) (seals + seals_of (full_after schema e cs)) commits
-keeps-grown schema es cs seals commits e serial kept fits room =
+keeps-grown schema es cs seals commits e serial kept fits texts room =
     let k : ℤ = chunk schema e in
     let change : Chunk → Chunk = grown serial e in
     let rising = rising-starts schema es cs kept.starts in
@@ -183,6 +184,7 @@ keeps-grown schema es cs seals commits e serial kept fits room =
     record {
       formed = kept.formed;
       fit = All-push (FitsSchema schema) es e kept.fit fits;
+      texts = All-push HasTexts es e kept.texts texts;
       retained = omega arith;
       starts = starts-at_start schema cs k change (λ d. if-start serial (is_full (with_one e d)) (with_one e d))
           ∙ ap (with_value k) kept.starts ∙ sym (values_onto-push (chunk schema) [] es e);
@@ -266,7 +268,7 @@ state-sealed schema es cs seals commits lost thrown k kept =
 
 -- ---- what the calls ask
 
-length-filter : {A : Type 0} (p : A → Bool) (xs : List A) → length (filter p xs) ≤ length xs
+pub length-filter : {A : Type 0} (p : A → Bool) (xs : List A) → length (filter p xs) ≤ length xs
 length-filter p [] = omega arith
 length-filter p (x ∷ xs) =
     let less = length-filter p xs in

@@ -5,3 +5,4 @@ pub mod PartialAnswers
 pub mod Keeping
 pub mod Standing
 pub mod Placing
+mod Working

@@ -20,11 +20,16 @@ use Rattle.dr_cuts.specs.Chunks.{chunk_list, chunks}
 use Rattle.dr_cuts.specs.State.{Tile, AreCuts, IsTiled, open_from}
 use Rattle.dr_chunks.specs.Ranges.{fragment_of}
 use Rattle.dr_cuts.specs.Segments.{sealed_info, open_info, infos_of_cut, infos, events_in, rows_over}
-use Rattle.dr_chunks.specs.Held.{range_of, ranges_of, cut_of, info_of, has_open, infos_of_chunk, rows_of_chunk, Holds}
+use Rattle.dr_fragment.specs.declared.fragment.Fragment.{Fragment}
+use Rattle.dr_chunks.specs.Held.{range_of, ranges_of, cut_of, info_of, has_open, infos_of_chunk, fragments_of_chunk, open_fragment, Holds}
 
 -- the rows of a range
 abbrev pub rows_of_range : Schema → List Event → RangeInfo → List Row
 rows_of_range schema es r = rolled_up schema (events_in schema es r)
+
+-- the rows of fragments
+abbrev pub rows_in : List Fragment → List (List Row)
+rows_in fs = map (λ f. f.rows) fs
 
 -- ---- one chunk
 
@@ -33,7 +38,7 @@ infos-sealed schema es k [] h = refl
 infos-sealed schema es k (s ∷ ss) h = λ i. record { chunk = (h.0 i).chunk; from = (range_of s).from; to = (range_of s).to; version = s.version; rows = length (h.0 i).rows; sealed = true } ∷ infos-sealed schema es k ss h.1 i
 
 rows-sealed : (schema : Schema) (es : List Event) (k : ℤ) (ss : List SealedRange) → AllByRecursion (λ s. s.fragment ≡ fragment_of schema es k (range_of s)) ss
-    → map (λ s. s.fragment.rows) ss ≡ map (rows_of_range schema es) (map (sealed_info schema es k) (map range_of ss))
+    → rows_in (map (λ s. s.fragment) ss) ≡ map (rows_of_range schema es) (map (sealed_info schema es k) (map range_of ss))
 rows-sealed schema es k [] h = refl
 rows-sealed schema es k (s ∷ ss) h = λ i. (h.0 i).rows ∷ rows-sealed schema es k ss h.1 i
 
@@ -50,13 +55,14 @@ open-rows schema es c held =
     let long : length (drop from l) ≡ length l - from = length-drop from l in
     ap (λ (x : OpenRows). x.rows) held.open_range ∙ ap (rolled_up schema) (sym (take_all (length l - from) (drop from l) (omega arith)))
 
-pub rows-chunk : (schema : Schema) (es : List Event) (c : Chunk) → Holds schema es c → rows_of_chunk c ≡ map (rows_of_range schema es) (infos_of_cut schema es (cut_of c))
+pub rows-chunk : (schema : Schema) (es : List Event) (c : Chunk) → Holds schema es c → rows_in (fragments_of_chunk c) ≡ map (rows_of_range schema es) (infos_of_cut schema es (cut_of c))
 rows-chunk schema es c held =
     let from : ℕ = open_from (ranges_of c) in
-    let rest : (a b : Bool) → a ≡ b → cond a (c.open_range.rows ∷ []) [] ≡ map (rows_of_range schema es) (cond b (open_info schema es c.start from ∷ []) []) = λ a b e.
-    ap (λ x. cond x (c.open_range.rows ∷ []) []) e ∙ elim b as (λ x. cond x (c.open_range.rows ∷ []) [] ≡ map (rows_of_range schema es) (cond x (open_info schema es c.start from ∷ []) []))
+    let rest : (a b : Bool) → a ≡ b → rows_in (cond a (open_fragment c ∷ []) []) ≡ map (rows_of_range schema es) (cond b (open_info schema es c.start from ∷ []) []) = λ a b e.
+    ap (λ x. rows_in (cond x (open_fragment c ∷ []) [])) e ∙ elim b as (λ x. rows_in (cond x (open_fragment c ∷ []) []) ≡ map (rows_of_range schema es) (cond x (open_info schema es c.start from ∷ []) []))
     [ true ↦ ap (λ (rs : List Row). rs ∷ []) (open-rows schema es c held) | false ↦ refl ] in
-    (λ i. rows-sealed schema es c.start c.sealed held.sealed i ++ rest (has_open c) (nat_lt from (length (chunk_list schema es c.start))) (ap (nat_lt from) held.events) i)
+    map-append (λ (f : Fragment). f.rows) (map (λ s. s.fragment) c.sealed) (cond (has_open c) (open_fragment c ∷ []) [])
+    ∙ (λ i. rows-sealed schema es c.start c.sealed held.sealed i ++ rest (has_open c) (nat_lt from (length (chunk_list schema es c.start))) (ap (nat_lt from) held.events) i)
     ∙ sym (map-append (rows_of_range schema es) (map (sealed_info schema es c.start) (ranges_of c)) _)
 
 -- ---- all chunks
@@ -65,10 +71,11 @@ pub infos-chunks : (schema : Schema) (es : List Event) (cs : List Chunk) → All
 infos-chunks schema es [] h = refl
 infos-chunks schema es (c ∷ cs) h = λ i. infos-chunk schema es c h.0 i ++ infos-chunks schema es cs h.1 i
 
-pub rows-chunks : (schema : Schema) (es : List Event) (cs : List Chunk) → AllByRecursion (Holds schema es) cs → flat_map rows_of_chunk cs ≡ map (rows_of_range schema es) (infos schema es (map cut_of cs))
+pub rows-chunks : (schema : Schema) (es : List Event) (cs : List Chunk) → AllByRecursion (Holds schema es) cs → rows_in (flat_map fragments_of_chunk cs) ≡ map (rows_of_range schema es) (infos schema es (map cut_of cs))
 rows-chunks schema es [] h = refl
 rows-chunks schema es (c ∷ cs) h =
-    (λ i. rows-chunk schema es c h.0 i ++ rows-chunks schema es cs h.1 i)
+    map-append (λ (f : Fragment). f.rows) (fragments_of_chunk c) (flat_map fragments_of_chunk cs)
+    ∙ (λ i. rows-chunk schema es c h.0 i ++ rows-chunks schema es cs h.1 i)
     ∙ sym (map-append (rows_of_range schema es) (infos_of_cut schema es (cut_of c)) (infos schema es (map cut_of cs)))
 
 tiled-chunks : (schema : Schema) (es : List Event) (cs : List Chunk) → AllByRecursion (Holds schema es) cs → AllByRecursion (IsTiled schema es) (map cut_of cs)

@@ -25,7 +25,7 @@ use Rattle.dr_timeline.proofs.Keeping.{holds-chunk_at, rising-starts}
 abbrev pub seen : Schema → List Event → List Chunk → (serials commits lost thrown : ℕ) → State
 seen schema es cs serials commits lost thrown = record { schema = schema; stream = es; cuts = map cut_of cs; serials = serials; commits = commits; unparseable = lost; thrown_away = thrown }
 
-All-part : {A : Type 0} (P : A → Type 0) (xs : List A) (place count : ℕ) → AllByRecursion P xs → AllByRecursion P (take count (drop place xs))
+pub All-part : {A : Type 0} (P : A → Type 0) (xs : List A) (place count : ℕ) → AllByRecursion P xs → AllByRecursion P (take count (drop place xs))
 All-part P xs place count h =
     let rest = All-right P (take place xs) (drop place xs) (subst (AllByRecursion P) (sym (take-append-drop place xs)) h) in
     All-left P (take count (drop place xs)) (drop count (drop place xs)) (subst (AllByRecursion P) (sym (take-append-drop count (drop place xs))) rest)
@@ -131,6 +131,7 @@ keeps-merged schema es cs seals commits job c i place new kept there lt before h
     record {
       formed = kept.formed;
       fit = kept.fit;
+      texts = kept.texts;
       retained = kept.retained;
       starts = starts-here schema cs job.chunk i change (λ d. refl) lt before here ∙ kept.starts;
       each = All-at_start schema (Holds schema es) (Holds schema es) cs job.chunk change (λ d e h. h) (subst (λ (d : Chunk). Holds schema es (change d)) (sym there) merged.0) kept.each rising;

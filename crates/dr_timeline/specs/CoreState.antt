@@ -3,6 +3,7 @@ use Rattle.std.specs.Prelude.{◌≡◌, List, [], ◌∷◌, ◌++◌}
 use Rattle.std.specs.List.{AllByRecursion}
 use Rattle.dr_schema.specs.declared.schema.Schema.{Schema}
 use Rattle.dr_merge.specs.declared.job.Job.{Job}
+use Rattle.dr_merge.specs.Joined.{IsJobOf}
 use Rattle.dr_cuts.specs.State.{State, empty_state}
 use Rattle.dr_cuts.specs.Segments.{Pinned}
 
@@ -24,6 +25,10 @@ with_job job c = record { timeline = c.timeline; jobs = c.jobs ++ job ∷ []; pi
 abbrev pub with_pin : Pinned → CoreState → CoreState
 with_pin p c = record { timeline = c.timeline; jobs = c.jobs; pins = c.pins ++ p ∷ [] }
 
--- each snapshot is of the schema, as a run keeps it between steps
+-- each job can be worked on, as a run keeps it between steps
+abbrev pub CanWork : Schema → List Job → Type 0
+CanWork schema jobs = AllByRecursion (IsJobOf schema) jobs
+
+-- each snapshot is of the schema
 abbrev pub HaveSchema : Schema → List Pinned → Type 0
 HaveSchema schema pins = AllByRecursion (λ p. p.schema ≡ schema) pins

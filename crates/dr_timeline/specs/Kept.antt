@@ -1,6 +1,7 @@
 -- What a timeline keeps, and where a job stands in it. No public contract cites this file.
 use Rattle.std.specs.Prelude.{◌≡◌, ℕ, ◌+◌, ◌<◌, ◌≤◌, List, length, map, take, drop}
 use Rattle.std.specs.List.{AllByRecursion}
+use Rattle.std.specs.Str.{IsUtf8}
 use Rattle.dr_base.specs.declared.event.Event.{Event}
 use Rattle.dr_schema.specs.Fits.{FitsSchema}
 use Rattle.dr_schema.specs.WellFormed.{IsWellFormed}
@@ -11,10 +12,15 @@ use Rattle.dr_chunks.specs.declared.sealed_range.SealedRange.{SealedRange}
 use Rattle.dr_cuts.specs.Chunks.{chunks}
 use Rattle.dr_chunks.specs.Held.{Holds, HasFewRows, total_open}
 
+-- the dimension values of an event are UTF-8, as each text is
+abbrev pub HasTexts : Event → Type 0
+HasTexts e = AllByRecursion IsUtf8 e.dims
+
 -- the chunks are those of the events, which fit the schema; a seal takes at least one event
 pub record Keeps (schema : Schema) (es : List Event) (cs : List Chunk) (seal_count commit_count : ℕ) : Type 0 where
   pub formed : IsWellFormed schema
   pub fit : AllByRecursion (FitsSchema schema) es
+  pub texts : AllByRecursion HasTexts es
   pub starts : map (λ c. c.start) cs ≡ chunks schema es
   pub each : AllByRecursion (Holds schema es) cs
   pub few : AllByRecursion (HasFewRows schema) cs

@@ -3,7 +3,7 @@ use Rattle.std.specs.Prelude.{ℕ, zero, suc, ◌+◌, nat_eq, nat_lt, nat_le, b
 use Rattle.std.specs.Ordering.{int_eq}
 use Rattle.std.specs.Cmp.Lexicographic.{pointwise}
 use Rattle.dr_base.specs.declared.row.Row.{Row}
-use Rattle.dr_merge.specs.declared.fragment.Fragment.{Fragment}
+use Rattle.dr_fragment.specs.declared.fragment.Fragment.{Fragment}
 use Rattle.dr_merge.specs.declared.job.Job.{Job}
 use Rattle.dr_cuts.specs.State.{State, sealed_in}
 use Rattle.dr_chunks.specs.Ranges.{fragment_of}

@@ -5,7 +5,8 @@ ghost use Rattle.dr_timeline.specs.Kept.{StandsIn};
 ghost use Rattle.dr_timeline.specs.Steps.{least_version as least_of};
 
 use dr_chunks::SealedRange;
-use dr_merge::{Fragments, Job, Purpose, Serials, SharedFragment};
+use dr_fragment::{Fragments, SharedFragment};
+use dr_merge::{Job, Purpose, Serials};
 use std::alloc::{AllocError, Global};
 
 /// A job over adjacent sealed ranges of a chunk.

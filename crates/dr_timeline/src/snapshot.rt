@@ -11,12 +11,14 @@ ghost use Rattle.dr_cuts.specs.Segments.{rows_of};
 ghost use Rattle.dr_cuts.specs.RawAnswer.{raw_answer};
 
 use crate::answering::answer;
+use crate::range_rows::RangeRows;
 use crate::span::span_of;
 use dr_answers::AnswerError;
 use dr_ask::Query;
 use dr_base::{Event, Row};
-use dr_chunks::{PinnedRanges, RangeRows, Stream};
+use dr_chunks::Stream;
 use dr_cuts::RangeInfo;
+use dr_fragment::{PinnedFragment, PinnedFragments};
 use dr_partial::Partial;
 use dr_schema::Schema;
 use std::alloc::{AllocError, Global};
@@ -28,19 +30,20 @@ use std::marker::Model;
 pub struct Snapshot {
     pub(crate) schema: Schema,
     pub(crate) stream: Stream,
-    pub(crate) pinned: PinnedRanges,
+    pub(crate) fragments: PinnedFragments,
     pub(crate) ranges: Vec<RangeInfo>,
 }
 
 impl Model for Snapshot {
     ghost use Rattle.dr_cuts.specs.Segments.{Pinned};
+    ghost use Rattle.std.specs.Prelude.{map};
     ghost use Rattle.dr_timeline.specs.Shown.{Shows};
 
     ghost Value = { Pinned };
 
     ghost view = { λ s. record { schema = s.schema; stream = s.stream.items; ranges = s.ranges.items } };
 
-    ghost invariant = { λ s. Shows s.schema s.stream.items s.pinned s.ranges.items };
+    ghost invariant = { λ s. Shows s.schema s.stream.items (map (λ f. f.rows) s.fragments) s.ranges.items };
 }
 
 impl Snapshot {
@@ -92,7 +95,7 @@ impl Snapshot {
     /// Where the query matches, it is byte for byte the answer over the raw events, truncated, filtered, grouped and
     /// folded one by one, whatever the ranges. Refusals: 81 `ResultTooLarge` where there are over 100000 groups. It takes
     /// expected time by the rows and the bytes of their dimension values, by the events for their span, and what sorting
-    /// the groups takes; and memory by the groups and the rows of open ranges.
+    /// the groups takes; and memory by the groups and the rows of open ranges and of images.
     pub fn answer_one(&self, query: &Query) -> Result<Vec<u8>, AnswerError>
         requires { MadeFor self.now.schema (asked query.now) }
         ensures own_rows { Answers (λ text. text.items) result (answer (asked query.now) (rows_of self.now)) }
@@ -100,7 +103,7 @@ impl Snapshot {
             → Answers (λ text. text.items) result (raw_answer self.now.schema (asked query.now) self.now.stream) }
     {
         let alloc = self.stream.allocator();
-        let rows = self.pinned.rows(alloc)?;
+        let rows = rows_of_all(alloc, self.fragments.as_slice())?;
         let pieces = slices(alloc, &rows)?;
         let partial = Partial::of_rows(alloc, query, &pieces)?;
         answer(alloc, query, partial, self.span())
@@ -120,7 +123,20 @@ impl Snapshot {
     }
 }
 
-fn slices<'a>(alloc: Global, ranges: &'a [RangeRows]) -> Result<Vec<&'a [Row]>, AllocError>
+fn rows_of_all(
+    alloc: Global,
+    fragments: &[PinnedFragment],
+) -> Result<Vec<RangeRows<'_>>, AllocError>
+    ensures { IfOk result (λ rows. rows.items ≡ map (λ f. f.rows) fragments.now) }
+{
+    let mut rows = Vec::with_capacity(alloc, fragments.len())?;
+    for fragment in fragments {
+        rows.push(RangeRows::of(alloc, fragment)?)?;
+    }
+    Ok(rows)
+}
+
+fn slices<'a>(alloc: Global, ranges: &'a [RangeRows<'a>]) -> Result<Vec<&'a [Row]>, AllocError>
     ensures { IfOk result (λ slices. map (λ s. s.now) slices.items ≡ ranges.now) }
 {
     let mut slices = Vec::with_capacity(alloc, ranges.len())?;

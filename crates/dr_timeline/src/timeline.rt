@@ -6,20 +6,22 @@ ghost use Rattle.dr_timeline.specs.Stepping.{accept, seal, plan, commit};
 ghost use Rattle.dr_timeline.specs.Refusal.{is_memory};
 ghost use Rattle.dr_base.specs.Reading.{GivesUnless};
 ghost use Rattle.dr_timeline.specs.Noted.{noted, stats};
-ghost use Rattle.dr_merge.specs.Joined.{joined_fragment};
+ghost use Rattle.dr_merge.specs.Joined.{joined_fragment, IsJobOf};
 ghost use Rattle.dr_cuts.specs.Segments.{pinned};
 ghost use Rattle.dr_schema.specs.Fits.{FitsSchema};
 ghost use Rattle.dr_schema.specs.WellFormed.{IsWellFormed};
 
 use crate::chunk_of::chunk_start;
+use crate::known_texts::known_texts;
 use crate::outcome::Outcome;
 use crate::planned::{job_over, least_version, place_of_job};
 use crate::snapshot::Snapshot;
 use crate::stats::Stats;
 use crate::timeline_error::TimelineError;
 use dr_base::Event;
-use dr_chunks::{Chunks, PinnedRanges, SealedRange, Stream};
-use dr_merge::{Fragment, Job, Purpose, SharedFragment};
+use dr_chunks::{Chunks, SealedRange, Stream};
+use dr_fragment::{Fragment, PinnedFragments, SharedFragment};
+use dr_merge::{Job, Purpose};
 use dr_spec::IngestSpec;
 use std::alloc::{AllocError, Global};
 use std::marker::Model;
@@ -105,6 +107,7 @@ impl Timeline {
         }
         let alloc = self.stream.allocator();
         let start = chunk_start(schema, &event);
+        known_texts(&event);
         self.stream.reserve()?;
         let serial = self.seals + self.commits;
         let seals = self.chunks.grow(alloc, schema, serial, start, &event)?;
@@ -158,7 +161,7 @@ impl Timeline {
 
     /// A job over the sealed ranges of a chunk at the places from `lo` to before `hi`, in the order in which they stand
     /// now. The chunk is named by its start in milliseconds since the epoch. Refusals: 92 `NoSuchRange` exactly where
-    /// these places name no sealed ranges, or none.
+    /// these places name no sealed ranges, or none. Each job can be worked on.
     pub fn plan(
         &self,
         chunk: i64,
@@ -168,6 +171,7 @@ impl Timeline {
     ) -> Result<Job, TimelineError>
         ensures job { IfOk result (λ job. job ≡ job_of self.now chunk lo hi purpose) }
         ensures no_range { IsErrOf result NoSuchRange ↔ ((lo < hi) × (hi ≤ length (sealed_in chunk self.now.cuts)) → ⊥) }
+        ensures workable { IfOk result (λ job. IsJobOf self.now.schema job) }
         ensures refusals { IfErr result (λ e. (e ≡ NoMemory) ⊎ (e ≡ NoSuchRange)) }
         ensures step { GivesUnless is_memory (λ job. job) result (plan self.now chunk lo hi purpose) }
     {
@@ -228,13 +232,13 @@ impl Timeline {
         ensures same { self.new ≡ self.old }
     {
         let alloc = self.stream.allocator();
-        let mut pinned = PinnedRanges::new(alloc);
+        let mut fragments = PinnedFragments::new(alloc);
         let mut ranges = Vec::new(alloc);
-        self.chunks.pin(&mut pinned, &mut ranges)?;
+        self.chunks.pin(alloc, &mut fragments, &mut ranges)?;
         Ok(Snapshot {
             schema: self.spec.schema().copy()?,
             stream: self.stream.share()?,
-            pinned,
+            fragments,
             ranges,
         })
     }

@@ -27,7 +27,7 @@ invariant_of-self-2 c =
     let stream : c.push.new.self.items ≡ c.self.inside.stream.items ++ c.args.event ∷ [] = c.push.ensures ∙ ap (λ (es : List Event). es ++ c.args.event ∷ []) c.in_ok-reserve.ensures.items in
     let put = rw (to_z-of_z w64 c.chunk_start-start.result fits, c.chunk_start-start.ensures, c.schema-schema.ensures.value) at c.in_ok-seals.ensures.ok in
     let seals = rw (to_z-of_z w64 c.chunk_start-start.result fits, c.chunk_start-start.ensures, c.schema-schema.ensures.value) at c.in_ok-seals.ensures.seals in
-    rw (stream, put, seals) (keeps-grown c.self.inside.spec c.self.inside.stream.items c.self.inside.chunks c.self.inside.seals c.self.inside.commits c.args.event (c.self.inside.seals + c.self.inside.commits) c.self.invariant (subst (λ (s : State). FitsSchema s.schema c.args.event) (sym c.self.view_is) c.requires) room)
+    rw (stream, put, seals) (keeps-grown c.self.inside.spec c.self.inside.stream.items c.self.inside.chunks c.self.inside.seals c.self.inside.commits c.args.event (c.self.inside.seals + c.self.inside.commits) c.self.invariant (subst (λ (s : State). FitsSchema s.schema c.args.event) (sym c.self.view_is) c.requires) c.known_texts.ensures room)
 
 pub returns-clause-ok : goal.returns-clause-ok
 returns-clause-ok c =

@@ -1,10 +1,12 @@
-use Rattle.std.proofs.Common.{◌≡◌, ◌∙◌, sym, ap, refl, Ok, map, take, drop, w64, arith, length, get_or, ◌-◌, ◌+◌, List}
+use Rattle.std.proofs.Common.{◌≡◌, ◌∙◌, sym, ap, subst, refl, ◌≤◌, Ok, map, take, drop, w64, arith, length, get_or, ◌-◌, ◌+◌, List}
 use Rattle.std.proofs.lemmas.Int.{to_z-of_z}
 use Rattle.std.proofs.lemmas.Result.{err_from_is_err_and}
 use Rattle.dr_chunks.specs.declared.chunk.Chunk.{Chunk}
 use Rattle.dr_chunks.specs.declared.sealed_range.SealedRange.{SealedRange}
 use Rattle.dr_cuts.specs.State.{State, sealed_in}
 use Rattle.dr_timeline.specs.Steps.{job_of}
+use Rattle.dr_merge.specs.Joined.{IsJobOf}
+use Rattle.dr_timeline.proofs.Working.{planned-works}
 use Rattle.dr_chunks.specs.Held.{chunk_at, ranges_of}
 use Rattle.dr_chunks.proofs.Places.{chunk_at-in, chunk_at-none}
 use Rattle.dr_chunks.proofs.Changes.{sealed_in-cuts}
@@ -104,3 +106,16 @@ returns-clause-step c =
     let lt = c.if-lo-hi.false in
     let le = c.if-hi-sealed.false in
     plan-ok c.args.self.now c.args.chunk c.args.lo c.args.hi c.args.purpose (omega arith) (omega arith) ∙ ap Ok (sym (returns-clause-job c))
+
+pub returns-clause-workable : goal.returns-clause-workable
+returns-clause-workable c =
+    let t = c.self.inside in
+    let at_chunk = (goal.at.returns-clause-workable c).After-as_slice-sealed in
+    let many = count at_chunk in
+    let lt = c.if-lo-hi.false in
+    let le = c.if-hi-sealed.false in
+    let same : c.in_ok-job_over.field-0 ≡ job_of (shown (goal.at.returns-clause-workable c).In_ok-job_over) c.args.chunk c.args.lo c.args.hi c.args.purpose = planned (goal.at.returns-clause-workable c).In_ok-job_over (here at_chunk) (ranges at_chunk) in
+    let within : c.args.hi ≤ length (sealed_in c.args.chunk (shown (goal.at.returns-clause-workable c).In_ok-job_over).cuts) =
+    subst (λ n. c.args.hi ≤ n) (sym (ap (λ (s : State). length (sealed_in c.args.chunk s.cuts)) c.self.view_is)) (omega arith) in
+    let works = planned-works t.spec t.stream.items t.chunks t.seals t.commits (t.seals + t.commits) t.unparseable t.thrown_away c.args.chunk c.args.lo c.args.hi c.args.purpose c.self.invariant (omega arith) within in
+    subst (λ (s : State). IsJobOf s.schema c.in_ok-job_over.field-0) c.self.view_is (subst (IsJobOf t.spec) (sym same) works)

@@ -1,0 +1,4 @@
+pub mod Ranged
+pub mod Lying
+pub mod Held
+pub mod Pinned
