@@ -1,7 +1,6 @@
 -- What lies behind the lock stays as it should be, step by step.
-use Rattle.std.proofs.Common.{◌≡◌, ◌≢◌, ◌∙◌, sym, ap, refl, subst, ℕ, ℤ, zero, suc, ◌+◌, ◌<◌, ◌≤◌, List, [], ◌∷◌, ◌++◌, length, true, false, Bool, cond, Some, None, Option, Ok, Err, Result, arith, inl, inr, All, length-append}
-use Rattle.std.specs.Prelude.{nat_eq, nat_le, ◌⊎◌, slice_get, set}
-use Rattle.std.specs.List.{filter}
+use Rattle.std.proofs.Common.{◌≡◌, ◌≢◌, ◌∙◌, sym, ap, refl, subst, ℕ, zero, suc, ◌+◌, ◌<◌, ◌≤◌, List, [], ◌∷◌, ◌++◌, length, true, false, Bool, cond, Some, arith, inl, inr, All, length-append}
+use Rattle.std.specs.Prelude.{nat_eq, ◌⊎◌, slice_get, set}
 use Rattle.std.proofs.lemmas.Bool.Decides.{nat_tests}
 use Rattle.std.proofs.lemmas.List.Elements.{All-append, All-cons, All-nil, filter-append}
 use Rattle.dr_base.specs.declared.event.Event.{Event}

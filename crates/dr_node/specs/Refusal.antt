@@ -1,5 +1,5 @@
 -- The numbers and names of the refusals of a node.
-use Rattle.std.specs.Prelude.{ℕ, List, Bool, false, codes}
+use Rattle.std.specs.Prelude.{ℕ, List, codes}
 use Rattle.dr_timeline.specs.Refusal as timeline
 use Rattle.dr_node.specs.declared.node_error.NodeError.{NodeError}
 use Rattle.dr_node.specs.declared.node_error.NodeError.TheVariants.{Timeline, HistoryMismatch}

@@ -11,6 +11,10 @@ pub record SeatView : Type 0 where
   pub floor : ℕ
   pub own : List Event
 
+-- a receipt: the number of the event that it was given for
+pub record Received : Type 0 where
+  pub number : ℕ
+
 -- the events with the mark of a seat, in order
 abbrev pub marked : ℕ → List Event → List Event
 marked k es = filter (λ e. e.seat == k) es

@@ -1,7 +1,6 @@
 ghost use Rattle.std.specs.Prelude.{◌≡◌, ◌≤◌, ◌⊎◌, IfErr};
-ghost use Rattle.dr_timeline.specs.declared.timeline_error.TimelineError.TheVariants.{NoMemory, CommitsFull};
+ghost use Rattle.dr_timeline.specs.declared.timeline_error.TimelineError.TheVariants.{NoMemory, NoSuchRange, Stale, CommitsFull};
 ghost use Rattle.dr_node.specs.declared.node_error.NodeError.TheVariants as error;
-ghost use Rattle.dr_node.specs.Seats.{SeatView};
 
 use crate::commit_act::CommitAct;
 use crate::merger_report::MergerReport;
@@ -72,7 +71,9 @@ impl<B: Books> Node<B> {
         rt: &R,
         policy: &P,
         plan: PlanAct,
-    ) -> Result<u64, TimelineError> {
+    ) -> Result<u64, TimelineError>
+        ensures { IfErr result (λ e. (e ≡ NoMemory) ⊎ (e ≡ NoSuchRange) ⊎ (e ≡ Stale) ⊎ (e ≡ CommitsFull)) }
+    {
         let job = self.apply(rt, plan)?;
         policy.planned();
         let fragment = work(self.alloc, &self.schema, &job)?;

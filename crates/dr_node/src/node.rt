@@ -99,7 +99,7 @@ impl<B: Books> Node<B> {
         let count = answer?;
         seat.own.push(copy).unwrap();
         seat.floor = count;
-        Ok(Receipt { number: count - 1 })
+        Ok(Receipt::new(count - 1))
     }
 
     /// A snapshot of what the node accepted so far, which no later step changes: of the seat's events it has all, and of the

@@ -1,5 +1,4 @@
-use Rattle.std.proofs.Common.{◌≡◌, ◌∙◌, sym, refl, true, false, ◌<◌, ◌≤◌, ℕ, length, arith}
-use Rattle.dr_node.specs.Closing.{AreAllSeats}
+use Rattle.std.proofs.Common.{◌∙◌, sym, refl, ◌≤◌, arith}
 use Rattle.dr_node.proofs.Seatings.{once-more}
 use Rattle.dr_node.proofs.closing.are_all.Goals as goal
 

@@ -1,4 +1,4 @@
-use Rattle.std.proofs.Common.{◌≡◌, ◌∙◌, sym, ap, ◌<◌, ◌≤◌, ◌++◌, ◌∷◌, [], ℕ, length, arith, take}
+use Rattle.std.proofs.Common.{◌∙◌, sym, ap, ◌<◌, ◌++◌, ◌∷◌, [], length, take}
 use Rattle.std.proofs.lemmas.List.{take_more}
 use Rattle.std.proofs.lemmas.Option.{get_or_from_slice_get, slice_get_within}
 use Rattle.dr_node.proofs.kept.copies.Goals as goal

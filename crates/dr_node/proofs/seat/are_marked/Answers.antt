@@ -1,7 +1,6 @@
-use Rattle.std.proofs.Common.{◌≡◌, ◌≤◌, ◌<◌, ◌++◌, ◌∷◌, [], ◌∙◌, ℕ, sym, refl, ap, subst, true, false, take, drop, length, arith, List, length-drop}
+use Rattle.std.proofs.Common.{◌≡◌, ◌≤◌, [], ◌∙◌, sym, ap, drop, length, arith, length-drop}
 use Rattle.std.proofs.lemmas.Bool.Decides.{nat_tests}
 use Rattle.std.proofs.lemmas.List.{drop_all}
-use Rattle.dr_base.specs.declared.event.Event.{Event}
 use Rattle.dr_node.specs.Seats.{marked}
 use Rattle.dr_node.proofs.seat.are_marked.Goals as goal
 

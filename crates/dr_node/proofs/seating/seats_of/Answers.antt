@@ -1,8 +1,6 @@
-use Rattle.std.proofs.Common.{◌≡◌, ◌≤◌, ◌<◌, ◌++◌, ◌∷◌, [], ◌∙◌, ℕ, ◌+◌, sym, refl, ap, subst, length, arith, List, map}
-use Rattle.std.specs.List.{range_with_len}
+use Rattle.std.proofs.Common.{◌≡◌, ◌∷◌, ◌∙◌, ◌+◌, sym, ap, length, arith}
 use Rattle.std.specs.Vec.Iter.{into_iter_items}
 use Rattle.std.proofs.lemmas.List.FromFn.{map-range_with_len_more}
-use Rattle.dr_books.specs.Opened.{AreOpenedFrom}
 use Rattle.dr_node.specs.Seats.{new_seat}
 use Rattle.dr_node.proofs.seating.seats_of.Goals as goal
 

@@ -1,4 +1,4 @@
-use Rattle.std.proofs.Common.{◌≡◌, ◌∙◌, sym, ap, ◌<◌, ◌≤◌, ◌+◌, ◌-◌, ◌++◌, ◌∷◌, [], ℕ, length, arith, subst, length-append}
+use Rattle.std.proofs.Common.{◌≡◌, ◌∙◌, ap, ◌<◌, ◌≤◌, ◌+◌, ◌-◌, ◌++◌, ◌∷◌, [], length, arith, subst, length-append}
 use Rattle.std.proofs.lemmas.Option.{slice_get_within}
 use Rattle.dr_cuts.specs.State.{State}
 use Rattle.dr_timeline.specs.declared.stats.Stats.{Stats}

@@ -1,4 +1,4 @@
-use Rattle.std.proofs.Common.{◌≡◌, ◌∙◌, sym, ap, ◌<◌, ◌≤◌, ◌+◌, ◌-◌, ◌++◌, ◌∷◌, [], ℕ, List, length, arith, subst}
+use Rattle.std.proofs.Common.{◌≡◌, ◌∙◌, ap, ◌≤◌, ◌+◌, ◌-◌, List, length, arith}
 use Rattle.dr_base.specs.declared.event.Event.{Event}
 use Rattle.dr_cuts.specs.Segments.{Pinned}
 use Rattle.dr_node.specs.Seats.{marked}
