@@ -25,7 +25,7 @@ bounded most bytes = if nat_le (length bytes) most then Ok bytes else Err ImageT
 
 -- its image, or 59 where it has more bytes than the schema allows
 abbrev pub encoded : ℕ → Sealed → Result (List ℕ) ImageError
-encoded most s = bounded most (image s)
+encoded most s = if nat_le (length (image s)) most then Ok (image s) else Err ImageTooLarge
 
 -- whether memory ran out
 abbrev pub is_memory : ImageError → Bool

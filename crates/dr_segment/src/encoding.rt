@@ -47,11 +47,12 @@ pub fn encode(
     written(alloc, schema.limits().max_image_bytes, &columns)
 }
 
-/// The image of rows that are given by their columns, as `encode` writes it. Refusals: 59 `ImageTooLarge` exactly where it has more
-/// than `most` bytes.
+/// The image of rows that are given by their columns, as `encode` writes it. The columns stand for rows: each metric has as many
+/// values, and each dimension as many numbers, as there are times; the values of a dimension ascend, and each is that of some row.
+/// Refusals: 59 `ImageTooLarge` exactly where the image has more than `most` bytes, which are at most 1073741824.
 ///
 /// It takes time by the bytes of the image, whose memory is taken at once and only where it isn't too large. Beside it, it takes 4
-/// bytes for a row and some 8 for a value of one dimension after another.
+/// bytes for each row and 8 for each value of one dimension after another.
 pub fn encode_columns(alloc: Global, most: u64, columns: &Columns) -> Result<Vec<u8>, ImageError>
     requires bound { most ≤ 1073741824 }
     requires rows { StandForRows (table_seen columns.now) }

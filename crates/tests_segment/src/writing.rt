@@ -1,7 +1,10 @@
+ghost use Rattle.std.specs.Prelude.{IfOk};
+ghost use Rattle.dr_segment.specs.Tables.{table_seen, StandForRows};
+
 use dr_base::{Key, Numbers, Row, Text, Texts};
-use dr_segment::encode;
+use dr_segment::{Columns, Dimension, encode, encode_columns};
 use dr_spec::IngestSpec;
-use std::alloc::Global;
+use std::alloc::{AllocError, Global};
 use std::test::Fail;
 
 const SPEC: &[u8] =
@@ -136,5 +139,41 @@ fn refuses_an_image_that_is_a_byte_too_long(rt: HostRuntime) -> Result<(), Fail>
     assert!(rt; ends_with(text.as_str(), ONE));
     let text = written(alloc, NO_ROOM, 1, &rows)?;
     assert!(rt; text.as_str() == "ImageTooLarge");
+    Ok(())
+}
+
+// The columns of that row.
+fn columns(alloc: Global) -> Result<Columns<'static>, AllocError>
+    ensures { IfOk result (λ columns. StandForRows (table_seen columns)) }
+{
+    let mut dims = Vec::new(alloc);
+    dims.push(Dimension {
+        dictionary: vec![in alloc; "A"]?,
+        numbers: vec![in alloc; 0u32]?,
+    })?;
+    Ok(Columns {
+        rollup: true,
+        chunk: FIRST,
+        from: 0,
+        to: 1,
+        times: vec![in alloc; FIRST]?,
+        metrics: Vec::new(alloc),
+        dims,
+    })
+}
+
+// The image of those columns in hexadecimal.
+fn written_from_columns(alloc: Global) -> Result<String, Fail> {
+    let columns = columns(alloc)?;
+    let bytes = encode_columns(alloc, 113, &columns)
+        .ok()
+        .ok_or("there is memory, and the image isn't too large")?;
+    Ok(hex::encode(alloc, bytes.as_slice())?)
+}
+
+#[test]
+fn writes_the_image_of_columns(rt: HostRuntime) -> Result<(), Fail> {
+    let text = written_from_columns(rt.alloc())?;
+    assert!(rt; ends_with(text.as_str(), ONE));
     Ok(())
 }
