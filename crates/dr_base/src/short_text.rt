@@ -4,9 +4,9 @@ use std::marker::Model;
 use std::str::from_utf8_unchecked;
 
 /// How many bytes a text has at most that lies in the value itself.
-pub const SHORT: usize = 22;
+pub const SHORT: usize = 14;
 
-/// A text of at most 22 bytes, which lie in the value itself. A contract sees it as its bytes in UTF-8.
+/// A text of at most 14 bytes, which lie in the value itself. A contract sees it as its bytes in UTF-8.
 #[derive(Debug, Drop)]
 pub struct ShortText {
     len: u8,
@@ -20,13 +20,13 @@ impl Model for ShortText {
 
     ghost view = { λ s. take s.len s.bytes };
 
-    ghost invariant = { λ s. (s.len ≤ 22) × (length s.bytes ≡ 22) × ∥ IsUtf8 (take s.len s.bytes) ∥₁ };
+    ghost invariant = { λ s. (s.len ≤ 14) × (length s.bytes ≡ 14) × ∥ IsUtf8 (take s.len s.bytes) ∥₁ };
 }
 
 impl ShortText {
     /// The text, where it is short enough.
     pub fn of(text: &str) -> Option<ShortText>
-        ensures short { IsSome result ↔ (length text.now ≤ 22) }
+        ensures short { IsSome result ↔ (length text.now ≤ 14) }
         ensures text { IfSome result (λ short. short ≡ text.now) }
     {
         let given = text.as_bytes();

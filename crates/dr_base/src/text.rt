@@ -17,8 +17,8 @@ use std::sync::Arc;
 /// A text. A contract sees it as its bytes in UTF-8, and it is compared and ordered by them: a letter of more bytes comes
 /// after one of fewer, and so letters are in the order of their Unicode scalar values (unlike in UTF-16).
 ///
-/// A text of at most 22 bytes lies in the value itself, and takes no memory. A longer one lies in memory that its copies
-/// share, so a copy takes none either. Either way the value has the size of a `String`.
+/// A text of at most 14 bytes lies in the value itself, and takes no memory. A longer one lies in memory that its copies
+/// share, so a copy takes none either. Either way the value has 16 bytes.
 #[derive(Debug, Drop)]
 pub struct Text(Kept);
 
@@ -49,7 +49,7 @@ impl Text {
         }
     }
 
-    /// The text of a string. A string of at most 22 bytes is copied into the text and let go.
+    /// The text of a string. A string of at most 14 bytes is copied into the text and let go.
     pub fn from_string(alloc: Global, text: String) -> Result<Text, AllocError>
         ensures { IfOk result (λ t. t ≡ string_bytes text) }
     {

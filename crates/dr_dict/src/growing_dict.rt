@@ -82,7 +82,7 @@ impl GrowingDict {
 
     /// Adds a text where it is new, and answers its number. An error leaves the dictionary as it was. Refusals: 40
     /// `DictFull` exactly where the text is new and there are as many texts as there may be. It takes expected time by the
-    /// bytes of the text, which is hashed once; a text of more than 22 bytes is shared.
+    /// bytes of the text, which is hashed once; a text of more than 14 bytes is shared.
     pub fn add(&mut self, text: &Text) -> Result<u32, DictError>
         ensures number { IfOk result (λ n. number_in self.new.texts text.now ≡ Some n) }
         ensures ok { OnOk result (self.new ≡ with_texts self.old (with_text self.old.texts text.now)) }
@@ -107,7 +107,7 @@ impl GrowingDict {
         self.texts.truncate(len);
     }
 
-    /// An equal dictionary in memory of its own, but for texts of more than 22 bytes, which are shared. The only error is
+    /// An equal dictionary in memory of its own, but for texts of more than 14 bytes, which are shared. The only error is
     /// that memory ran out. It takes time by the texts.
     pub fn copy(&self) -> Result<GrowingDict, AllocError>
         ensures { IfOk result (λ dict. dict ≡ self.now) }

@@ -6,8 +6,8 @@ use Rattle.serde_json.specs.Data.{Data, Members, no_members}
 use Rattle.serde_json.specs.Read.{read, of_json, of_members, converted}
 use Rattle.dr_base.specs.Reading.{◌>>=◌, passed}
 use Rattle.dr_base.specs.Json.{or_not_json}
-use Rattle.dr_events.specs.declared.values.Begun.{Begun}
-use Rattle.dr_events.specs.declared.values.Begun.TheVariants.{Whole, List as ListBegun, Object as ObjectBegun, Wrong}
+use Rattle.dr_events.specs.declared.begun.Begun.{Begun}
+use Rattle.dr_events.specs.declared.begun.Begun.TheVariants.{Whole, List as ListBegun, Object as ObjectBegun, Wrong}
 use Rattle.dr_events.specs.Scalars.{data_of, plain}
 use Rattle.dr_events.specs.declared.unparseable.Unparseable.{Unparseable}
 use Rattle.dr_events.specs.declared.unparseable.Unparseable.TheVariants.{NotAnObject}

@@ -2,6 +2,7 @@
 //! Each line is either the one event that it spells or the first refusal.
 #![tactic(auto)]
 
+mod begun;
 mod dimension;
 mod event_reader;
 mod event_time;

@@ -3,24 +3,14 @@ ghost use Rattle.json.specs.Json.{value, items, members};
 ghost use Rattle.serde_json.specs.Data.{Data, no_members};
 ghost use Rattle.serde_json.specs.Read.{of_json, of_items, of_members, converted};
 ghost use Rattle.dr_events.specs.Scalars.{data_of, plain};
-ghost use Rattle.dr_events.specs.Passed.{rest, Begins};
-ghost use Rattle.json.specs.Reads.{token_of};
+ghost use Rattle.dr_events.specs.Passed.{rest};
 
-use crate::numerals::number_in;
+use crate::begun::{Begun, told_by};
 use crate::scalar::Scalar;
-use json::{Invalid, Reader, Token};
+use json::{Invalid, Reader};
 
 /// How deep the values of an object nest at most, the object itself not counted.
 const DEPTH: usize = 126;
-
-/// What the first token of a value tells: all that columns see of it, that a list or an object begins, or that there is no
-/// value.
-enum Begun<'a> {
-    Whole(Scalar<'a>),
-    List,
-    Object,
-    Wrong,
-}
 
 /// What columns tell of the next value, which is checked as JSON whole, and taken from the reader. Lists and objects may nest
 /// `DEPTH` deep; none of what they hold is kept, and nothing takes memory. It takes time by the bytes of the value.
@@ -42,24 +32,6 @@ pub fn read_value<'a>(reader: &mut Reader<'a>) -> Result<Scalar<'a>, Invalid>
             Ok(Scalar::Other)
         }
         Begun::Wrong => Err(Invalid),
-    }
-}
-
-#[inline(always)]
-fn told_by(token: Token<'_>) -> Begun<'_>
-    ensures { Begins (token_of token.entry) result }
-{
-    match token {
-        Token::Null => Begun::Whole(Scalar::Null),
-        Token::Bool(truth) => Begun::Whole(Scalar::Bool(truth)),
-        Token::String(text) => Begun::Whole(Scalar::Text(text)),
-        Token::Number(text) => match number_in(text) {
-            Some(number) => Begun::Whole(number),
-            None => Begun::Wrong,
-        },
-        Token::BeginArray => Begun::List,
-        Token::BeginObject => Begun::Object,
-        Token::EndObject | Token::EndArray | Token::Key(_) | Token::Bad => Begun::Wrong,
     }
 }
 

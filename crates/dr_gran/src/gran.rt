@@ -123,7 +123,15 @@ fn into_bucket(time: i64, origin: i64, length: u32) -> i64
     ensures value { result ≡ int_rem_euclid (time -ℤ origin) (pos length) }
     ensures bound { IsBetween (pos 0) (pos 4294967295) result }
 {
-    (time - origin).rem_euclid(i64::from(length))
+    let past = time - origin;
+    // What most streams are truncated to stands as a constant, by which a division is a multiplication.
+    match length {
+        1_000 => past.rem_euclid(1_000),
+        60_000 => past.rem_euclid(60_000),
+        3_600_000 => past.rem_euclid(3_600_000),
+        86_400_000 => past.rem_euclid(86_400_000),
+        _ => past.rem_euclid(i64::from(length)),
+    }
 }
 
 /// The month in which a time lies; the months are numbered through from January of the year 0.

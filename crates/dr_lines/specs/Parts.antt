@@ -1,5 +1,5 @@
 -- A line that comes in parts.
-use Rattle.std.specs.Prelude.{◌≡◌, ℕ, ◌+◌, ◌<◌, Bool, not, ◌&&◌, ◌==◌, if◌then◌else◌, Result, MatchResult, List, [], ◌∷◌, ◌++◌, length, take, drop, MatchBool}
+use Rattle.std.specs.Prelude.{◌≡◌, ◌≢◌, ℕ, ◌+◌, ◌-◌, ◌<◌, ◌≤◌, get_or, Bool, not, ◌&&◌, ◌==◌, if◌then◌else◌, Result, MatchResult, List, [], ◌∷◌, ◌++◌, length, take, drop, MatchBool}
 use Rattle.dr_lines.specs.Lines.{Reading, IsInLine, longest_line, CountsFailure}
 use Rattle.dr_lines.specs.declared.next_line.NextLine.{NextLine}
 use Rattle.dr_lines.specs.declared.next_line.NextLine.TheVariants.{Line, TooLong, End, Failed}
@@ -7,6 +7,11 @@ use Rattle.dr_lines.specs.declared.next_line.NextLine.TheVariants.{Line, TooLong
 -- the first newline stands at that place
 abbrev pub IsLineEnd : List ℕ → ℕ → Type 0
 IsLineEnd bytes at = (at < length bytes) × IsInLine (take at bytes) × (bytes ≡ take at bytes ++ 10 ∷ drop (at + 1) bytes)
+
+-- of the first bytes of a buffer, so many, those before that place are whole lines: a newline stands before it, if any, and none behind it
+abbrev pub EndsLines : List ℕ → ℕ → ℕ → Type 0
+EndsLines bytes count place =
+    (place ≤ count) × (0 < place → get_or bytes (place - 1) 10 ≡ 10) × ((i : ℕ) → place ≤ i → i < count → get_or bytes i 10 ≢ 10)
 
 -- the bytes of a line so far are kept, or are more than a line may have
 abbrev pub Holds : Reading → List ℕ → Type 0

@@ -2,12 +2,12 @@ ghost use Rattle.std.specs.Prelude.{◌≡◌, min, ◌^◌, ◌+◌, ◌-◌, �
 ghost use Rattle.std.specs.Io.KnownBytes.{Keeps, Consumes, IsAtEnd};
 ghost use Rattle.dr_lines.specs.Failures.{failures_of, reads_of, inner_of, failures_after};
 ghost use Rattle.dr_lines.specs.Lines.{left_to_read, longest_line, most_reads, IsInLine, FoundLine, AnswersLine, CountsFailure, CountsReads, steps_left};
-ghost use Rattle.dr_lines.specs.Parts.{TakesPart, Grows, IsLineEnd, CountsFault, whole_line, last_line};
+ghost use Rattle.dr_lines.specs.Parts.{EndsLines, TakesPart, Grows, IsLineEnd, CountsFault, whole_line, last_line};
 
 use crate::counted::Counted;
 use crate::line_error::LineError;
 use crate::next_line::NextLine;
-use memchr::memchr;
+use memchr::{memchr, memrchr};
 use std::alloc::{AllocError, Global};
 use std::io;
 use std::io::Read;
@@ -29,6 +29,8 @@ pub struct LineReader {
     buffer: Vec<u8>,
     start: usize,
     end: usize,
+    // Behind the last newline among the bytes up to `end`.
+    whole: usize,
     line: Vec<u8>,
     is_too_long: bool,
     reads: u64,
@@ -37,6 +39,7 @@ pub struct LineReader {
 impl Model for LineReader {
     ghost use Rattle.std.specs.Prelude.{◌≡◌, ◌≤◌, slice_range, vec_len, vec_capacity};
     ghost use Rattle.dr_lines.specs.Lines.{Reading, longest_line, most_reads};
+    ghost use Rattle.dr_lines.specs.Parts.{EndsLines};
 
     ghost Value = { Reading };
 
@@ -48,7 +51,8 @@ impl Model for LineReader {
     } };
 
     ghost invariant = { λ r. (r.start ≤ r.end) × (r.end ≤ vec_len r.buffer) × (vec_len r.buffer ≡ 65536)
-        × (vec_len r.line ≤ longest_line) × (longest_line ≤ vec_capacity r.line) × (r.reads ≤ most_reads) };
+        × (vec_len r.line ≤ longest_line) × (longest_line ≤ vec_capacity r.line) × (r.reads ≤ most_reads)
+        × EndsLines r.buffer.items r.end r.whole };
 }
 
 impl LineReader {
@@ -61,6 +65,7 @@ impl LineReader {
             buffer: empty_buffer(alloc)?,
             start: 0,
             end: 0,
+            whole: 0,
             line: Vec::with_capacity(alloc, LONGEST_LINE)?,
             is_too_long: false,
             reads: 0,
@@ -78,7 +83,7 @@ impl LineReader {
     pub fn has_line(&self) -> bool
         ensures { IsTrue result ↔ Contains self.now.ahead 10 }
     {
-        newline(self.ahead()).is_some()
+        self.start < self.whole
     }
 
     /// Reads the next line.
@@ -165,9 +170,11 @@ impl LineReader {
         self.reads += 1;
         self.start = 0;
         self.end = 0;
+        self.whole = 0;
         match read_over(reader, &mut self.buffer) {
             Ok(count) => {
                 self.end = count;
+                self.whole = lines_end(&self.buffer, count);
                 Ok(())
             }
             Err(_) => Err(LineError::ReadFault),
@@ -229,6 +236,17 @@ fn empty_buffer(alloc: Global) -> Result<Vec<u8>, AllocError>
     ensures { IfOk result (λ buffer. vec_len buffer ≡ 65536) }
 {
     vec![in alloc; 0; BUFFER_BYTES]
+}
+
+// The place behind the last newline among so many bytes; 0 where there is none.
+fn lines_end(buffer: &Vec<u8>, count: usize) -> usize
+    requires { count ≤ vec_len buffer.now }
+    ensures { EndsLines buffer.now.items count result }
+{
+    match memrchr(b'\n', &buffer[..count]) {
+        Some(at) => at + 1,
+        None => 0,
+    }
 }
 
 // The place of the first newline.

@@ -120,7 +120,7 @@ impl OpenIndex {
         Ok(rows)
     }
 
-    /// An equal index in memory of its own, but for the schema and texts of more than 22 bytes, which are shared. The only
+    /// An equal index in memory of its own, but for the schema and texts of more than 14 bytes, which are shared. The only
     /// error is that memory ran out. It takes time by the rows, and sorts none.
     pub fn copy(&self) -> Result<OpenIndex, AllocError>
         ensures { IfOk result (λ index. index ≡ self.now) }

@@ -7,7 +7,7 @@ use Rattle.serde_json.specs.Data.{null, boolean, number, string}
 use Rattle.serde_json.specs.Read.{number_of, of_json, converted}
 use Rattle.dr_events.specs.Scalars.{data_of}
 use Rattle.dr_events.proofs.Conversions.{number_some, number_none}
-use Rattle.dr_events.proofs.values.told_by.Goals as goal
+use Rattle.dr_events.proofs.begun.told_by.Goals as goal
 
 pub returns-in-Null : goal.returns-in-Null
 returns-in-Null c =
