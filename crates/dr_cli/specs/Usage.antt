@@ -1,58 +1,154 @@
--- The command line of the program.
-use Rattle.std.specs.Prelude.{◌≡◌, ◌⊎◌, ℕ, true, ◌≤◌, List, [], ◌∷◌, Option, Some, None, option_map, Result, Ok, Err, codes, if◌then◌else◌}
+-- The command line of the program: what `clap` is told of its words, and what it asks for, by what `clap` reads.
+use Rattle.std.specs.Prelude.{◌≡◌, ◌⊎◌, ℕ, Bool, true, nat_le, ◌≤◌, ◌&&◌, List, [], ◌∷◌, length, map, Option, Some, None, Result, Ok, Err, codes, if◌then◌else◌}
 use Rattle.std.specs.Str.{bytes_eq}
-use Rattle.clap.specs.Words.{App, Text, fault_of, new_app, subcommand_of, with_subcommand}
+use Rattle.clap.specs.Lexer.{usize_max}
+use Rattle.clap.specs.Words.{App, Row, Rule, Text, all_of, fault_of, first_of, new_app, new_rule, subcommand_of, with_rule, with_subcommand}
 use Rattle.clap.specs.Kinds.{Kinds}
 use Rattle.clap.specs.Simple.{on_top}
+use Rattle.clap.specs.Walk.{byte_or_zero}
+use Rattle.clap.specs.declared.builder.action.ArgAction.TheVariants.{Set}
 use Rattle.clap.specs.declared.error.kind.ErrorKind.{ErrorKind}
 use Rattle.clap.specs.declared.error.kind.ErrorKind.TheVariants.{OutOfMemory}
-use Rattle.dr_base.specs.Reading.{GivesUnless}
+use Rattle.dr_base.specs.Reading.{◌>>=◌}
 use Rattle.dr_cli.specs.declared.cli_error.CliError.{CliError}
 use Rattle.dr_cli.specs.declared.cli_error.CliError.TheVariants.{NoMemory, BadUsage}
 use Rattle.dr_cli.specs.declared.command.Command.{Command}
-use Rattle.dr_cli.specs.declared.command.Command.TheVariants.{Run}
-use Rattle.dr_cli.specs.Refusal.{is_memory}
+use Rattle.dr_cli.specs.declared.command.Command.TheVariants.{Run, Load, Dump}
 
--- what a function returned, seen by view, is what the reading gives, unless memory ran out
-abbrev pub Gives : {X Y : Type 0} → (X → Y) → Result X CliError → Result Y CliError → Type 0
-Gives view result reading = GivesUnless is_memory view result reading
+-- what the program is asked to do
+pub data Asked : Type 0 where
+  run : (workers : ℕ) → Asked
+  load : (workers : ℕ) (spec query : Text) (files : List Text) → Asked
+  dump : (file : Text) → Asked
 
--- what the words behind the program's name ask for: `run` alone is a run with one worker
-abbrev pub command_of : List (List ℕ) → Result Command CliError
-command_of [] = Err BadUsage
-command_of (word ∷ []) = if bytes_eq (codes "run") word then Ok (Run 1) else Err BadUsage
-command_of (word ∷ next ∷ words) = Err BadUsage
+abbrev pub seen : Command → Asked
+seen (Run workers) = run workers
+seen (Load workers spec query files) = load workers spec.now query.now (map (λ file. file.now) files.items)
+seen (Dump file) = dump file.now
 
--- there are 1 to 16 workers
+-- there are 1 to 16 workers, and 1 to 6 files
+abbrev pub AreWorkers : ℕ → Type 0
+AreWorkers workers = (1 ≤ workers) × (workers ≤ 16)
+
+abbrev pub AreFiles : {A : Type 0} → List A → Type 0
+AreFiles files = (1 ≤ length files) × (length files ≤ 6)
+
 abbrev pub IsInBounds : Command → Type 0
-IsInBounds (Run workers) = (1 ≤ workers) × (workers ≤ 16)
+IsInBounds (Run workers) = AreWorkers workers
+IsInBounds (Load workers spec query files) = AreWorkers workers × AreFiles files.items
+IsInBounds (Dump file) = Unit {0}
 
--- ---- what `clap` is told, and what it reads
+-- ---- what `clap` is told
 
--- the program's words: a subcommand, and no request for help
+-- the option `--workers N`
+abbrev pub workers_rule : Rule
+workers_rule = record (new_rule (codes "workers")) { long = Some (codes "workers"); action = Some Set }
+
+-- a word that has to be there
+abbrev pub word_rule : Text → Rule
+word_rule id = record (new_rule id) { required = true; action = Some Set }
+
+-- one word at least
+abbrev pub files_rule : Rule
+files_rule = record (new_rule (codes "FILE")) { required = true; action = Some Set; range = Some (record { start_inclusive = 1; end_inclusive = usize_max }) }
+
+unfoldable pub run_usage : App
+run_usage = with_rule (new_app (codes "run")) workers_rule
+
+unfoldable pub load_usage : App
+load_usage = with_rule (with_rule (with_rule (with_rule (new_app (codes "load")) workers_rule) (word_rule (codes "SPEC"))) (word_rule (codes "QUERY"))) files_rule
+
+unfoldable pub dump_usage : App
+dump_usage = with_rule (new_app (codes "dump")) (word_rule (codes "FILE"))
+
+-- the program's words: a subcommand with its words, and no request for help
 unfoldable pub usage : App
-usage = with_subcommand
+usage =
+    with_subcommand (with_subcommand (with_subcommand
     (on_top (λ s. record s { no_binary_name = true; disable_help_flag = true; disable_help_subcommand = true; subcommand_required = true }) (new_app (codes "druid-node")))
-    (new_app (codes "run")).top
+    run_usage.top) load_usage.top) dump_usage.top
 
--- a name that was found, where `clap` has no fault to tell
-abbrev pub without_fault : Kinds → Option Text → Result Text CliError
-without_fault [] (Some name) = Ok name
+-- ---- what `clap` reads
+
+-- what was found, where `clap` has no fault to tell
+abbrev pub without_fault : {A : Type 0} → Kinds → Option A → Result A CliError
+without_fault [] (Some found) = Ok found
 without_fault [] None = Err BadUsage
-without_fault (kind ∷ kinds) name = Err BadUsage
+without_fault (kind ∷ kinds) found = Err BadUsage
 
 -- the faults that `clap` finds in the words
 unfoldable pub faults : List Text → Kinds
 faults words = fault_of usage words
 
--- the name of the subcommand that `clap` finds in them
-unfoldable pub found : List Text → Option Text
-found words = option_map (λ entry. entry.0) (subcommand_of usage words)
-
--- the subcommand that the words name
-abbrev pub subcommand_in : List Text → Result Text CliError
-subcommand_in words = without_fault (faults words) (found words)
+-- the subcommand that `clap` finds in them, with the values of its words
+unfoldable pub found : List Text → Option (Text × List Row)
+found words = subcommand_of usage words
 
 -- the refusal for an error of that kind: want of memory, or bad usage
 abbrev pub IsRefusedFor : ErrorKind → CliError → Type 0
 IsRefusedFor kind refusal = ((kind ≡ OutOfMemory) × (refusal ≡ NoMemory)) ⊎ ((kind ≡ OutOfMemory → ⊥) × (refusal ≡ BadUsage))
+
+-- ---- what it asks for
+
+abbrev pub or_bad_usage : {A : Type 0} → Option A → Result A CliError
+or_bad_usage (Some x) = Ok x
+or_bad_usage None = Err BadUsage
+
+-- a decimal number of 1 to 16
+abbrev pub workers_of : Text → Result ℕ CliError
+workers_of text = if nat_le 1 (byte_or_zero text) && nat_le (byte_or_zero text) 16 then Ok (byte_or_zero text) else Err BadUsage
+
+-- that many workers, and one where nothing is said
+abbrev pub workers_by : Option Text → Result ℕ CliError
+workers_by None = Ok 1
+workers_by (Some text) = workers_of text
+
+abbrev pub workers_in : List Row → Result ℕ CliError
+workers_in rows = workers_by (first_of (codes "workers") rows)
+
+abbrev pub word_in : Text → List Row → Result Text CliError
+word_in id rows = or_bad_usage (first_of id rows)
+
+-- 1 to 6
+abbrev pub is_few : ℕ → Bool
+is_few count = nat_le 1 count && nat_le count 6
+
+abbrev pub few : List Text → Result (List Text) CliError
+few files = if is_few (length files) then Ok files else Err BadUsage
+
+abbrev pub files_in : List Row → Result (List Text) CliError
+files_in rows = do
+  files ← or_bad_usage (all_of (codes "FILE") rows)
+  few files
+
+abbrev pub run_in : List Row → Result Asked CliError
+run_in rows = do
+  workers ← workers_in rows
+  Ok (run workers)
+
+abbrev pub load_in : List Row → Result Asked CliError
+load_in rows = do
+  workers ← workers_in rows
+  spec ← word_in (codes "SPEC") rows
+  query ← word_in (codes "QUERY") rows
+  files ← files_in rows
+  Ok (load workers spec query files)
+
+abbrev pub dump_in : List Row → Result Asked CliError
+dump_in rows = do
+  file ← word_in (codes "FILE") rows
+  Ok (dump file)
+
+-- by the name of the subcommand
+abbrev pub named : Text × List Row → Result Asked CliError
+named (name, rows) =
+    if bytes_eq (codes "run") name then run_in rows
+    else if bytes_eq (codes "load") name then load_in rows
+    else if bytes_eq (codes "dump") name then dump_in rows
+    else Err BadUsage
+
+-- what the words behind the program's name ask for
+abbrev pub command_of : List Text → Result Asked CliError
+command_of words = do
+  entry ← without_fault (faults words) (found words)
+  named entry

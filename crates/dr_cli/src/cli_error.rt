@@ -1,40 +1,82 @@
-ghost use Rattle.std.specs.Prelude.{◌≡◌};
-ghost use Rattle.dr_cli.specs.declared.cli_error.CliError.TheVariants.{NoMemory};
-ghost use Rattle.dr_cli.specs.Refusal.{number_of, name_of};
+ghost use Rattle.std.specs.Prelude.{◌≡◌, ◌++◌, IfOk, codes};
+ghost use Rattle.dr_base.specs.FaultLine.{fault_line};
+ghost use Rattle.dr_cli.specs.declared.cli_error.CliError.TheVariants.{NoMemory, Dump};
+ghost use Rattle.dr_cli.specs.Refusal.{arg_of, number_of, name_of};
 
-use std::alloc::{AllocError, AllocFailed};
+use dr_base::{Arg, Text, fault_line};
+use dr_dump::DumpError;
+use std::alloc::{AllocError, AllocFailed, Global};
 use thiserror::Error;
 
-/// Why a command line was refused.
-#[derive(Clone, Copy, Debug, PartialEq, Eq, Error)]
+/// Why the program refused what it was asked.
+#[derive(Debug, Drop, Error)]
 pub enum CliError {
     /// 0: memory ran out.
     #[error("out of memory")]
     NoMemory,
+    /// 0, 50 to 58, or 101: a file spells no image.
+    #[error(transparent)]
+    Dump(DumpError),
+    /// 96: the file of that path can't be opened or read.
+    #[error("{0} can't be read")]
+    FileFault(Text),
     /// 103: the words of the command line are none that the program takes.
     #[error("bad usage")]
     BadUsage,
 }
 
 impl CliError {
-    /// The number of the refusal, 0 or 103.
-    pub fn number(self) -> u16
-        ensures { result ≡ number_of self }
+    /// The number of the refusal.
+    pub fn number(&self) -> u16
+        ensures { result ≡ number_of self.now }
     {
         match self {
             CliError::NoMemory => 0,
+            CliError::Dump(error) => error.number(),
+            CliError::FileFault(_) => 96,
             CliError::BadUsage => 103,
         }
     }
 
     /// The name of the refusal, as `BadUsage`.
-    pub fn name(self) -> &'static str
-        ensures { result.now ≡ name_of self }
+    pub fn name(&self) -> &'static str
+        ensures { result.now ≡ name_of self.now }
     {
         match self {
             CliError::NoMemory => "NoMemory",
+            CliError::Dump(error) => error.name(),
+            CliError::FileFault(_) => "FileFault",
             CliError::BadUsage => "BadUsage",
         }
+    }
+
+    /// The path of the file, where the refusal carries one.
+    pub fn arg(self) -> Option<Arg>
+        ensures { result ≡ arg_of self }
+    {
+        match self {
+            CliError::FileFault(path) => Some(Arg::Name(path)),
+            _ => None,
+        }
+    }
+
+    /// The line of the refusal: `refused NUMBER NAME`, the path as JSON text where there is one, and a newline. The only error
+    /// is that memory ran out.
+    pub fn line(self, alloc: Global) -> Result<Vec<u8>, AllocError>
+        ensures { IfOk result (λ line. line.items ≡ fault_line (number_of self) (name_of self) (arg_of self) ++ codes "\n") }
+    {
+        let (number, name) = (self.number(), self.name());
+        let mut line = fault_line(alloc, number, name, self.arg())?;
+        line.push(b'\n')?;
+        Ok(line)
+    }
+}
+
+impl From<DumpError> for CliError {
+    ghost from_gives = { λ e result. result ≡ Dump e };
+
+    fn from(error: DumpError) -> CliError {
+        CliError::Dump(error)
     }
 }
 
