@@ -1,5 +1,5 @@
 -- Rows of an image that are added column by column.
-use Rattle.std.proofs.Common.{◌≡◌, ◌∙◌, sym, refl, ap, subst, ℕ, zero, suc, ◌+◌, ◌-◌, ◌<◌, ◌≤◌, ℤ, Bool, true, false, true≢false, cond, List, [], ◌∷◌, ◌++◌, map, length, get_or, drop, take, slice_get, slice_set, is_some, unwrap_or, Option, None, Some, Result, Ok, Err, OnOk, arith}
+use Rattle.std.proofs.Common.{◌≡◌, ◌∙◌, sym, refl, ap, subst, ℕ, zero, suc, ◌+◌, ◌-◌, ◌<◌, ◌≤◌, ℤ, true, false, true≢false, cond, List, [], ◌∷◌, ◌++◌, map, length, get_or, drop, slice_get, slice_set, is_some, unwrap_or, Some, Result, Ok, Err, OnOk, arith}
 use Rattle.std.specs.List.{AllByRecursion, range_with_len}
 use Rattle.std.proofs.lemmas.List.{append-nil, length-map}
 use Rattle.dr_base.specs.declared.key.Key.{Key}
@@ -18,7 +18,7 @@ use Rattle.dr_image.specs.Table.{Table, row_at}
 use Rattle.dr_columns.specs.declared.reading.Reading.{Reading}
 use Rattle.dr_columns.specs.Read.{read_at}
 use Rattle.dr_partial.specs.declared.known.Known.{Known}
-use Rattle.dr_partial.specs.Grouped.{IsSound, Adds, AddsAll, CombinesAt, in_order, with_rows}
+use Rattle.dr_partial.specs.Grouped.{IsSound, Adds, AddsAll, CombinesAt, in_order}
 use Rattle.dr_partial.specs.Known.{AreKnown, KeepsKeys, group_in}
 use Rattle.dr_partial.specs.Partial.{kinds_in, alone}
 use Rattle.dr_columns.specs.Rows.{rows_between}

@@ -1,4 +1,4 @@
-use Rattle.std.proofs.Common.{◌≡◌, ◌∙◌, ap, sym, map, length, slice_set, ◌∷◌, []}
+use Rattle.std.proofs.Common.{◌∙◌, ap, sym, map, length, slice_set, ◌∷◌, []}
 use Rattle.std.proofs.lemmas.List.{length-map}
 use Rattle.dr_agg.specs.Combination.{combine_columns}
 use Rattle.dr_answers.specs.Fold.{folds}
