@@ -1,5 +1,5 @@
 -- Rows of an image that are added column by column.
-use Rattle.std.proofs.Common.{◌≡◌, ◌∙◌, sym, refl, ap, subst, ℕ, zero, suc, ◌+◌, ◌-◌, ◌<◌, ◌≤◌, ℤ, Bool, true, false, true≢false, cond, List, [], ◌∷◌, ◌++◌, map, length, get_or, drop, take, slice_get, slice_set, is_some, unwrap_or, Option, None, Some, Result, Ok, Err, OnOk, arith}
+use Rattle.std.proofs.Common.{◌≡◌, ◌∙◌, sym, refl, ap, subst, ℕ, zero, suc, ◌+◌, ◌-◌, ◌<◌, ◌≤◌, ℤ, true, false, true≢false, cond, List, [], ◌∷◌, ◌++◌, map, length, get_or, drop, slice_get, slice_set, is_some, unwrap_or, Some, Result, Ok, Err, OnOk, arith}
 use Rattle.std.specs.List.{AllByRecursion, range_with_len}
 use Rattle.std.proofs.lemmas.List.{append-nil, length-map}
 use Rattle.dr_base.specs.declared.key.Key.{Key}
@@ -18,7 +18,7 @@ use Rattle.dr_image.specs.Table.{Table, row_at}
 use Rattle.dr_columns.specs.declared.reading.Reading.{Reading}
 use Rattle.dr_columns.specs.Read.{read_at}
 use Rattle.dr_partial.specs.declared.known.Known.{Known}
-use Rattle.dr_partial.specs.Grouped.{IsSound, Adds, AddsAll, CombinesAt, in_order, with_rows}
+use Rattle.dr_partial.specs.Grouped.{IsSound, Adds, AddsAll, CombinesAt, in_order}
 use Rattle.dr_partial.specs.Known.{AreKnown, KeepsKeys, group_in}
 use Rattle.dr_partial.specs.Partial.{kinds_in, alone}
 use Rattle.dr_columns.specs.Rows.{rows_between}
@@ -123,8 +123,8 @@ module _ (q : Asked) where
     sound = adds.sound;
     groups = adds.groups ∙ sym (
         ap (λ b. rollup_onto true (kinds_in q.aggregations) (in_order before) (map (alone q) (cond b (r ∷ selected q rest) (selected q rest)))) all.0.0
-            ∙ ap (λ (j : Key). rollup_onto true (kinds_in q.aggregations) (add_row true (kinds_in q.aggregations) (in_order before) (record { key = j; metrics = folds q.aggregations (r ∷ []) })) (map (alone q) (selected q rest))) all.0.1
-            ∙ more_of (in_order before) (r ∷ []) rest k all.1);
+        ∙ ap (λ (j : Key). rollup_onto true (kinds_in q.aggregations) (add_row true (kinds_in q.aggregations) (in_order before) (record { key = j; metrics = folds q.aggregations (r ∷ []) })) (map (alone q) (selected q rest))) all.0.1
+        ∙ more_of (in_order before) (r ∷ []) rest k all.1);
   }
 
 -- ---- the rows from a number on, up to another
@@ -150,7 +150,7 @@ run-added q t from to before after k values (Ok u) lt each is adds =
     let rest = rows_between t (from + 1) to in
     subst (λ l. AddsAll q before l after) (sym first)
     (together-added q before after k (row_at t from) rest (subst (AllByRecursion (IsOf q k)) first (all-between (IsOf q k) t from to (omega (arith, lt)) each))
-        (subst (λ m. Adds (kinds_in q.aggregations) before (record { key = k; metrics = m }) after) (is ∙ ap (folds q.aggregations) first) adds))
+    (subst (λ m. Adds (kinds_in q.aggregations) before (record { key = k; metrics = m }) after) (is ∙ ap (folds q.aggregations) first) adds))
 
 -- ---- rows that are left out
 

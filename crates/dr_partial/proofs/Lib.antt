@@ -5,3 +5,4 @@ pub mod Pieces
 pub mod Made
 pub mod ByColumns
 pub mod Moved
+pub mod Merged

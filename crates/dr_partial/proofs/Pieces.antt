@@ -18,7 +18,7 @@ use Rattle.dr_answers.specs.Selection.{selects, selected}
 use Rattle.dr_partial.specs.Grouped.{bare, folds_alone, IsSound, Adds, AddsAll, in_order, with_rows}
 use Rattle.dr_partial.specs.Partial.{kinds_in, alone}
 
-onto_append : (kinds : List Kind) (rows a b : List Row) → rollup_onto true kinds rows (a ++ b) ≡ rollup_onto true kinds (rollup_onto true kinds rows a) b
+pub onto_append : (kinds : List Kind) (rows a b : List Row) → rollup_onto true kinds rows (a ++ b) ≡ rollup_onto true kinds (rollup_onto true kinds rows a) b
 unfolding rollup_onto
 onto_append kinds rows [] b = refl
 onto_append kinds rows (e ∷ a) b = onto_append kinds (add_row true kinds rows e) a b

@@ -106,11 +106,7 @@ impl Partial {
 
     /// The groups of the rows of an open index, whose times lie from 0001-01-01 to 9999-12-31, in one pass over the rows as they
     /// lie there: none is copied, and none sorted. Error and cost are those of `of_rows`.
-    pub fn of_index(
-        alloc: Global,
-        query: &Query,
-        index: &OpenIndex,
-    ) -> Result<Partial, AllocError>
+    pub fn of_index(alloc: Global, query: &Query, index: &OpenIndex) -> Result<Partial, AllocError>
         requires { AllByRecursion (λ r. IsInstant r.key.time) index.now.rows }
         ensures value { IfOk result (λ p. p ≡ partial (asked query.now) index.now.rows) }
         ensures printable { All StartsPrintable query.now.intervals → IfOk result (λ p. AllByRecursion (λ g. IsPrintable g.key.time) p) }

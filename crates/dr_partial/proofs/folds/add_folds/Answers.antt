@@ -1,4 +1,4 @@
-use Rattle.std.proofs.Common.{◌≡◌, refl, subst, map, List, ℤ}
+use Rattle.std.proofs.Common.{refl, subst, map}
 use Rattle.dr_base.specs.declared.row.Row.{Row}
 use Rattle.dr_rollup.specs.Entries.{row_of}
 use Rattle.dr_partial.specs.Grouped.{CombinesAt}

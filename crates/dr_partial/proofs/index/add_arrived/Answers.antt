@@ -1,5 +1,4 @@
-use Rattle.std.proofs.Common.{sym, refl, subst, ap, ◌∙◌, map, take, get_or, ◌∷◌, [], ◌++◌, arith, length, slice_get, Some, unwrap_or}
-use Rattle.std.proofs.lemmas.List.{take_more}
+use Rattle.std.proofs.Common.{sym, refl, map, arith}
 use Rattle.std.proofs.lemmas.Option.{get_or_from_slice_get}
 use Rattle.dr_base.specs.declared.row.Row.{Row}
 use Rattle.dr_rollup.specs.Entries.{row_of}

@@ -1,4 +1,4 @@
-use Rattle.std.proofs.Common.{◌≡◌, ◌∙◌, sym, refl, ap, subst, ◌++◌, ◌∷◌, [], map, length, rules, FitsSigned, w64, to_z, of_z}
+use Rattle.std.proofs.Common.{◌≡◌, ◌∙◌, sym, refl, ap, subst, ◌∷◌, [], map, length, rules, FitsSigned, w64, to_z, of_z}
 use Rattle.std.proofs.lemmas.Int.{to_z-of_z}
 use Rattle.std.proofs.lemmas.List.{length-map}
 use Rattle.std.proofs.lemmas.Option.{slice_get_within}
@@ -9,7 +9,7 @@ use Rattle.dr_answers.specs.Fold.{folds}
 use Rattle.dr_answers.specs.Groups.{grouped_values}
 use Rattle.dr_image.specs.Table.{row_at}
 use Rattle.dr_columns.specs.Rows.{key_at}
-use Rattle.dr_rollup.specs.Entries.{row_of, HasKeyAt, NoneHas}
+use Rattle.dr_rollup.specs.Entries.{row_of, HasKeyAt}
 use Rattle.dr_partial.specs.Grouped.{Adds}
 use Rattle.dr_partial.specs.Known.{group_in, KeepsKeys}
 use Rattle.dr_partial.specs.Partial.{kinds_in}
@@ -25,7 +25,6 @@ same_key c =
     λ j. record { time = to_z-of_z w64 c.args.bucket fits j; dims = dims j }
 
 -- ---- a known group
-
 
 pub returns-in-Some-clause-adds : goal.returns-in-Some-clause-adds
 returns-in-Some-clause-adds c =

@@ -1,5 +1,4 @@
 use Rattle.std.proofs.Common.{subst, map, OnOk, ◌∷◌, []}
-use Rattle.dr_base.specs.declared.row.Row.{Row}
 use Rattle.dr_rollup.specs.Entries.{row_of}
 use Rattle.dr_ask.specs.Asked.{asked}
 use Rattle.dr_partial.specs.Grouped.{AddsAll}

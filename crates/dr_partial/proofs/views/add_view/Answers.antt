@@ -1,4 +1,4 @@
-use Rattle.std.proofs.Common.{◌≡◌, ◌∙◌, ap, sym, map, false, ◌&&◌, refl, subst, ◌-◌, length, arith}
+use Rattle.std.proofs.Common.{◌≡◌, ap, map, false, ◌&&◌, subst, ◌-◌, length, arith}
 use Rattle.std.specs.List.{AllByRecursion, range_with_len}
 use Rattle.dr_base.specs.declared.row.Row.{Row}
 use Rattle.dr_ask.specs.Asked.{asked}

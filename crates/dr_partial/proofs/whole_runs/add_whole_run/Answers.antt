@@ -1,7 +1,7 @@
-use Rattle.std.proofs.Common.{◌≡◌, ◌∙◌, sym, ap, subst, map, [], ◌<◌, length, ℕ, ◌≤◌, arith, rules, OnOk, FitsSigned, w64, to_z, of_z}
+use Rattle.std.proofs.Common.{◌∙◌, sym, ap, subst, map, [], ◌<◌, ℕ, ◌≤◌, arith, rules, OnOk, FitsSigned, w64, to_z, of_z}
 use Rattle.std.proofs.lemmas.Int.{to_z-of_z}
 use Rattle.dr_base.specs.declared.key.Key.{Key}
-use Rattle.dr_ask.specs.Asked.{asked, dimensions_by}
+use Rattle.dr_ask.specs.Asked.{asked}
 use Rattle.dr_answers.specs.Groups.{bucket, grouped_values}
 use Rattle.dr_columns.specs.Rows.{key_at}
 use Rattle.dr_rollup.specs.Entries.{row_of}

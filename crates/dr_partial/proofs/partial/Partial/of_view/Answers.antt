@@ -1,4 +1,4 @@
-use Rattle.std.proofs.Common.{◌≡◌, ◌∙◌, sym, subst, map, length, ◌-◌, arith}
+use Rattle.std.proofs.Common.{◌≡◌, sym, subst, map, length, ◌-◌, arith}
 use Rattle.std.specs.List.{AllByRecursion, range_with_len}
 use Rattle.dr_base.specs.declared.row.Row.{Row}
 use Rattle.dr_time.specs.Instant.{IsInstant}
