@@ -78,8 +78,6 @@ put-together a r i b c e f g h k = simp append_assoc
 pub none-after : (q : Asked) (s : Scan) (columns : List ScanColumn) (w : Window) (gs : List Segment) → has_left w.left ≡ false → segments_tokens q s columns w gs ≡ []
 none-after q s columns w gs over = at w.skip w.left gs over
   where
-    none-on : (rows : List Row) (front back : List Token) (row : Row → List Token) (size skip : ℕ) → rows_on front back row size 0 (take 0 (drop skip rows)) ≡ []
-    none-on rows front back row size skip = refl
     at : (skip : ℕ) (left : Option ℕ) (gs : List Segment) → has_left left ≡ false → segments_tokens q s columns (record { skip = skip; left = left }) gs ≡ []
     at skip left [] over = refl
     at skip None (g ∷ gs) over = absurd (cc)

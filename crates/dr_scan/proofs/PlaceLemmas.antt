@@ -86,7 +86,7 @@ module _ (segments : List Segment) (order : TimeOrder) where
       let f = row_of segments in
       let rest = put-rows ss p all.1 one in
       (elim (places_cmp order p s) as (λ o. map f (match_ordering o (p ∷ s ∷ ss) (s ∷ put_by (places_cmp order) ss p) (s ∷ put_by (places_cmp order) ss p))
-        ≡ match_ordering o (f p ∷ f s ∷ map f ss) (f s ∷ put_by by_row (map f ss) (f p)) (f s ∷ put_by by_row (map f ss) (f p)))
+      ≡ match_ordering o (f p ∷ f s ∷ map f ss) (f s ∷ put_by by_row (map f ss) (f p)) (f s ∷ put_by by_row (map f ss) (f p)))
       [ Less ↦ refl | Equal ↦ ap (λ t. f s ∷ t) rest | Greater ↦ ap (λ t. f s ∷ t) rest ])
       ∙ ap (λ o. match_ordering o (f p ∷ f s ∷ map f ss) (f s ∷ put_by by_row (map f ss) (f p)) (f s ∷ put_by by_row (map f ss) (f p))) (same_cmp p s one all.0)
 

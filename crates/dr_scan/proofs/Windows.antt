@@ -31,6 +31,7 @@ given-more w r rs = by_skip w.skip w.left
     by_left None = refl
     by_left (Some zero) = refl
     by_left (Some (suc n)) = ap (λ k. r ∷ take k rs) (sym (one_less n)) ∙ ap (λ (b : Bool). cond b (r ∷ take (suc n - 1) rs) (take (suc n - 1) rs)) (sym (some n))
+
     by_skip : (skip : ℕ) (left : Option ℕ) → given (window skip left) (r ∷ rs) ≡ cond (takes (window skip left)) (r ∷ given (moved (window skip left)) rs) (given (moved (window skip left)) rs)
     by_skip zero left = by_left left
     by_skip (suc k) left =
@@ -47,6 +48,7 @@ after-more w n = by_skip w.skip w.left
   where
     same : (a b : ℕ) (c d : Option ℕ) → a ≡ b → c ≡ d → window a c ≡ window b d
     same a b c d e f = λ i. record { skip = e i; left = f i }
+
     by_skip : (skip : ℕ) (left : Option ℕ) → after (moved (window skip left)) n ≡ after (window skip left) (n + 1)
     by_skip zero left = same (zero - n) (zero - (n + 1)) (less (less left 1) (n - zero)) (less left (n + 1 - zero)) (omega arith) (less-less left 1 (n - zero) ∙ ap (less left) (omega arith))
     by_skip (suc k) left =

@@ -12,6 +12,6 @@ returns-in-List c =
     let columns = c.args.scan.now.columns in
     IfOk-weaker c.by_name.result _ _
     (λ cs is r.
-      subst (λ (format : ResultFormat). written_row format cs r ≡ row_data format columns r) (sym c.in-List.is)
-      (row-by_name r columns cs (is ∙ ap (λ (all : List ScanColumn). map column_of (with_sources [] all)) c.as_slice.ensures)))
+    subst (λ (format : ResultFormat). written_row format cs r ≡ row_data format columns r) (sym c.in-List.is)
+    (row-by_name r columns cs (is ∙ ap (λ (all : List ScanColumn). map column_of (with_sources [] all)) c.as_slice.ensures)))
     c.by_name.ensures
