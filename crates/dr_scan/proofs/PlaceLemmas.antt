@@ -1,5 +1,5 @@
 -- The places of rows that are selected, and such places in order.
-use Rattle.std.proofs.Common.{◌≡◌, ◌∙◌, sym, refl, ap, subst, ℕ, zero, suc, ◌+◌, ◌<◌, Bool, true, false, cond, List, [], ◌∷◌, ◌++◌, map, length, take, drop, Option, Some, None, append_assoc, arith}
+use Rattle.std.proofs.Common.{◌≡◌, ◌∙◌, sym, refl, ap, subst, ℕ, zero, suc, ◌+◌, ◌<◌, Bool, true, false, cond, List, [], ◌∷◌, ◌++◌, map, length, take, drop, get_or, Option, Some, None, append_assoc, arith}
 use Rattle.std.proofs.lemmas.List.{append-nil, length-append}
 use Rattle.std.specs.List.{AllByRecursion, fold, flat_map}
 use Rattle.std.specs.Ordering.{match_ordering}
@@ -32,6 +32,11 @@ is_within pre x rest = omega (arith, length-append pre (x ∷ rest))
 
 one_longer : {A : Type 0} (pre : List A) (x : A) → length (pre ++ x ∷ []) ≡ length pre + 1
 one_longer pre x = length-append pre (x ∷ [])
+
+pub rows_at-get_or : (gs : List Segment) (i : ℕ) (d : Segment) → i < length gs → rows_at gs i ≡ (get_or gs i d).rows
+rows_at-get_or [] i d less = absurd (omega arith)
+rows_at-get_or (g ∷ gs) zero d less = refl
+rows_at-get_or (g ∷ gs) (suc i) d less = rows_at-get_or gs i d (omega arith)
 
 -- ---- the places of the rows of segments
 
@@ -81,7 +86,7 @@ module _ (segments : List Segment) (order : TimeOrder) where
       let f = row_of segments in
       let rest = put-rows ss p all.1 one in
       (elim (places_cmp order p s) as (λ o. map f (match_ordering o (p ∷ s ∷ ss) (s ∷ put_by (places_cmp order) ss p) (s ∷ put_by (places_cmp order) ss p))
-        ≡ match_ordering o (f p ∷ f s ∷ map f ss) (f s ∷ put_by by_row (map f ss) (f p)) (f s ∷ put_by by_row (map f ss) (f p)))
+      ≡ match_ordering o (f p ∷ f s ∷ map f ss) (f s ∷ put_by by_row (map f ss) (f p)) (f s ∷ put_by by_row (map f ss) (f p)))
       [ Less ↦ refl | Equal ↦ ap (λ t. f s ∷ t) rest | Greater ↦ ap (λ t. f s ∷ t) rest ])
       ∙ ap (λ o. match_ordering o (f p ∷ f s ∷ map f ss) (f s ∷ put_by by_row (map f ss) (f p)) (f s ∷ put_by by_row (map f ss) (f p))) (same_cmp p s one all.0)
 

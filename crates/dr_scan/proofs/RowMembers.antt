@@ -26,7 +26,7 @@ module _ (r : Row) where
   members-insert n s (e ∷ es) =
       let d : Data = data_in s r in
       elim (order n e.0) as (λ o. members_by (match_ordering o ((n, s) ∷ e ∷ es) ((e.0, s) ∷ es) (e ∷ insert_entry order es n s))
-        ≡ match_ordering o (member n d (members_by (e ∷ es))) (member e.0 d (members_by es)) (member e.0 (data_in e.1 r) (put n d (members_by es))))
+      ≡ match_ordering o (member n d (members_by (e ∷ es))) (member e.0 d (members_by es)) (member e.0 (data_in e.1 r) (put n d (members_by es))))
       [ Less ↦ refl | Equal ↦ refl | Greater ↦ ap (member e.0 (data_in e.1 r)) (members-insert n s es) ]
 
   members-with_sources : (es : List Entry) (cs : List ScanColumn) → members_by (with_sources es cs) ≡ with_columns (members_by es) cs r

@@ -5,16 +5,20 @@ use Rattle.dr_gran.specs.Truncation.{next}
 use Rattle.dr_schema.specs.declared.schema.Schema.{Schema}
 use Rattle.dr_time.specs.Printed.{instant_text}
 
+-- `_` in front
+abbrev pub behind : List ℕ → List ℕ
+behind part = codes "_" ++ part
+
 -- `v` and the number of a publication; `r` where the range isn't published
 abbrev pub version_text : ℕ → List ℕ
 version_text version = if version == 0 then codes "r" else codes "v" ++ decimal version
 
--- `_` and the place in the chunk; nothing for the first one
+-- the place in the chunk; nothing for the first one
 abbrev pub place_text : ℕ → List ℕ
-place_text place = if place == 0 then [] else codes "_" ++ decimal place
+place_text place = if place == 0 then [] else behind (decimal place)
 
 -- `dataSource_start_end_version` with the place: the start and the end are those of the chunk
 abbrev pub identifier_of : Schema → ℤ → ℕ → ℕ → List ℕ
 identifier_of schema chunk version place =
-    ((schema.data_source ++ codes "_") ++ (instant_text chunk ++ codes "_"))
-    ++ ((instant_text (next schema.segment_granularity chunk) ++ codes "_") ++ (version_text version ++ place_text place))
+    (((schema.data_source ++ behind (instant_text chunk)) ++ behind (instant_text (next schema.segment_granularity chunk))) ++ behind (version_text version))
+    ++ place_text place

@@ -18,11 +18,7 @@ use std::alloc::{AllocError, Global};
 
 /// The text of a scan's entries, as [`scan`](crate::scan) writes it. Of a query that is no scan it is that of no entries. The
 /// only error is that memory ran out. It takes time by the bytes of the text.
-pub fn scan_text(
-    alloc: Global,
-    query: &Query,
-    entries: &[ScanEntry],
-) -> Result<Vec<u8>, AllocError>
+pub fn scan_text(alloc: Global, query: &Query, entries: &[ScanEntry]) -> Result<Vec<u8>, AllocError>
     ensures { IfOk result (λ text. text.items ≡ scan_text (asked query.now) entries.now) }
 {
     let mut out = Writer::new(Vec::new(alloc));

@@ -1,5 +1,5 @@
-ghost use Rattle.std.specs.Prelude.{◌≡◌, IfOk, string_bytes};
-ghost use Rattle.dr_scan.specs.Identifier.{identifier_of, place_text, version_text};
+ghost use Rattle.std.specs.Prelude.{◌≡◌, ◌++◌, IfOk, OnOk, string_bytes};
+ghost use Rattle.dr_scan.specs.Identifier.{behind, identifier_of, place_text, version_text};
 ghost use Rattle.dr_time.specs.Instant.{IsInstant};
 
 use dr_base::Text;
@@ -21,14 +21,20 @@ pub fn identifier(
     requires { IsInstant chunk }
     ensures { IfOk result (λ text. text ≡ identifier_of schema.now chunk version place) }
 {
-    let source = schema.data_source();
-    let start = print_instant(alloc, chunk)?;
-    let end = print_instant(alloc, schema.segment_granularity().bucket_end(chunk))?;
-    let version = version_text(alloc, version)?;
-    let place = place_text(alloc, place)?;
-    let head = format!(in alloc; "{source}_{start}_")?;
-    let tail = format!(in alloc; "{end}_{version}{place}")?;
-    Text::from_string(alloc, format!(in alloc; "{head}{tail}")?)
+    let mut text = String::from_str(alloc, schema.data_source().as_str())?;
+    push_behind(&mut text, print_instant(alloc, chunk)?.as_str())?;
+    let end = schema.segment_granularity().bucket_end(chunk);
+    push_behind(&mut text, print_instant(alloc, end)?.as_str())?;
+    push_behind(&mut text, version_text(alloc, version)?.as_str())?;
+    text.push_str(place_text(alloc, place)?.as_str())?;
+    Text::from_string(alloc, text)
+}
+
+fn push_behind(text: &mut String, part: &str) -> Result<(), AllocError>
+    ensures { OnOk result (string_bytes text.new ≡ string_bytes text.old ++ behind part.now) }
+{
+    text.push('_')?;
+    text.push_str(part)
 }
 
 fn version_text(alloc: Global, version: u64) -> Result<String, AllocError>

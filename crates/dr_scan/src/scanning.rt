@@ -29,11 +29,7 @@ use std::alloc::{AllocError, Global};
 /// the rows that are selected. Rows that aren't written aren't read but for their time and, where there is a filter, their
 /// dimension values. The text grows in one buffer; beside it there is nothing without an order, and with one the place of each
 /// row that is selected.
-pub fn scan(
-    alloc: Global,
-    query: &Query,
-    segments: &[Segment<'_>],
-) -> Result<Vec<u8>, AllocError>
+pub fn scan(alloc: Global, query: &Query, segments: &[Segment<'_>]) -> Result<Vec<u8>, AllocError>
     ensures { IfOk result (λ text. text.items ≡ scanned (asked query.now) segments.now) }
 {
     let mut out = Writer::new(Vec::new(alloc));

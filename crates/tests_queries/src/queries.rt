@@ -27,7 +27,7 @@ fn shape_number(query: &Query) -> u16
     }
 }
 
-const QUERIES: [(&[u8], u16); 12] = [
+const QUERIES: [(&[u8], u16); 15] = [
     (
         br#"{"queryType":"timeseries","dataSource":"w","intervals":["2024-01-01/2024-01-02"],"granularity":"hour","aggregations":[{"type":"longSum","name":"added","fieldName":"added"},{"type":"longSum","name":"n","fieldName":"n"}]}"#,
         10,
@@ -43,6 +43,18 @@ const QUERIES: [(&[u8], u16); 12] = [
     (br#"nope"#, 1),
     (br#"{"queryType":"topN"}"#, 70),
     (br#"{"queryType":"scan"}"#, 2),
+    (
+        br#"{"queryType":"scan","dataSource":"w","intervals":[],"columns":["__time","page","n","nope"],"order":"descending","resultFormat":"compactedList","batchSize":1,"offset":1,"limit":1}"#,
+        4,
+    ),
+    (
+        br#"{"queryType":"scan","dataSource":"w","intervals":[],"granularity":"all","columns":["page","page"]}"#,
+        72,
+    ),
+    (
+        br#"{"queryType":"scan","dataSource":"w","intervals":[],"granularity":"hour","columns":5}"#,
+        76,
+    ),
     (br#"{"queryType":"timeseries","dataSource":"x"}"#, 71),
     (
         br#"{"queryType":"timeseries","dataSource":"w","intervals":[],"granularity":"fortnight"}"#,

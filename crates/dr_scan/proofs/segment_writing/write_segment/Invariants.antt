@@ -10,7 +10,7 @@ abbrev pub invariant-loop-i : goal.invariant-loop-i
 invariant-loop-i l = record {
   before : l.out.before ≡ l.initial.out.before;
   tokens : l.out.tokens ++ segment_tokens l.scan l.columns l.segment.identifier l.count (given l.window (selected (asked l.query) (drop l.i l.segment.rows)))
-    ≡ l.initial.out.tokens ++ segment_tokens l.scan l.columns l.segment.identifier 0 (given l.initial.window (selected (asked l.query) l.segment.rows));
+      ≡ l.initial.out.tokens ++ segment_tokens l.scan l.columns l.segment.identifier 0 (given l.initial.window (selected (asked l.query) l.segment.rows));
   window : after l.window (length (selected (asked l.query) (drop l.i l.segment.rows))) ≡ after l.initial.window (length (selected (asked l.query) l.segment.rows));
   few : l.count ≤ l.i;
 }
