@@ -38,7 +38,7 @@ use Rattle.dr_core.specs.Headline.{accepted_by, pinned_by, IsRaw, AnswersRaw, An
 use Rattle.dr_core.proofs.CutSteps.{cuts-opened, cuts-after_seal, cuts-after_merge}
 use Rattle.dr_cuts.proofs.Matching.{answer-cut_rows}
 use Rattle.dr_timeline.proofs.Placing.{place_of-stands}
-use Rattle.dr_core.proofs.Running.{told-if, told-unless, told-given, told-with, told-worked, with_answer}
+use Rattle.dr_core.proofs.Running.{told-if, told-unless, told-given, told-with, told-worked, image_fits, with_answer}
 use Rattle.dr_merge.specs.Joined.{joined_fragment}
 
 -- ---- an event that may seal
@@ -167,7 +167,7 @@ commit-at schema es ess old n job (Some place) is h =
 
 pub commit-run : (schema : Schema) (es : List Event) (ess : List (List Event)) (old : CoreState) (n : ℕ) (job : Job) → IsRunSoFar schema es ess old → Follows schema es ess (Commit n) (told (λ (a : ℕ × CoreState). (Committed a.0, a.1)) old (commit_job job old))
 commit-run schema es ess old n job h =
-    told-worked (Follows schema es ess (Commit n)) (λ (a : ℕ × CoreState). (Committed a.0, a.1)) (with_answer old) old _ (joined_fragment old.timeline.schema job) _ (refused-with schema es ess old (Commit n) 59 h)
+    told-worked (Follows schema es ess (Commit n)) (λ (a : ℕ × CoreState). (Committed a.0, a.1)) (with_answer old) old (image_fits old job) (joined_fragment old.timeline.schema job) (commit_at old.timeline job (place_of old.timeline job)) (refused-with schema es ess old (Commit n) 59 h)
     (commit-at schema es ess old n job (place_of old.timeline job) refl h)
 
 -- what is pinned now

@@ -9,7 +9,8 @@ use Rattle.dr_core.specs.declared.core_error.CoreError.{CoreError}
 use Rattle.dr_core.specs.declared.core_error.CoreError.TheVariants.{Merge, Timeline}
 use Rattle.dr_fragment.specs.declared.fragment.Fragment.{Fragment}
 use Rattle.dr_merge.specs.declared.merge_error.MergeError.TheVariants.{ImageTooLarge}
-use Rattle.dr_merge.specs.Joined.{joined_fragment}
+use Rattle.dr_image.specs.Image.{image}
+use Rattle.dr_merge.specs.Joined.{joined_fragment, sealed_fragment}
 use Rattle.dr_core.specs.declared.step.Step.{Step}
 use Rattle.dr_core.specs.declared.step.Step.TheVariants.{Accept, Seal, Plan, Commit, Pin, Ask, Audit}
 use Rattle.dr_core.specs.declared.reply.Reply.{Reply}
@@ -84,8 +85,12 @@ pub told-worked : {B : Type 0} (P : Reply × CoreState → Type 0) (done : B →
 told-worked P done next old true f r refused taken = taken
 told-worked P done next old false f r refused taken = refused
 
+-- the image that the job's ranges are joined to isn't too large
+abbrev pub image_fits : CoreState → Job → Bool
+image_fits old job = nat_le (length (image (sealed_fragment old.timeline.schema (joined_fragment old.timeline.schema job)))) old.timeline.schema.limits.max_image_bytes
+
 commit_job-schema : (old : CoreState) (job : Job) → KeepsSchema old (told (λ (a : ℕ × CoreState). (Committed a.0, a.1)) old (commit_job job old))
-commit_job-schema old job = told-worked (KeepsSchema old) (λ (a : ℕ × CoreState). (Committed a.0, a.1)) (with_answer old) old _ (joined_fragment old.timeline.schema job) _ refl (commit-schema old job (place_of old.timeline job))
+commit_job-schema old job = told-worked (KeepsSchema old) (λ (a : ℕ × CoreState). (Committed a.0, a.1)) (with_answer old) old (image_fits old job) (joined_fragment old.timeline.schema job) (commit_at old.timeline job (place_of old.timeline job)) refl (commit-schema old job (place_of old.timeline job))
 
 taken-schema : (old : CoreState) (s : Step) → KeepsSchema old (taken old s)
 taken-schema old (Accept e) = told-if (KeepsSchema old) (λ (a : ℕ × CoreState). (Accepted a.0, a.1)) (with_answer old) old _ StreamFull _ (λ _. refl) (λ _. accepted-schema old.timeline e)

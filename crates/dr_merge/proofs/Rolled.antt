@@ -56,7 +56,7 @@ counts-add_row combines kinds (x ∷ xs) r =
     elim (key_cmp r.key x.key) as (λ o. Counts combines (suc (suc (length xs))) (match_ordering o (r ∷ x ∷ xs) (if combines then joined kinds x r ∷ xs else (x ∷ add_row combines kinds xs r)) (x ∷ add_row combines kinds xs r))) [
       | Less ↦ (omega arith, λ some. omega arith, λ apart. omega arith)
       | Equal ↦ elim combines as (λ b. combines ≡ b → Counts combines (suc (suc (length xs))) (if b then joined kinds x r ∷ xs else (x ∷ add_row combines kinds xs r)))
-      [ true ↦ λ e. (omega arith, λ some. omega arith, λ apart. absurd (true≢false (sym e ∙ apart))) | false ↦ λ e. behind ] refl
+          [ true ↦ λ e. (omega arith, λ some. omega arith, λ apart. absurd (true≢false (sym e ∙ apart))) | false ↦ λ e. behind ] refl
       | Greater ↦ behind
     ]
 
@@ -135,7 +135,7 @@ joins_in_frame schema k x r p q = record {
   texts = p.texts;
   metrics = length-combine_columns (kinds_of schema) x.metrics r.metrics ∙ length-map schema.metrics (λ (m : Metric). m.kind);
   in_range = All-from_recursion (FitsSigned w64) (combine_columns (kinds_of schema) x.metrics r.metrics)
-  (combine_columns-fits (kinds_of schema) x.metrics r.metrics (recursion_from_All (FitsSigned w64) x.metrics p.in_range) (recursion_from_All (FitsSigned w64) r.metrics q.in_range));
+      (combine_columns-fits (kinds_of schema) x.metrics r.metrics (recursion_from_All (FitsSigned w64) x.metrics p.in_range) (recursion_from_All (FitsSigned w64) r.metrics q.in_range));
   time = p.time;
   in_chunk = p.in_chunk;
 }

@@ -29,11 +29,7 @@ pub(crate) fn rolled_up(
 }
 
 // The same where rows of one key become one.
-fn combined(
-    alloc: Global,
-    kinds: &[Kind],
-    rows: &[RowRef],
-) -> Result<Vec<Row>, AllocError>
+fn combined(alloc: Global, kinds: &[Kind], rows: &[RowRef]) -> Result<Vec<Row>, AllocError>
     requires { IsInOrder rows.now }
     ensures { IfOk result (λ combined. combined.items ≡ rollup true kinds.now rows.now) }
 {

@@ -33,7 +33,14 @@ pub fn work(alloc: Global, schema: &Schema, job: &Job) -> Result<Fragment, Merge
 {
     let inputs = job.inputs.as_slice();
     let rows = joined_rows(alloc, schema, inputs)?;
-    let image = written(alloc, schema, job.chunk, first_from(inputs), last_to(inputs), &rows)?;
+    let image = written(
+        alloc,
+        schema,
+        job.chunk,
+        first_from(inputs),
+        last_to(inputs),
+        &rows,
+    )?;
     Ok(Fragment::of_known_image(image))
 }
 

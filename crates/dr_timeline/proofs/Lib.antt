@@ -5,4 +5,5 @@ pub mod PartialAnswers
 pub mod Keeping
 pub mod Standing
 pub mod Placing
-mod Working
+pub mod Working
+pub mod Worked

@@ -4,8 +4,8 @@
 
 mod answering;
 mod chunk_of;
-mod outcome;
 mod known_texts;
+mod outcome;
 mod planned;
 mod range_rows;
 mod snapshot;

@@ -29,7 +29,10 @@ impl<'a> Model for RangeRows<'a> {
 impl<'a> RangeRows<'a> {
     /// The rows of a fragment: those of a list are lent, those of an image are copied, and those of an open range copied and
     /// sorted. The only error is that memory ran out.
-    pub(crate) fn of(alloc: Global, fragment: &'a PinnedFragment) -> Result<RangeRows<'a>, AllocError>
+    pub(crate) fn of(
+        alloc: Global,
+        fragment: &'a PinnedFragment,
+    ) -> Result<RangeRows<'a>, AllocError>
         ensures { IfOk result (λ rows. rows ≡ fragment.now.rows) }
     {
         if let Form::Rows(rows) = fragment.form() {

@@ -7,7 +7,7 @@ use dr_ask::Query;
 use dr_events::read_event;
 use dr_merge::{Purpose, work};
 use dr_spec::IngestSpec;
-use dr_timeline::{RangeInfo, Snapshot, Timeline, TimelineError};
+use dr_timeline::{RangeInfo, Snapshot, Timeline};
 use std::alloc::Global;
 use std::process::Abort;
 use std::test::Fail;
@@ -48,10 +48,10 @@ fn timeline_of(alloc: Global, firsts: usize) -> Result<Timeline, Fail> {
 }
 
 /// Merges the first two ranges of the day.
-fn merge(alloc: Global, timeline: &mut Timeline) -> Result<u64, TimelineError> {
+fn merge(alloc: Global, timeline: &mut Timeline) -> Result<u64, Fail> {
     let job = timeline.plan(DAY, 0, 2, Purpose::Merge)?;
     let fragment = work(alloc, timeline.spec().schema(), &job)?;
-    timeline.commit(&job, fragment)
+    Ok(timeline.commit(&job, fragment)?)
 }
 
 fn sums(alloc: Global, timeline: &Timeline) -> Result<Query, Fail>

@@ -71,20 +71,26 @@ returns-in_default-place_of_job-clause-full c =
 
 -- ---- its place
 
-abbrev chunk_of : In-Some-place_of_job → After-as_slice-sealed
-chunk_of c = c.before.before
+there_now : (c : In-Some-place_of_job) → chunk_at c.self.inside.spec c.args.job.now.chunk c.self.inside.chunks ≡ c.in-Some.there.now
+there_now c =
+    let fits : FitsSigned w64 c.args.job.now.chunk = search rules in
+    chunk_at-in c.self.inside.spec c.self.inside.chunks c.args.job.now.chunk c.in-Some.there.now (sym (rw (to_z-of_z w64 c.args.job.now.chunk fits) at c.in-Some.ensures))
 
 stands_in : (c : In-Some-place_of_job) → StandsIn c.in-Some.there.now.sealed c.args.job.now c.in-Some-place_of_job.place
-stands_in c = subst (λ (ss : List SealedRange). StandsIn ss c.args.job.now c.in-Some-place_of_job.place) (ranges (chunk_of c)) c.in-Some-place_of_job.ensures.found
+stands_in c = subst (λ (ss : List SealedRange). StandsIn ss c.args.job.now c.in-Some-place_of_job.place) c.as_slice-sealed.ensures c.in-Some-place_of_job.ensures.found
 
 stands : (c : In-Some-place_of_job) → StandsAt c.args.self.now c.args.job.now c.in-Some-place_of_job.place
 stands c =
     let t = c.self.inside in
     subst (λ (s : State). StandsAt s c.args.job.now c.in-Some-place_of_job.place) c.self.view_is
-    (stands-at t.spec t.stream.items t.chunks (t.seals + t.commits) t.commits t.unparseable t.thrown_away c.args.job.now c.in-Some.there.now c.in-Some-place_of_job.place (there (chunk_of c)) c.self.invariant.starts c.self.invariant.each (stands_in c))
+    (stands-at t.spec t.stream.items t.chunks (t.seals + t.commits) t.commits t.unparseable t.thrown_away c.args.job.now c.in-Some.there.now c.in-Some-place_of_job.place (there_now c) c.self.invariant.starts c.self.invariant.each (stands_in c))
 
 first : (c : In-Some-place_of_job) (e : ℕ) → e < c.in-Some-place_of_job.place → StandsAt c.args.self.now c.args.job.now e → ⊥
-first c e below at_e = c.in-Some-place_of_job.ensures.first e below (stands_there (chunk_of c) e at_e)
+first c e below at_e =
+    let t = c.self.inside in
+    let in_chunk = stands-in t.spec t.stream.items t.chunks (t.seals + t.commits) t.commits t.unparseable t.thrown_away c.args.job.now c.in-Some.there.now e (there_now c) c.self.invariant.starts c.self.invariant.each
+    (subst (λ (s : State). StandsAt s c.args.job.now e) (sym c.self.view_is) at_e) in
+    c.in-Some-place_of_job.ensures.first e below (subst (λ (ss : List SealedRange). StandsIn ss c.args.job.now e) (sym c.as_slice-sealed.ensures) in_chunk)
 
 -- ---- as many commits as the spec allows
 
