@@ -3,6 +3,12 @@
 #![tactic(auto)]
 
 #[cfg(test)]
+mod acts;
+#[cfg(test)]
 mod events;
 #[cfg(test)]
+mod mergers;
+#[cfg(test)]
 mod seats;
+#[cfg(test)]
+mod turns;

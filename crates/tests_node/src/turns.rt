@@ -17,6 +17,7 @@ pub fn wait_for(flag: &AtomicBool) -> bool {
 
 /// A policy that names the first two ranges once, and stops its merger at its next turn. It waits for another thread while it
 /// is asked, or once the job is planned.
+#[derive(Drop)]
 pub struct Once<'a> {
     pub stop: &'a Stop,
     pub while_asked: bool,
