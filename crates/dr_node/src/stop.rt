@@ -1,6 +1,7 @@
 use std::sync::atomic::{AtomicBool, Ordering};
 
 /// Whether a merger is to end. It is one word that any thread may set. It takes no memory.
+#[derive(Drop)]
 pub struct Stop {
     stopped: AtomicBool,
 }
