@@ -1,4 +1,5 @@
 ghost use Rattle.std.specs.Prelude.{◌≡◌, ◌≤◌, ◌⊎◌, IfErr};
+ghost use Rattle.dr_merge.specs.declared.merge_error.MergeError.TheVariants as merge;
 ghost use Rattle.dr_timeline.specs.declared.timeline_error.TimelineError.TheVariants.{NoMemory, NoSuchRange, Stale, CommitsFull};
 ghost use Rattle.dr_node.specs.declared.node_error.NodeError.TheVariants as error;
 
@@ -32,7 +33,7 @@ impl<B: Books> Node<B> {
     ) -> Result<MergerReport, NodeError>
         ensures floor { seat.old.floor ≤ seat.new.floor }
         ensures same { (seat.new.number ≡ seat.old.number) × (seat.new.mine ≡ seat.old.mine) × (seat.new.own ≡ seat.old.own) }
-        ensures refusals { IfErr result (λ e. (e ≡ error.Timeline NoMemory) ⊎ (e ≡ error.Timeline CommitsFull)) }
+        ensures refusals { IfErr result (λ e. (e ≡ error.Timeline NoMemory) ⊎ (e ≡ error.Merge merge.NoMemory) ⊎ (e ≡ error.Merge merge.ImageTooLarge) ⊎ (e ≡ error.Timeline CommitsFull)) }
     {
         let mut report = MergerReport {
             commits: 0,
@@ -56,10 +57,10 @@ impl<B: Books> Node<B> {
             };
             match self.merge(rt, policy, plan) {
                 Ok(_) => report.commits = report.commits.saturating_add(1),
-                Err(TimelineError::Stale | TimelineError::NoSuchRange) => {
+                Err(NodeError::Timeline(TimelineError::Stale | TimelineError::NoSuchRange)) => {
                     report.stale = report.stale.saturating_add(1);
                 }
-                Err(error) => return Err(NodeError::Timeline(error)),
+                Err(error) => return Err(error),
             }
         }
         unreachable!()
@@ -71,18 +72,16 @@ impl<B: Books> Node<B> {
         rt: &R,
         policy: &P,
         plan: PlanAct,
-    ) -> Result<u64, TimelineError>
-        ensures { IfErr result (λ e. (e ≡ NoMemory) ⊎ (e ≡ NoSuchRange) ⊎ (e ≡ Stale) ⊎ (e ≡ CommitsFull)) }
+    ) -> Result<u64, NodeError>
+        ensures { IfErr result (λ e. (e ≡ error.Timeline NoMemory) ⊎ (e ≡ error.Timeline NoSuchRange) ⊎ (e ≡ error.Merge merge.NoMemory) ⊎ (e ≡ error.Merge merge.ImageTooLarge) ⊎ (e ≡ error.Timeline Stale) ⊎ (e ≡ error.Timeline CommitsFull)) }
     {
         let job = self.apply(rt, plan)?;
         policy.planned();
         let fragment = work(self.alloc, &self.schema, &job)?;
-        self.apply(
-            rt,
-            CommitAct {
-                job: &job,
-                fragment,
-            },
-        )
+        let commit = CommitAct {
+            job: &job,
+            fragment,
+        };
+        Ok(self.apply(rt, commit)?)
     }
 }

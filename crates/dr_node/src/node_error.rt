@@ -3,7 +3,7 @@ ghost use Rattle.dr_node.specs.declared.node_error.NodeError.TheVariants as erro
 ghost use Rattle.dr_node.specs.Refusal.{number_of, name_of};
 ghost use Rattle.dr_timeline.specs.declared.timeline_error.TimelineError.TheVariants.{NoMemory};
 
-use dr_timeline::TimelineError;
+use dr_timeline::{MergeError, TimelineError};
 use std::alloc::{AllocError, AllocFailed};
 use thiserror::Error;
 
@@ -13,6 +13,9 @@ pub enum NodeError {
     /// A refusal of the timeline: 0, 90 to 93, or 95.
     #[error(transparent)]
     Timeline(TimelineError),
+    /// A refusal of the work of a job: 0 or 59.
+    #[error(transparent)]
+    Merge(MergeError),
     /// 94: the seats that a node was closed with aren't all its seats, each once, or the events of a seat aren't those of the
     /// stream with its mark.
     #[error("the seats do not show the history of the stream")]
@@ -20,12 +23,13 @@ pub enum NodeError {
 }
 
 impl NodeError {
-    /// The number of the refusal: 0, or 90 to 95.
+    /// The number of the refusal: 0, 59, or 90 to 95.
     pub fn number(&self) -> u16
         ensures { result ≡ number_of self.now }
     {
         match self {
             NodeError::Timeline(error) => error.number(),
+            NodeError::Merge(error) => error.number(),
             NodeError::HistoryMismatch => 94,
         }
     }
@@ -36,6 +40,7 @@ impl NodeError {
     {
         match self {
             NodeError::Timeline(error) => error.name(),
+            NodeError::Merge(error) => error.name(),
             NodeError::HistoryMismatch => "HistoryMismatch",
         }
     }
@@ -46,6 +51,14 @@ impl From<TimelineError> for NodeError {
 
     fn from(error: TimelineError) -> NodeError {
         NodeError::Timeline(error)
+    }
+}
+
+impl From<MergeError> for NodeError {
+    ghost from_gives = { λ e result. result ≡ error.Merge e };
+
+    fn from(error: MergeError) -> NodeError {
+        NodeError::Merge(error)
     }
 }
 

@@ -1,4 +1,5 @@
-ghost use Rattle.std.specs.Prelude.{◌≡◌};
+ghost use Rattle.std.specs.Prelude.{◌≡◌, IfOk};
+ghost use Rattle.dr_merge.specs.Joined.{IsJobOf};
 ghost use Rattle.dr_node.specs.Acting.{IsAtMostOneStep};
 ghost use Rattle.dr_base.specs.Reading.{GivesUnless};
 ghost use Rattle.dr_timeline.specs.Refusal.{is_memory};
@@ -25,7 +26,7 @@ impl Act for PlanAct {
 
     ghost needs = { λ act schema. Unit {0} };
 
-    ghost does = { λ act old answer new. (new ≡ old) × GivesUnless is_memory (λ job. job) answer (plan old act.chunk act.lo act.hi act.purpose) };
+    ghost does = { λ act old answer new. (new ≡ old) × IfOk answer (λ job. IsJobOf old.schema job) × GivesUnless is_memory (λ job. job) answer (plan old act.chunk act.lo act.hi act.purpose) };
 
     fn act(self, timeline: &mut Timeline) -> Result<Job, TimelineError> {
         timeline.plan(self.chunk, self.lo, self.hi, self.purpose)

@@ -18,7 +18,7 @@ pub use dr_answers::AnswerError;
 pub use dr_ask::{Query, QueryError};
 pub use dr_cuts::RangeInfo;
 pub use dr_fragment::Fragment;
-pub use dr_merge::{Job, Purpose, work};
+pub use dr_merge::{Job, MergeError, Purpose, work};
 pub use outcome::Outcome;
 pub use snapshot::Snapshot;
 pub use stats::Stats;
