@@ -1,3 +1,4 @@
 pub mod Dump
+pub mod Laws
 pub mod Refusal
 pub mod Written

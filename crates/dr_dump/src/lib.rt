@@ -4,8 +4,10 @@
 
 mod dump_error;
 mod dumping;
+mod laws;
 mod reading;
 mod row_writing;
 
 pub use dump_error::DumpError;
 pub use dumping::dump_text;
+pub use laws::printed_is_told;
