@@ -25,11 +25,11 @@ to-more k test before after v lt is h = record {
   where
     done : (i : ℕ) → i < length before → i < k + 1 → get_or (set after k v) i false ≡ (get_or before i false && test i)
     done i lt' more = elim (cases_lt i k) [
-        | inl less ↦ get_or-set_other after k i v false (λ e. absurd (omega (arith, e, less))) ∙ h.done i lt' less
-        | inr le ↦ (let same : i ≡ k = omega (arith, more, le) in
-        subst (λ j. get_or (set after k v) j false ≡ (get_or before j false && test j)) (sym same)
-        (get_or-set_same after k v false lt ∙ is ∙ ap (λ b. b && test k) (h.left k (omega arith))))
-      ]
+      | inl less ↦ get_or-set_other after k i v false (λ e. absurd (omega (arith, e, less))) ∙ h.done i lt' less
+      | inr le ↦ (let same : i ≡ k = omega (arith, more, le) in
+          subst (λ j. get_or (set after k v) j false ≡ (get_or before j false && test j)) (sym same)
+          (get_or-set_same after k v false lt ∙ is ∙ ap (λ b. b && test k) (h.left k (omega arith))))
+    ]
 
 -- what is left of a test, narrowed by, is what the whole test is
 pub record ToNarrow (whole left : ℕ → Bool) (before after : List Bool) : Type 0 where

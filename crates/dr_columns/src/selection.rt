@@ -49,7 +49,11 @@ impl Selection {
 /// Which rows of an image a query selects. Where one of the query's intervals holds all of the image's times, and the query has no
 /// filter, it is each row, which takes no memory. Else it takes a byte for each row and each level of the filter, and time by
 /// the tests of the filter, each by the rows and the dictionary's values. The only error is that memory ran out.
-pub fn rows_selected(alloc: Global, query: &Query, view: &SegmentView<'_>) -> Result<Selection, AllocError>
+pub fn rows_selected(
+    alloc: Global,
+    query: &Query,
+    view: &SegmentView<'_>,
+) -> Result<Selection, AllocError>
     ensures { IfOk result (λ s. (i : ℕ) → i < length view.now.times → tells s i ≡ selects (asked query.now) (key_at view.now i)) }
 {
     let whole = is_within(view, &query.intervals);

@@ -10,7 +10,8 @@ use crate::image_error::ImageError;
 use crate::layout::Layout;
 use crate::opening::{check_contents, is_undamaged};
 use crate::reading::{
-    greatest_time, least_time, list_of, metric_at, number_at, numbers_of, time_at, value_of, values_of,
+    greatest_time, least_time, list_of, metric_at, number_at, numbers_of, time_at, value_of,
+    values_of,
 };
 use dr_base::{Key, Numbers, Row, Text, Texts};
 use std::alloc::{AllocError, Global};

@@ -123,8 +123,8 @@ module _ (q : Asked) where
     sound = adds.sound;
     groups = adds.groups ∙ sym (
         ap (λ b. rollup_onto true (kinds_in q.aggregations) (in_order before) (map (alone q) (cond b (r ∷ selected q rest) (selected q rest)))) all.0.0
-            ∙ ap (λ (j : Key). rollup_onto true (kinds_in q.aggregations) (add_row true (kinds_in q.aggregations) (in_order before) (record { key = j; metrics = folds q.aggregations (r ∷ []) })) (map (alone q) (selected q rest))) all.0.1
-            ∙ more_of (in_order before) (r ∷ []) rest k all.1);
+        ∙ ap (λ (j : Key). rollup_onto true (kinds_in q.aggregations) (add_row true (kinds_in q.aggregations) (in_order before) (record { key = j; metrics = folds q.aggregations (r ∷ []) })) (map (alone q) (selected q rest))) all.0.1
+        ∙ more_of (in_order before) (r ∷ []) rest k all.1);
   }
 
 -- ---- the rows from a number on, up to another
@@ -150,7 +150,7 @@ run-added q t from to before after k values (Ok u) lt each is adds =
     let rest = rows_between t (from + 1) to in
     subst (λ l. AddsAll q before l after) (sym first)
     (together-added q before after k (row_at t from) rest (subst (AllByRecursion (IsOf q k)) first (all-between (IsOf q k) t from to (omega (arith, lt)) each))
-        (subst (λ m. Adds (kinds_in q.aggregations) before (record { key = k; metrics = m }) after) (is ∙ ap (folds q.aggregations) first) adds))
+    (subst (λ m. Adds (kinds_in q.aggregations) before (record { key = k; metrics = m }) after) (is ∙ ap (folds q.aggregations) first) adds))
 
 -- ---- rows that are left out
 

@@ -110,5 +110,5 @@ pub merged-all : {E : Type 0} (P : Key → Type 0) (ks : List Kind) (larger smal
 merged-all P ks larger smaller x y (Ok p) is also made all each =
     subst (AllByRecursion (λ g. P g.key)) (sym made)
     (all-onto P ks (in_order larger) smaller (subst (AllByRecursion (λ g. P g.key)) (sym is) all)
-        (all-moved (λ (g : Row). P g.key) smaller (in_order smaller) (moved-apart [] smaller) (subst (AllByRecursion (λ g. P g.key)) (sym also) each)))
+    (all-moved (λ (g : Row). P g.key) smaller (in_order smaller) (moved-apart [] smaller) (subst (AllByRecursion (λ g. P g.key)) (sym also) each)))
 merged-all P ks larger smaller x y (Err z) is also made all each = tt

@@ -50,7 +50,7 @@ module _ (q : Asked) where
   exchange : (rows : List Row) (x y : Row) → Reached rows → with_one (with_one rows x) y ≡ with_one (with_one rows y) x
   exchange rows x y reached =
       elim (selects q x.key) as (λ a. cond (selects q y.key) (add_row true kinds (cond a (add_row true kinds rows (alone q x)) rows) (alone q y)) (cond a (add_row true kinds rows (alone q x)) rows)
-          ≡ cond a (add_row true kinds (cond (selects q y.key) (add_row true kinds rows (alone q y)) rows) (alone q x)) (cond (selects q y.key) (add_row true kinds rows (alone q y)) rows)) [
+      ≡ cond a (add_row true kinds (cond (selects q y.key) (add_row true kinds rows (alone q y)) rows) (alone q x)) (cond (selects q y.key) (add_row true kinds rows (alone q y)) rows)) [
         | true ↦ elim (selects q y.key) as (λ b. cond b (add_row true kinds (add_row true kinds rows (alone q x)) (alone q y)) (add_row true kinds rows (alone q x)) ≡ add_row true kinds (cond b (add_row true kinds rows (alone q y)) rows) (alone q x))
             [ true ↦ exchanged rows (alone q x) (alone q y) reached | false ↦ refl ]
         | false ↦ refl
@@ -70,8 +70,8 @@ module _ (q : Asked) where
       record {
         sound = adds.sound;
         groups = adds.groups ∙ one_by_one (in_order before) a
-        ∙ sym (fold-IsPermutation with_one Reached kept exchange (in_order before) a b reached moved)
-        ∙ sym (one_by_one (in_order before) b);
+            ∙ sym (fold-IsPermutation with_one Reached kept exchange (in_order before) a b reached moved)
+            ∙ sym (one_by_one (in_order before) b);
       }
 
 pub all-moved : (P : Row → Type 0) (a b : List Row) → IsPermutation a b → AllByRecursion P b → AllByRecursion P a

@@ -44,7 +44,17 @@ pub fn add_selected_at(
         return Ok(());
     }
     let place = add_found(groups, source, group, bucket, i)?;
-    note(groups, source, known, slot, Known { bucket, row: i, place })
+    note(
+        groups,
+        source,
+        known,
+        slot,
+        Known {
+            bucket,
+            row: i,
+            place,
+        },
+    )
 }
 
 // The place of the group of a row, where a row of the same numbers was noted in its slot.

@@ -61,12 +61,7 @@ fn add_whole_run(
         time: bucket,
         dims: &[],
     };
-    add_folds(
-        groups,
-        source.query.aggregations.as_slice(),
-        &group,
-        folds,
-    )
+    add_folds(groups, source.query.aggregations.as_slice(), &group, folds)
 }
 
 // What each aggregation folds to over the rows from a number on, up to another.

@@ -18,9 +18,11 @@ loop-key-preserved c =
     let ks = kinds_in c.args.aggregations.now in
     let before = map row_of c.loop-key.groups.entries in
     let fit = subst (λ es. AllFit ks (map row_of es)) h c.loop-key.invariant.1 in
-    let is = sym (ap (λ es. rollup_onto true ks (in_order before) (map row_of es)) h) ∙ c.loop-key.invariant.2 in
-    (c.in_ok-add_group.ensures.sound, fit.1,
-     one-more-group ks before (map row_of c.add_group.new.groups.entries) (record { key = c.in-Some.key; metrics = c.in-Some.folds }) (map row_of c.next.new.self) _ c.in_ok-add_group.ensures is)
+    let is = sym (ap (λ es. rollup_onto true ks (in_order before) (map row_of es)) h) ∙ c.loop-key.invariant.2 in (
+      c.in_ok-add_group.ensures.sound,
+      fit.1,
+      one-more-group ks before (map row_of c.add_group.new.groups.entries) (record { key = c.in-Some.key; metrics = c.in-Some.folds }) (map row_of c.next.new.self) _ c.in_ok-add_group.ensures is,
+    )
 
 pub returns : goal.returns
 returns c =

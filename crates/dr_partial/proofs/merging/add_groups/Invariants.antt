@@ -11,4 +11,4 @@ invariant-loop-key l =
     IsSound (kinds_in l.aggregations) (map row_of l.groups.entries)
     × AllFit (kinds_in l.aggregations) (map row_of l.key-iterator)
     × (rollup_onto true (kinds_in l.aggregations) (in_order (map row_of l.groups.entries)) (map row_of l.key-iterator)
-        ≡ rollup_onto true (kinds_in l.aggregations) (in_order (map row_of l.initial.groups.entries)) (map row_of l.fn.others.entries))
+    ≡ rollup_onto true (kinds_in l.aggregations) (in_order (map row_of l.initial.groups.entries)) (map row_of l.fn.others.entries))

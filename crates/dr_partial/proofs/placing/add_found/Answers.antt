@@ -26,7 +26,6 @@ same_key c =
 
 -- ---- a known group
 
-
 pub returns-in-Some-clause-adds : goal.returns-in-Some-clause-adds
 returns-in-Some-clause-adds c =
     let s = c.args.source.now in

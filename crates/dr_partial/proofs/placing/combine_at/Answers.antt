@@ -26,6 +26,6 @@ returns c = λ g at.
     written-rows es c.args.place c.combine_read.new.values g at
     ∙ ap (λ m. slice_set (map row_of es) c.args.place (record { key = g.key; metrics = m }))
     (c.combine_read.ensures
-        ∙ ap (λ l. combine_columns (map (λ r. r.kind) l) values (folds_read l c.args.i)) c.as_slice.ensures.value
-        ∙ (λ j. combine_columns (s.kinds j) values (read-folds s.view.now rs s.query.now.aggregations s.kinds s.read (c.args.i ∷ []) j))
-        ∙ ap (λ m. combine_columns ks m (folds s.query.now.aggregations (row_at s.view.now c.args.i ∷ []))) (read-rows es c.args.place values g c.index_mut.ensures.value at))
+    ∙ ap (λ l. combine_columns (map (λ r. r.kind) l) values (folds_read l c.args.i)) c.as_slice.ensures.value
+    ∙ (λ j. combine_columns (s.kinds j) values (read-folds s.view.now rs s.query.now.aggregations s.kinds s.read (c.args.i ∷ []) j))
+    ∙ ap (λ m. combine_columns ks m (folds s.query.now.aggregations (row_at s.view.now c.args.i ∷ []))) (read-rows es c.args.place values g c.index_mut.ensures.value at))

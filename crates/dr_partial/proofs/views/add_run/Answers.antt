@@ -21,7 +21,8 @@ loop-i-preserved c =
     let before = map row_of c.args.groups.now.entries in
     let between = map row_of c.loop-i.groups.entries in
     let after = map row_of c.add_at.new.groups.entries in
-    let i = c.loop-i.i in
-    (subst (λ l. AddsAll q before l after) (sym (one-more s.view.now c.args.from i (omega (arith, c.loop-i.auto.i))))
-        (more-rows q before between after (rows_between s.view.now c.args.from i) (row_at s.view.now i ∷ []) c.loop-i.invariant.0 c.in_ok-add_at.ensures.adds),
-     c.in_ok-add_at.ensures.known)
+    let i = c.loop-i.i in (
+      subst (λ l. AddsAll q before l after) (sym (one-more s.view.now c.args.from i (omega (arith, c.loop-i.auto.i))))
+          (more-rows q before between after (rows_between s.view.now c.args.from i) (row_at s.view.now i ∷ []) c.loop-i.invariant.0 c.in_ok-add_at.ensures.adds),
+      c.in_ok-add_at.ensures.known,
+    )

@@ -21,7 +21,8 @@ loop-from-preserved c =
     let between = map row_of c.loop-from.groups.entries in
     let after = map row_of c.add_whole_run.new.groups.entries in
     let from = c.loop-from.from in
-    let to = c.run_end-to.result in
-    (c.run_end-to.ensures.within,
-     subst (λ l. AddsAll q before l after) (joined s.view.now 0 from to (omega arith) (omega (arith, c.run_end-to.ensures.more)))
-        (more-rows q before between after (rows_between s.view.now 0 from) (rows_between s.view.now from to) c.loop-from.invariant.1 c.in_ok-add_whole_run.ensures))
+    let to = c.run_end-to.result in (
+      c.run_end-to.ensures.within,
+      subst (λ l. AddsAll q before l after) (joined s.view.now 0 from to (omega arith) (omega (arith, c.run_end-to.ensures.more)))
+          (more-rows q before between after (rows_between s.view.now 0 from) (rows_between s.view.now from to) c.loop-from.invariant.1 c.in_ok-add_whole_run.ensures),
+    )
