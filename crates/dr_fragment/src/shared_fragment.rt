@@ -11,7 +11,7 @@ pub struct SharedFragment(Arc<Fragment>);
 
 impl Model for SharedFragment {
     ghost use Rattle.std.specs.Arc.{arc_value};
-    ghost use Rattle.dr_merge.specs.declared.fragment.Fragment.{Fragment};
+    ghost use Rattle.dr_fragment.specs.declared.fragment.Fragment.{Fragment};
 
     ghost Value = { Fragment };
 

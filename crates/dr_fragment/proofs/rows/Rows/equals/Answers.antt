@@ -1,7 +1,7 @@
 use Rattle.std.proofs.Common.{◌∙◌, sym}
 use Rattle.std.proofs.lemmas.Slice.Eq.{slice_eq-Decides}
 use Rattle.dr_base.proofs.Equality.{rows_decide}
-use Rattle.dr_merge.proofs.rows.Rows.equals.Goals as goal
+use Rattle.dr_fragment.proofs.rows.Rows.equals.Goals as goal
 
 pub returns : goal.returns
 returns c =

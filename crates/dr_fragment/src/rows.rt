@@ -4,7 +4,7 @@ use dr_base::Row;
 use std::marker::Model;
 
 /// Rows in the order of their keys. A contract sees the list of the rows.
-#[derive(Debug, Drop)]
+#[derive(Drop)]
 pub struct Rows(Vec<Row>);
 
 impl Model for Rows {

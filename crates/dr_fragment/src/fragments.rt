@@ -1,7 +1,6 @@
-ghost use Rattle.std.specs.Prelude.{◌≡◌, ◌++◌, ◌∷◌, [], IfOk, OnOk, OnErr, length, map};
+ghost use Rattle.std.specs.Prelude.{◌≡◌, ◌++◌, ◌∷◌, [], OnOk, OnErr, length};
 
 use crate::shared_fragment::SharedFragment;
-use dr_base::Row;
 use std::alloc::{AllocError, Global};
 use std::marker::Model;
 
@@ -11,7 +10,7 @@ pub struct Fragments(Vec<SharedFragment>);
 
 impl Model for Fragments {
     ghost use Rattle.std.specs.Prelude.{List};
-    ghost use Rattle.dr_merge.specs.declared.fragment.Fragment.{Fragment};
+    ghost use Rattle.dr_fragment.specs.declared.fragment.Fragment.{Fragment};
 
     ghost Value = { List Fragment };
 
@@ -47,16 +46,5 @@ impl Fragments {
     {
         self.0.push(fragment)?;
         Ok(())
-    }
-
-    /// The rows of each fragment.
-    pub fn pieces(&self, alloc: Global) -> Result<Vec<&[Row]>, AllocError>
-        ensures { IfOk result (λ pieces. map (λ p. p.now) pieces.items ≡ map (λ f. f.rows) self.now) }
-    {
-        let mut pieces = Vec::with_capacity(alloc, self.len())?;
-        for shared in self.as_slice() {
-            pieces.push(shared.fragment().rows.as_slice())?;
-        }
-        Ok(pieces)
     }
 }

@@ -1,0 +1,4 @@
+pub mod ImageRows
+pub mod Images
+mod Orders
+pub mod SameRows

@@ -1,0 +1,3 @@
+pub mod Ranged
+pub mod Lying
+pub mod Held
