@@ -22,6 +22,7 @@ use crate::views::add_view;
 use dr_agg::sort_rows;
 use dr_ask::Query;
 use dr_base::{Event, Key, Numbers, Row};
+use dr_fragment::{Form, Fragment};
 use dr_image::SegmentView;
 use dr_rollup::OpenIndex;
 use dr_schema::Schema;
@@ -115,6 +116,24 @@ impl Partial {
         let mut group = Vec::new(alloc);
         add_index(&mut groups, &mut group, query, index)?;
         Ok(Partial { groups })
+    }
+
+    /// The groups of the rows of a fragment, whose times lie from 0001-01-01 to 9999-12-31: a list of rows, an image, or the index
+    /// of an open range. Error and cost are those of `of_rows`, `of_view` and `of_index`.
+    pub fn of_fragment(
+        alloc: Global,
+        query: &Query,
+        fragment: &Fragment,
+    ) -> Result<Partial, AllocError>
+        requires { AllByRecursion (λ r. IsInstant r.key.time) fragment.now.rows }
+        ensures value { IfOk result (λ p. p ≡ partial (asked query.now) fragment.now.rows) }
+        ensures printable { All StartsPrintable query.now.intervals → IfOk result (λ p. AllByRecursion (λ g. IsPrintable g.key.time) p) }
+    {
+        match fragment.form() {
+            Form::Rows(rows) => Partial::of_rows(alloc, query, &[rows]),
+            Form::Image(view) => Partial::of_view(alloc, query, &view),
+            Form::Index(index) => Partial::of_index(alloc, query, index),
+        }
     }
 
     /// The groups of this partial result and another one of the same query, those of one key combined: where they are of some
