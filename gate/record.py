@@ -16,7 +16,8 @@ class Record:
 
     def __init__(self, tree):
         self.tree, self._digests, self.passed = tree, {}, {}
-        self.kit = subprocess.run(["rt", "version"], capture_output=True, text=True).stdout
+        # what a proof is, is the logic's; a later kit of one logic refuses what an earlier one did
+        self.logic = subprocess.run(["rt", "version"], capture_output=True, text=True).stdout.partition(" ")[2].strip()
         if os.path.isfile(f"{tree.top}/{FILE}"):
             with open(f"{tree.top}/{FILE}", encoding="utf-8") as it:
                 self.passed = dict(line.split() for line in it if not line.startswith("#"))
@@ -25,7 +26,7 @@ class Record:
         if edit.crate not in self._digests:
             below = [(it, self.tree.contracts(it)) for it in self.tree.below(edit.crate)]
             uses = " ".join(self.tree.uses[edit.crate])
-            self._digests[edit.crate] = digest_of([(edit.crate, self.tree.digest(edit.crate)), *below, ("", uses + self.kit)])
+            self._digests[edit.crate] = digest_of([(edit.crate, self.tree.digest(edit.crate)), *below, ("", uses + " " + self.logic)])
         return digest_of([(edit.label, edit.text), ("", self._digests[edit.crate])])
 
     def covers(self, edit):

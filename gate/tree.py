@@ -62,14 +62,25 @@ class Tree:
         return sum(self.text(crate, it).count("\n") for it in self.files(crate, "src", "specs", "proofs"))
 
     def digest(self, crate):
-        """A digest of all that a crate's own proof reads."""
-        return digest_of((it, self.text(crate, it)) for it in self.files(crate, "src", "specs", "proofs"))
+        """A digest of all that a crate's own proof reads, but for its comments."""
+        return digest_of((it, without_comments(self.text(crate, it))) for it in self.files(crate, "src", "specs", "proofs"))
 
     def contracts(self, crate):
-        """A digest of what the crates above may use of a crate: its definitions, and its code without bodies."""
-        texts = [(it, self.text(crate, it)) for it in self.files(crate, "specs")]
-        texts += [(it, without_bodies(self.text(crate, it))) for it in self.files(crate, "src")]
+        """A digest of what the crates above may use of a crate: its definitions, and what its modules show without bodies."""
+        texts = [(it, without_comments(self.text(crate, it))) for it in self.files(crate, "specs")]
+        shown = self.shown(crate)
+        for file in self.files(crate, "src"):
+            if shown is None or file.split("/")[1].removesuffix(".rt") in shown:
+                texts.append((file, without_bodies(without_comments(self.text(crate, file)))))
         return digest_of(texts)
+
+    def shown(self, crate):
+        """The root and the modules that it shows, `pub mod` and `pub use`; nothing for a program, where all are taken."""
+        try:
+            root = self.text(crate, "src/lib.rt")
+        except FileNotFoundError:
+            return None
+        return {"lib", *re.findall(r"^pub mod (\w+);", root, re.M), *re.findall(r"^pub use (?:crate::)?(\w+)::", root, re.M)}
 
 
 def digest_of(named):
@@ -80,19 +91,29 @@ def digest_of(named):
     return found.hexdigest()[:20]
 
 
+def without_comments(text):
+    """Code, definitions or proofs without the lines that are comments alone."""
+    return "\n".join(it for it in text.split("\n") if not it.lstrip().startswith(("//", "-- ")))
+
+
 def without_bodies(text):
-    """Code as `rt fmt` lays it out, without the bodies of its functions."""
-    kept, ends = [], None
+    """Code as `rt fmt` lays it out, without the bodies of its functions, and without the private functions of a module."""
+    kept, ends, is_kept = [], None, True
     for line in text.split("\n"):
         if ends is not None:
             if line == ends:
-                ends = None
+                ends, is_kept = None, True
             continue
-        kept.append(line)
+        if re.match(r"(?:pub\(\w+\) )?(?:const )?fn ", line):
+            is_kept = False
+        if is_kept:
+            kept.append(line)
         # the brace of a body stands alone behind clauses, and at the end of the line where there are none
         opens = re.fullmatch(r"(\s*)\{", line) or re.match(r"(\s*)(?:pub(?:\(\w+\))? )?(?:const )?fn .*[^{]\{$", line)
         if opens and not line.rstrip().endswith("ensures {"):
             ends = opens[1] + "}"
+        elif not is_kept and line.endswith(("{}", ";")):
+            is_kept = True
     return "\n".join(kept)
 
 

@@ -22,7 +22,7 @@ use crate::views::add_view;
 use dr_agg::sort_rows;
 use dr_ask::Query;
 use dr_base::{Event, Key, Numbers, Row};
-use dr_fragment::{Form, Fragment};
+use dr_fragment::{Form, PinnedFragment};
 use dr_image::SegmentView;
 use dr_rollup::OpenIndex;
 use dr_schema::Schema;
@@ -118,12 +118,12 @@ impl Partial {
         Ok(Partial { groups })
     }
 
-    /// The groups of the rows of a fragment, whose times lie from 0001-01-01 to 9999-12-31: a list of rows, an image, or the index
+    /// The groups of the rows of a range as a snapshot holds it, whose times lie from 0001-01-01 to 9999-12-31: a list of rows, an image, or the index
     /// of an open range. Error and cost are those of `of_rows`, `of_view` and `of_index`.
     pub fn of_fragment(
         alloc: Global,
         query: &Query,
-        fragment: &Fragment,
+        fragment: &PinnedFragment,
     ) -> Result<Partial, AllocError>
         requires { AllByRecursion (λ r. IsInstant r.key.time) fragment.now.rows }
         ensures value { IfOk result (λ p. p ≡ partial (asked query.now) fragment.now.rows) }
