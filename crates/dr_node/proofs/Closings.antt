@@ -21,8 +21,8 @@ shows-closed n given stream mine all own kept marks is = record {
   all = all;
   own = own;
   counts = λ k d lt.
-    let kept-there = kept k d lt in
-    let seat = get_or given k d in
-    ap (λ xs. slice_get xs seat.number) is ∙ count-at n seat.number stream kept-there.1 ∙ ap Some (ap length (own k d lt) ∙ sym kept-there.0);
+      let kept-there = kept k d lt in
+      let seat = get_or given k d in
+      ap (λ xs. slice_get xs seat.number) is ∙ count-at n seat.number stream kept-there.1 ∙ ap Some (ap length (own k d lt) ∙ sym kept-there.0);
   total = ap sum is ∙ sum-counts n stream marks;
 }

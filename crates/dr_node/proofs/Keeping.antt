@@ -36,8 +36,8 @@ kept-seen schema seats h p m f d kept own was most = record {
   schema_is = kept.schema_is;
   marks = kept.marks;
   mine = λ k n at. elim (set-get h.mine p (m + 0) k n at) [
-    inl here ↦ let marked-is = kept.mine p m own in let same = here.1 in rw here.0 (omega arith)
-  | inr there ↦ kept.mine k n there.1
+    | inl here ↦ let marked-is = kept.mine p m own in let same = here.1 in rw here.0 (omega arith)
+    | inr there ↦ kept.mine k n there.1
   ];
   floor = λ k n at. elim (set-get h.floor p (f + d) k n at) [ inl here ↦ let same = here.1 in omega arith | inr there ↦ kept.floor k n there.1 ];
 }
@@ -54,19 +54,19 @@ kept-accepted schema seats h t e p m f d kept own was schema-is stream-is mark-i
       schema_is = schema-is ∙ kept.schema_is;
       marks = subst (All M) (sym stream-is) (All-append M es (e ∷ []) kept.marks (All-cons M e [] (subst (λ n. n < seats) mark-is within) (All-nil M)));
       mine = λ k n at. subst (λ xs. length (marked k xs) ≡ n) (sym stream-is) (marked-push k es e ∙ elim (set-get h.mine p (m + 1) k n at) [
-        inl here ↦
-          let has = kept.mine p m own in
-          let its : nat_eq e.seat k ≡ true = let a = here.0 in grind (arith, nat_tests) in
-          let sum : length (marked k es) + 1 ≡ n = let a = here.0 in let b = here.1 in subst (λ j. length (marked j es) + 1 ≡ n) (sym a) (omega arith) in
-          rw its sum
-      | inr there ↦
-          let other : nat_eq e.seat k ≡ false = let a = there.0 in grind (arith, nat_tests) in
-          let has = kept.mine k n there.1 in
-          rw other (omega arith)
+        | inl here ↦
+            let has = kept.mine p m own in
+            let its : nat_eq e.seat k ≡ true = let a = here.0 in grind (arith, nat_tests) in
+            let sum : length (marked k es) + 1 ≡ n = let a = here.0 in let b = here.1 in subst (λ j. length (marked j es) + 1 ≡ n) (sym a) (omega arith) in
+            rw its sum
+        | inr there ↦
+            let other : nat_eq e.seat k ≡ false = let a = there.0 in grind (arith, nat_tests) in
+            let has = kept.mine k n there.1 in
+            rw other (omega arith)
       ]);
       floor = λ k n at. subst (λ xs. n ≤ length xs) (sym stream-is) (elim (set-get h.floor p (f + d) k n at) [
-        inl here ↦ let same = here.1 in omega arith
-      | inr there ↦ let less = kept.floor k n there.1 in omega arith
+        | inl here ↦ let same = here.1 in omega arith
+        | inr there ↦ let less = kept.floor k n there.1 in omega arith
       ]);
     }
 
