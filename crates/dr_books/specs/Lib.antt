@@ -1,3 +1,0 @@
-pub mod Unnamed
-pub mod Opened
-pub mod Sides

@@ -1,4 +1,0 @@
-pub mod Seatings
-pub mod Counting
-pub mod Keeping
-pub mod Closings

@@ -1,5 +1,0 @@
-pub mod Seats
-pub mod Kept
-pub mod Refusal
-pub mod Acting
-pub mod Closing
