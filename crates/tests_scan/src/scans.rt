@@ -13,15 +13,20 @@ const SPEC: &[u8] =
 const IMAGE: &str =
     "4452534701000100ec0000000000000000f451c28c01000000000000000000000300000000000000020004000200000000f451c28c01000080e288c28c010000020000000000000001000000000000000c00000000000000feffffffffffffff0500000000000000feffffffffffffff0700000000000000feffffffffffffff020000000200000001000000020000004142000000000100000001000000020000000000000001000000010000000200000002000000656e00000000000000000200000000000000010000000176456ea60f872785b4d045f35b0fafa9726456071496520833166c2987bead";
 
-const LISTS: &[u8] = br#"{"queryType":"scan","dataSource":"w","intervals":"2024-01-01/2024-01-02","columns":["__time","page","added","nope"],"resultFormat":"compactedList"}"#;
+const LISTS: &[u8] =
+    br#"{"queryType":"scan","dataSource":"w","intervals":"2024-01-01/2024-01-02","columns":["__time","page","added","nope"],"resultFormat":"compactedList"}"#;
 
-const LISTS_OF_TWO: &[u8] = br#"[{"columns":["__time","page","added","nope"],"events":[[1704067200000,"A",12,null],[1704070800000,"B",-2,null]],"segmentId":"s"}]"#;
+const LISTS_OF_TWO: &[u8] =
+    br#"[{"columns":["__time","page","added","nope"],"events":[[1704067200000,"A",12,null],[1704070800000,"B",-2,null]],"segmentId":"s"}]"#;
 
-const OF_PAGE_B: &[u8] = br#"{"queryType":"scan","dataSource":"w","intervals":"2024-01-01/2024-01-02","columns":["page","lang","added"],"filter":{"type":"selector","dimension":"page","value":"B"}}"#;
+const OF_PAGE_B: &[u8] =
+    br#"{"queryType":"scan","dataSource":"w","intervals":"2024-01-01/2024-01-02","columns":["page","lang","added"],"filter":{"type":"selector","dimension":"page","value":"B"}}"#;
 
-const B_ALONE: &[u8] = br#"[{"columns":["page","lang","added"],"events":[{"added":-2,"lang":"en","page":"B"}],"segmentId":"s"}]"#;
+const B_ALONE: &[u8] =
+    br#"[{"columns":["page","lang","added"],"events":[{"added":-2,"lang":"en","page":"B"}],"segmentId":"s"}]"#;
 
-const LAST_FIRST: &[u8] = br#"{"queryType":"scan","dataSource":"w","intervals":"2024-01-01/2024-01-02","columns":["page"],"resultFormat":"compactedList","order":"descending","limit":1}"#;
+const LAST_FIRST: &[u8] =
+    br#"{"queryType":"scan","dataSource":"w","intervals":"2024-01-01/2024-01-02","columns":["page"],"resultFormat":"compactedList","order":"descending","limit":1}"#;
 
 const THE_LAST: &[u8] = br#"[{"columns":["page"],"events":[["B"]],"segmentId":null}]"#;
 
