@@ -39,16 +39,21 @@ if verb == "ci":
         print("rt: FAILED: low (tests)\\n1 passed, 1 failed")
         sys.exit(1)
     print("2 passed, 0 failed")
-elif verb in ("lib", "run"):
+elif verb in ("all", "run"):
     with open(os.environ["STUB_LOG"], "a") as it:
         it.write(f"{verb} {os.path.basename(os.getcwd())}\\n")
     time.sleep(0.2)
-    if fault == "build":
-        print("it is not proved")
+    if verb == "all":
+        of_low = "failed (1)" if fault == "build" else "ok"
+        print("== low\\nit is " + of_low)
+        of_program = "not run, since low failed" if fault == "build" else "ok"
+        print("== dr_cli\\n== summary\\nlow: " + of_low + "\\ndr_cli: " + of_program)
+        sys.exit(1 if fault == "build" else 0)
+    if fault == "link":
+        print("it does not link")
         sys.exit(1)
-    if verb == "run":
-        os.makedirs("out", exist_ok=True)
-        make("out/dr_cli")
+    os.makedirs("out", exist_ok=True)
+    make("out/dr_cli")
 elif verb == "version":
     print("stub")
 """
@@ -154,7 +159,9 @@ def program_is_never_stale():
         words = ("./druid-node", "run")
         if (ran := stub.run("build", *words, input="first")).returncode == 0 or ran.stdout or "low is not proved" not in ran.stderr:
             return f"a first build that fails: {ran}"
-        if (ran := stub.run("", *words, input="second")).stdout != "second" or "proving low, crate 1 of 2" not in ran.stderr:
+        if (ran := stub.run("link", *words, input="first")).returncode == 0 or ran.stdout or "dr_cli is not built" not in ran.stderr:
+            return f"a program that isn't built: {ran}"
+        if (ran := stub.run("", *words, input="second")).stdout != "second" or "low is done, 1 of 2 crates" not in ran.stderr:
             return f"a first build: {ran}"
         if (ran := stub.run("build", *words, input="third")).stdout != "third" or ran.stderr:
             return f"a program that is current: {ran}"
@@ -175,7 +182,7 @@ def first_runs_wait():
             ran = list(pool.map(lambda it: stub.run("", "./druid-node", "run", input=it), ("one", "two")))
         with open(stub.log, encoding="utf-8") as it:
             built = it.read().splitlines()
-    if [it.stdout for it in ran] != ["one", "two"] or built != ["lib low", "run dr_cli"]:
+    if [it.stdout for it in ran] != ["one", "two"] or built != ["all top", "run dr_cli"]:
         return f"{built}: {ran}"
     return None
 
