@@ -2,6 +2,7 @@ pub mod Pinning
 pub mod Times
 pub mod ShownRows
 pub mod PartialAnswers
+pub mod Numbering
 pub mod Keeping
 pub mod Standing
 pub mod Placing
