@@ -13,9 +13,9 @@ use Rattle.dr_cuts.specs.State.{Range}
 use Rattle.dr_cuts.proofs.Each.{All-push, All-left, All-right, All-append, All-same}
 use Rattle.dr_chunks.specs.declared.chunk.Chunk.{Chunk}
 use Rattle.dr_chunks.specs.declared.sealed_range.SealedRange.{SealedRange}
-use Rattle.dr_chunks.specs.Held.{range_of, no_chunk, with_one, with_open_sealed, is_full, grown, with_range, chunk_at}
+use Rattle.dr_chunks.specs.Held.{range_of, cut_of, no_chunk, with_one, with_open_sealed, is_full, grown, with_range, chunk_at}
 use Rattle.dr_chunks.proofs.Changes.{All-chunk_at}
-use Rattle.dr_timeline.specs.Steps.{least_version, publications_after, version_for}
+use Rattle.dr_timeline.specs.Steps.{least_version, publications_after, version_for, HasVersions}
 use Rattle.dr_timeline.specs.Kept.{IsNumbered}
 
 zero-least : (n : ℕ) → 0 ≤ n
@@ -103,6 +103,15 @@ numbered-replaced commits place count purpose new c h is =
       publications = at-most q (p + 1) (commits + 1) (after-most purpose p) few;
       versions = All-append (λ s. s.version ≤ q) (take place c.sealed) (new ∷ drop (place + count) c.sealed) (first-within q place c.sealed all) (own, last-within q (place + count) c.sealed all);
     }
+
+-- the versions that a contract sees
+versions-shown : (p : ℕ) (ss : List SealedRange) → AreWithin p ss → AllByRecursion (λ range. range.version ≤ p) (map range_of ss)
+versions-shown p [] all = tt
+versions-shown p (s ∷ ss) all = (all.0, versions-shown p ss all.1)
+
+pub numbered-shown : (commits : ℕ) (cs : List Chunk) → AllByRecursion (IsNumbered commits) cs → AllByRecursion HasVersions (map cut_of cs)
+numbered-shown commits [] all = tt
+numbered-shown commits (c ∷ cs) all = (versions-shown c.publications c.sealed all.0.versions, numbered-shown commits cs all.1)
 
 -- another chunk after one more commit
 pub numbered-more : (commits : ℕ) (c : Chunk) → IsNumbered commits c → IsNumbered (commits + 1) c

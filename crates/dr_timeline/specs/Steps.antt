@@ -1,6 +1,7 @@
 -- The steps that change a timeline: accepting an event, sealing an open range, and replacing sealed ranges by the one that
 -- they join to (Apache Druid documentation, ingestion: persists, merges, segment replacement).
 use Rattle.std.specs.Prelude.{◌≡◌, ℕ, ℤ, ◌+◌, ◌-◌, ◌<◌, ◌≤◌, min, nat_le, List, [], ◌∷◌, ◌++◌, length, map, take, drop, fold, if◌then◌else◌}
+use Rattle.std.specs.List.{AllByRecursion}
 use Rattle.std.specs.Ordering.{int_cmp, match_ordering}
 use Rattle.dr_base.specs.declared.event.Event.{Event}
 use Rattle.dr_merge.specs.declared.job.Job.{Job}
@@ -79,6 +80,10 @@ publications_after Publish publications = publications + 1
 abbrev pub version_for : Purpose → ℕ → List Range → ℕ
 version_for Merge publications ranges = least_version ranges
 version_for Publish publications ranges = publications
+
+-- no range of a chunk has a version over the number of its publications
+abbrev pub HasVersions : Cut → Type 0
+HasVersions cut = AllByRecursion (λ range. range.version ≤ cut.publications) cut.sealed
 
 -- a range in the place of so many ranges from a place on, for that purpose
 abbrev pub replaced : ℕ → ℕ → Purpose → Range → Cut → Cut

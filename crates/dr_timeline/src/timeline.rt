@@ -1,7 +1,8 @@
 ghost use Rattle.std.specs.Prelude.{◌≡◌, ◌<◌, ◌≤◌, ◌↔◌, ◌⊎◌, ℕ, true, [], length, map, OnOk, OnErr, IfOk, IfErr, IsErrOf};
 ghost use Rattle.dr_timeline.specs.declared.timeline_error.TimelineError.TheVariants.{NoMemory, StreamFull, NothingToSeal, NoSuchRange, Stale, CommitsFull};
 ghost use Rattle.dr_cuts.specs.State.{State, empty_state, sealed_in};
-ghost use Rattle.dr_timeline.specs.Steps.{accepted, sealed_at, open_in, job_of, StandsAt, Commits};
+ghost use Rattle.std.specs.List.{AllByRecursion};
+ghost use Rattle.dr_timeline.specs.Steps.{accepted, sealed_at, open_in, job_of, StandsAt, Commits, HasVersions};
 ghost use Rattle.dr_timeline.specs.Stepping.{accept, seal, plan, commit};
 ghost use Rattle.dr_timeline.specs.Refusal.{is_memory};
 ghost use Rattle.dr_base.specs.Reading.{GivesUnless};
@@ -245,6 +246,15 @@ impl Timeline {
         };
         let alloc = self.stream.allocator();
         image_of(alloc, self.spec.schema(), range.fragment.fragment())
+    }
+
+    /// What holds of each timeline, whatever steps made it: no range has a version over the number of its chunk's publications. It
+    /// does nothing.
+    pub fn versions_are_publications(&self)
+        ensures { AllByRecursion HasVersions self.now.cuts }
+    {
+        // The type says so of what it keeps.
+        let _ = self.commits;
     }
 
     /// A snapshot of what was accepted so far, and of the ranges as they are now, which no later step changes. The timeline
