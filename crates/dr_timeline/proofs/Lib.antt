@@ -5,7 +5,7 @@ pub mod PartialAnswers
 pub mod Numbering
 pub mod Keeping
 pub mod Standing
-pub mod Imaging
+pub mod SealedImages
 pub mod Placing
 pub mod Working
 pub mod Worked

@@ -236,7 +236,7 @@ impl Timeline {
     /// takes what `encode` of `dr_segment` says. Refusals: 92 `NoSuchRange` exactly where the chunk has no sealed range at that place,
     /// and then 59 `ImageTooLarge` exactly where the image has more bytes than the spec's `maxImageBytes`.
     pub fn image(&self, chunk: i64, place: usize) -> Result<Vec<u8>, TimelineError>
-        ensures step { GivesUnless is_memory (λ bytes. bytes.items) result (image_at self.now chunk place) }
+        ensures { GivesUnless is_memory (λ bytes. bytes.items) result (image_at self.now chunk place) }
     {
         let Some(there) = self.chunks.get(chunk) else {
             return Err(TimelineError::NoSuchRange);
@@ -254,7 +254,7 @@ impl Timeline {
         ensures { AllByRecursion HasVersions self.now.cuts }
     {
         // The type says so of what it keeps.
-        let _ = self.commits;
+        let _commits = self.commits;
     }
 
     /// A snapshot of what was accepted so far, and of the ranges as they are now, which no later step changes. The timeline

@@ -1,5 +1,5 @@
 -- The image of a sealed range that is kept.
-use Rattle.std.proofs.Common.{◌≡◌, ◌∙◌, sym, refl, ap, subst, ℕ, zero, suc, ℤ, Bool, true, false, cond, List, [], ◌∷◌, length, map, slice_get, option_map, Option, Some, None, Ok, Err}
+use Rattle.std.proofs.Common.{◌≡◌, ◌∙◌, sym, refl, ap, subst, ℕ, zero, suc, ℤ, Bool, true, false, cond, List, [], ◌∷◌, length, map, slice_get, option_map, Option, Some, None, Ok, Err, ◌≤◌, arith}
 use Rattle.std.specs.Prelude.{Result, nat_le}
 use Rattle.std.specs.List.{AllByRecursion}
 use Rattle.dr_base.specs.Reading.{passed}
@@ -41,6 +41,12 @@ all-got : (P : SealedRange → Type 0) (ss : List SealedRange) (place : ℕ) (x 
 all-got P [] place x all is = absurd cc
 all-got P (s ∷ ss) zero x all is = let same : s ≡ x = cc in subst P same all.0
 all-got P (s ∷ ss) (suc place) x all is = all-got P ss place x all.1 is
+
+-- behind the last one there is none
+pub past-last : (ss : List SealedRange) (place : ℕ) → length ss ≤ place → slice_get ss place ≡ None
+past-last [] place le = refl
+past-last (s ∷ ss) zero le = absurd (omega arith)
+past-last (s ∷ ss) (suc place) le = past-last ss place (omega arith)
 
 -- the range that a state shows there
 shown-range : (schema : Schema) (cs : List Chunk) (k : ℤ) (c : Chunk) (place : ℕ) (found : Option SealedRange) → chunk_at schema k cs ≡ c → slice_get c.sealed place ≡ found → slice_get (sealed_in k (map cut_of cs)) place ≡ option_map range_of found
