@@ -1,5 +1,5 @@
 -- Publications and versions: no chunk has more publications than there were commits, and no version is over its chunk's publications.
-use Rattle.std.proofs.Common.{◌≡◌, sym, subst, ℕ, ℤ, ◌+◌, ◌≤◌, Bool, true, false, cond, min, List, [], ◌∷◌, ◌++◌, map, take, drop, fold, arith}
+use Rattle.std.proofs.Common.{◌≡◌, sym, subst, ℕ, ℤ, ◌+◌, ◌≤◌, true, false, cond, min, List, [], ◌∷◌, map, take, drop, fold, arith}
 use Rattle.std.proofs.Math.Nat.{min-le_left}
 use Rattle.std.specs.List.{AllByRecursion}
 use Rattle.std.specs.List.Sorted.{IsStrictlySortedBy}

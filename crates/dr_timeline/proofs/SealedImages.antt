@@ -1,6 +1,6 @@
 -- The image of a sealed range that is kept.
-use Rattle.std.proofs.Common.{◌≡◌, ◌∙◌, sym, refl, ap, subst, ℕ, zero, suc, ℤ, Bool, true, false, cond, List, [], ◌∷◌, length, map, slice_get, option_map, Option, Some, None, Ok, Err, ◌≤◌, arith}
-use Rattle.std.specs.Prelude.{Result, nat_le}
+use Rattle.std.proofs.Common.{◌≡◌, ◌∙◌, sym, refl, ap, subst, ℕ, zero, suc, ℤ, true, false, cond, List, [], ◌∷◌, length, map, slice_get, option_map, Option, Some, None, Ok, Err, ◌≤◌, arith}
+use Rattle.std.specs.Prelude.{nat_le}
 use Rattle.std.specs.List.{AllByRecursion}
 use Rattle.dr_base.specs.Reading.{passed}
 use Rattle.dr_base.specs.declared.event.Event.{Event}
@@ -11,13 +11,12 @@ use Rattle.dr_segment.specs.Encoding.{encoded}
 use Rattle.dr_fragment.specs.declared.fragment.Fragment.{Fragment}
 use Rattle.dr_merge.specs.Joined.{sealed_fragment}
 use Rattle.dr_cuts.specs.Chunks.{chunks}
-use Rattle.dr_cuts.specs.State.{Range, sealed_in}
+use Rattle.dr_cuts.specs.State.{sealed_in}
 use Rattle.dr_chunks.specs.declared.chunk.Chunk.{Chunk}
 use Rattle.dr_chunks.specs.declared.sealed_range.SealedRange.{SealedRange}
 use Rattle.dr_chunks.specs.Held.{range_of, ranges_of, cut_of, Holds, chunk_at}
 use Rattle.dr_chunks.specs.Ranges.{fragment_of}
 use Rattle.dr_chunks.proofs.Changes.{sealed_in-cuts}
-use Rattle.dr_timeline.specs.declared.timeline_error.TimelineError.{TimelineError}
 use Rattle.dr_timeline.specs.declared.timeline_error.TimelineError.TheVariants.{ImageTooLarge, NoSuchRange}
 use Rattle.dr_timeline.specs.Imaging.{image_of, image_where, image_at, not_written}
 use Rattle.dr_timeline.proofs.Keeping.{holds-chunk_at}

@@ -10,7 +10,7 @@ use Rattle.dr_chunks.specs.declared.chunk.Chunk.{Chunk}
 use Rattle.dr_merge.specs.declared.job.Job.{Job}
 use Rattle.dr_chunks.specs.declared.sealed_range.SealedRange.{SealedRange}
 use Rattle.dr_cuts.specs.Chunks.{chunks}
-use Rattle.dr_cuts.specs.State.{State, Range, sealed_in, open_from}
+use Rattle.dr_cuts.specs.State.{State, sealed_in, open_from}
 use Rattle.dr_merge.specs.Joined.{joined, joined_fragment}
 use Rattle.dr_chunks.specs.Ranges.{fragment_of}
 use Rattle.dr_timeline.specs.Steps.{ranges_at, StandsAt, publications_in, publications_after, version_for, joined_range, replaced, committed}
