@@ -25,7 +25,7 @@ use std::alloc::{AllocError, Global};
 /// that there was no memory to begin or for the list of replies; within a run a step that finds no memory is refused with
 /// 0, and changes nothing. Each event must fit the schema of the spec, and each query have been made for it.
 ///
-/// Whatever the steps seal and merge, and however late, often or in whatever order jobs are committed: each answer to a
+/// Whatever the steps seal, merge and publish, and however late, often or in whatever order jobs are committed: each answer to a
 /// matching query on a snapshot is, byte for byte, the answer over the raw events that were accepted before its pin.
 pub fn run_core_one(
     alloc: Global,

@@ -21,7 +21,6 @@ use Rattle.dr_answers.specs.Answer.{answer}
 use Rattle.dr_ask.specs.QueryOf.{query_of}
 use Rattle.dr_merge.specs.declared.job.Job.{Job}
 use Rattle.dr_merge.specs.declared.purpose.Purpose.{Purpose}
-use Rattle.dr_merge.specs.declared.purpose.Purpose.TheVariants.{Merge, Publish}
 use Rattle.dr_cuts.specs.Chunks.{values_onto}
 use Rattle.dr_cuts.specs.RawAnswer.{raw_answer}
 use Rattle.dr_cuts.specs.Segments.{Pinned, pinned, rows_of}
@@ -48,7 +47,7 @@ use Rattle.dr_requests.specs.declared.request.Request.TheVariants.{Add, Seal, Jo
 use Rattle.dr_requests.specs.Request.{instant_in, request_in}
 use Rattle.dr_script.specs.declared.script_error.ScriptError.{ScriptError}
 use Rattle.dr_script.specs.declared.script_error.ScriptError.TheVariants.{Command, Time, Core, Query as BadQuery, Answer}
-use Rattle.dr_script.specs.Commands.{Answered, add_event, add_read, answered, ask_at, ask_now, audit_now, carried_out, check_purpose, chunk_named, commit_job, image_at, join_ranges, plan_ranges, refused_by, seal_chunk, tell_stats, told, grouping_of, no_scan}
+use Rattle.dr_script.specs.Commands.{Answered, add_event, add_read, answered, ask_at, ask_now, audit_now, carried_out, chunk_named, commit_job, image_at, join_ranges, plan_ranges, refused_by, seal_chunk, tell_stats, told, grouping_of, no_scan}
 use Rattle.dr_script.specs.Headline.{AnswersRaw, AnswersAreRaw, RawScript, IsRaw, RawFrom, accepted_for, asked_by, begins, event_asked, event_read, pin_asked, pinned_for, told_answer}
 use Rattle.dr_script.specs.Script.{GoesOn, Moves, Script, ScriptAfter, ScriptFrom, opened_by, settled, step}
 use Rattle.dr_ask.proofs.MadeQueries.{query_of-made}
@@ -122,12 +121,6 @@ named P c instant f refused taken = at (instant_in instant)
     at (Ok t) = taken (truncation c.timeline.schema.segment_granularity t)
     at (Err e) = refused (Time e)
 
--- a purpose is checked, and then
-checked : (P : Answered × CoreState → Type 0) (c : CoreState) (purpose : Purpose) (f : Unit {0} → Result (Answered × CoreState) ScriptError)
-    → ((e : ScriptError) → P (told e, c)) → P (settled c (f tt)) → P (settled c (check_purpose purpose >>= f))
-checked P c Merge f refused taken = taken
-checked P c Publish f refused taken = refused (Command BadCommand)
-
 -- ---- the commands
 
 module _ (schema : Schema) (es : List Event) (ess : List (List Event)) (c : CoreState) (h : IsRunSoFar schema es ess c) (least : 1 ≤ schema.limits.max_rows_in_memory) where
@@ -159,8 +152,8 @@ module _ (schema : Schema) (es : List Event) (ess : List (List Event)) (c : Core
 
   joins : (purpose : Purpose) (instant : List ℕ) (lo hi : ℕ) → Stays (settled c (join_ranges purpose instant lo hi c))
   joins purpose instant lo hi =
-      checked Stays c purpose _ same (named Stays c instant _ same (λ k. settles Stays Core c (core.join k lo hi purpose c) _ same
-      (λ n is. through (passed Timeline (plan c.timeline k lo hi purpose)) _ n is (λ job _ is. joined job n is))))
+      named Stays c instant _ same (λ k. settles Stays Core c (core.join k lo hi purpose c) _ same
+      (λ n is. through (passed Timeline (plan c.timeline k lo hi purpose)) _ n is (λ job _ is. joined job n is)))
 
   planned : (k : ℤ) (lo hi : ℕ) (purpose : Purpose) (n : ℕ × CoreState) → core.plan k lo hi purpose c ≡ Ok n → IsRunSoFar schema es ess n.1
   planned k lo hi purpose n is =
@@ -168,7 +161,7 @@ module _ (schema : Schema) (es : List Event) (ess : List (List Event)) (c : Core
 
   plans : (purpose : Purpose) (instant : List ℕ) (lo hi : ℕ) → Stays (settled c (plan_ranges purpose instant lo hi c))
   plans purpose instant lo hi =
-      checked Stays c purpose _ same (named Stays c instant _ same (λ k. settles Stays Core c (core.plan k lo hi purpose c) _ same (λ n is. planned k lo hi purpose n is)))
+      named Stays c instant _ same (λ k. settles Stays Core c (core.plan k lo hi purpose c) _ same (λ n is. planned k lo hi purpose n is))
 
   committed : (number : ℕ) (n : ℕ × CoreState) → core.commit number c ≡ Ok n → IsRunSoFar schema es ess n.1
   committed number n is =
@@ -189,6 +182,9 @@ module _ (schema : Schema) (es : List Event) (ess : List (List Event)) (c : Core
   audits : (text : List ℕ) → Stays (settled c (audit_now text c))
   audits text =
       settles Stays BadQuery c (grouping_of c.timeline.schema text) _ same (λ q _. settles Stays Answer c (raw_answer c.timeline.schema q c.timeline.stream) _ same (λ a _. h))
+
+  shows : (instant : List ℕ) (place : ℕ) → Stays (settled c (image_at instant place c))
+  shows instant place = named Stays c instant _ same (λ k. settles Stays Core c (core.image k place c) _ same (λ bytes _. h))
 
   -- an event is accepted
   abbrev Adds : Result Event Unparseable → Answered × CoreState → Type 0
@@ -220,7 +216,7 @@ module _ (schema : Schema) (es : List Event) (ess : List (List Event)) (c : Core
   done_follows (Query text) = quiet schema es ess (Ok (Query text)) (settled c (ask_now text c)) refl refl (asks_now text)
   done_follows (At number text) = quiet schema es ess (Ok (At number text)) (settled c (ask_at number text c)) refl refl (asks_at number text)
   done_follows (Audit text) = quiet schema es ess (Ok (Audit text)) (settled c (audit_now text c)) refl refl (audits text)
-  done_follows (Image instant place) = quiet schema es ess (Ok (Image instant place)) (settled c (image_at instant place c)) refl refl h
+  done_follows (Image instant place) = quiet schema es ess (Ok (Image instant place)) (settled c (image_at instant place c)) refl refl (shows instant place)
   done_follows Stats = quiet schema es ess (Ok Stats) (settled c (tell_stats c)) refl refl h
 
   -- ---- the answers

@@ -3,6 +3,7 @@ use Rattle.std.specs.Prelude.{ℕ, ℤ, Bool, true, false, List, ◌++◌, Optio
 use Rattle.dr_base.specs.FaultLine.{fault_line, arg_part}
 use Rattle.dr_base.specs.Reading.{◌>>=◌, passed}
 use Rattle.dr_base.specs.declared.fault.Arg.{Arg}
+use Rattle.hex.specs.Hex.{encode_lower}
 use Rattle.dr_time.specs.Refusal as time
 use Rattle.dr_gran.specs.Truncation.{truncation}
 use Rattle.dr_base.specs.declared.event.Event.{Event}
@@ -109,15 +110,9 @@ abbrev pub joined_line : Purpose → ℕ → List ℕ
 joined_line Merge version = codes "merged"
 joined_line Publish version = codes "published v" ++ decimal version
 
--- publications aren't carried out yet: a line that asks for one is refused as one that fits no command
-abbrev pub check_purpose : Purpose → Result (Unit {0}) ScriptError
-check_purpose Merge = Ok tt
-check_purpose Publish = Err (Command BadCommand)
-
 -- `merge INSTANT LO HI`, `publish INSTANT LO HI`: a job that is planned and committed at once
 abbrev pub join_ranges : Purpose → List ℕ → ℕ → ℕ → CoreState → Result (Answered × CoreState) ScriptError
 join_ranges purpose instant lo hi c = do
-  checked ← check_purpose purpose
   k ← chunk_named c instant
   n ← passed Core (core.join k lo hi purpose c)
   Ok (answered (joined_line purpose n.0), n.1)
@@ -125,7 +120,6 @@ join_ranges purpose instant lo hi c = do
 -- `plan merge INSTANT LO HI`, `plan publish INSTANT LO HI`: a job that is kept, numbered from 0
 abbrev pub plan_ranges : Purpose → List ℕ → ℕ → ℕ → CoreState → Result (Answered × CoreState) ScriptError
 plan_ranges purpose instant lo hi c = do
-  checked ← check_purpose purpose
   k ← chunk_named c instant
   n ← passed Core (core.plan k lo hi purpose c)
   Ok (answered (codes "job " ++ decimal n.0), n.1)
@@ -182,9 +176,12 @@ stats_line n = counts_line n.processed n.unparseable n.thrown_away
 abbrev pub tell_stats : CoreState → Result (Answered × CoreState) ScriptError
 tell_stats c = Ok (answered (stats_line (stats c.timeline)), c)
 
--- `image INSTANT PLACE`: images aren't told yet either
+-- `image INSTANT PLACE`: the image of the sealed range of a chunk at that place
 abbrev pub image_at : List ℕ → ℕ → CoreState → Result (Answered × CoreState) ScriptError
-image_at instant place c = Err (Command BadCommand)
+image_at instant place c = do
+  k ← chunk_named c instant
+  bytes ← passed Core (core.image k place c)
+  Ok (answered (encode_lower bytes), c)
 
 -- what a line asks for is done
 abbrev pub carried_out : CoreState → Request (List ℕ) → Result (Answered × CoreState) ScriptError

@@ -7,7 +7,7 @@ ghost use Rattle.dr_cuts.specs.RawAnswer.{raw_answer};
 ghost use Rattle.dr_cuts.specs.Segments.{pinned, rows_of};
 ghost use Rattle.dr_script.specs.declared.script_error.ScriptError.TheVariants.{Answer, Query as BadQuery};
 ghost use Rattle.dr_timeline.specs.CoreState.{empty_core};
-ghost use Rattle.dr_script.specs.Commands.{add_event, ask_at, ask_now, audit_now as audited_now, carried_out, check_purpose, chunk_named, commit_job, is_memory, join_ranges, pin_snapshot, plan_ranges, seal_chunk, tell_stats, grouping_of};
+ghost use Rattle.dr_script.specs.Commands.{add_event, ask_at, ask_now, audit_now as audited_now, carried_out, chunk_named, commit_job, image_at, is_memory, join_ranges, pin_snapshot, plan_ranges, seal_chunk, tell_stats, grouping_of};
 ghost use Rattle.dr_script.specs.Replies.{seen};
 ghost use Rattle.dr_requests.specs.Seen.{seen_request};
 
@@ -79,7 +79,7 @@ impl Session {
             Request::Query(text) => self.query(alloc, text),
             Request::At(number, text) => self.at(alloc, number, text),
             Request::Audit(text) => self.audit(alloc, text),
-            Request::Image(_, _) => Err(ScriptError::Command(CommandError::BadCommand)),
+            Request::Image(instant, place) => self.image(instant, place),
             Request::Stats => self.stats(alloc),
         }
     }
@@ -122,7 +122,6 @@ impl Session {
         ensures step { GivesUnless is_memory (λ reply. (seen reply, self.new)) result (join_ranges purpose instant.now lo hi self.old) }
         ensures err { OnErr result (self.new ≡ self.old) }
     {
-        check_purpose(purpose)?;
         let chunk = self.chunk_named(instant)?;
         let version = self
             .core
@@ -140,7 +139,6 @@ impl Session {
         ensures step { GivesUnless is_memory (λ reply. (seen reply, self.new)) result (plan_ranges purpose instant.now lo hi self.old) }
         ensures err { OnErr result (self.new ≡ self.old) }
     {
-        check_purpose(purpose)?;
         let chunk = self.chunk_named(instant)?;
         let number = self.core.plan(chunk, lo as usize, hi as usize, purpose)?;
         Ok(Reply::Job(number))
@@ -188,6 +186,14 @@ impl Session {
         Ok(Reply::Said(audit_now(&mut self.core, &query)?))
     }
 
+    fn image(&self, instant: &[u8], place: u64) -> Result<Reply, ScriptError>
+        ensures { GivesUnless is_memory (λ reply. (seen reply, self.now)) result (image_at instant.now place self.now) }
+    {
+        let chunk = self.chunk_named(instant)?;
+        let bytes = self.core.image(chunk, place as usize)?;
+        Ok(Reply::Hexadecimal(bytes))
+    }
+
     fn stats(&self, alloc: Global) -> Result<Reply, ScriptError>
         ensures { GivesUnless is_memory (λ reply. (seen reply, self.now)) result (tell_stats self.now) }
     {
@@ -214,16 +220,6 @@ impl Session {
         let time = instant_in(instant)?;
         let schema = self.core.spec().schema();
         Ok(schema.segment_granularity().truncate(time))
-    }
-}
-
-// Publications aren't carried out yet: a line that asks for one is refused as one that fits no command.
-fn check_purpose(purpose: Purpose) -> Result<(), ScriptError>
-    ensures { GivesUnless is_memory (λ checked. checked) result (check_purpose purpose) }
-{
-    match purpose {
-        Purpose::Merge => Ok(()),
-        Purpose::Publish => Err(ScriptError::Command(CommandError::BadCommand)),
     }
 }
 

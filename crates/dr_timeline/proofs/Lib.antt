@@ -2,8 +2,10 @@ pub mod Pinning
 pub mod Times
 pub mod ShownRows
 pub mod PartialAnswers
+pub mod Numbering
 pub mod Keeping
 pub mod Standing
+pub mod SealedImages
 pub mod Placing
 pub mod Working
 pub mod Worked

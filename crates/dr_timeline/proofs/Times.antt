@@ -1,5 +1,5 @@
 -- The times of the rows over cuts of events: each is a time, and their span is that of the events.
-use Rattle.std.proofs.Common.{◌≡◌, ◌∙◌, sym, refl, ap, ℤ, ◌≤ℤ◌, Bool, true, false, not, List, [], ◌∷◌, map, fold, Option, Some, None, IfSome, ◌||◌, ◌&&◌, arith}
+use Rattle.std.proofs.Common.{◌≡◌, ◌∙◌, refl, ℤ, ◌≤ℤ◌, Bool, true, false, not, List, [], ◌∷◌, map, fold, Option, Some, None, IfSome, ◌&&◌, arith}
 use Rattle.std.specs.Prelude.{int_le}
 use Rattle.std.specs.List.{list_any, AllByRecursion}
 use Rattle.std.proofs.lemmas.Bool.{or_parts, or_from}

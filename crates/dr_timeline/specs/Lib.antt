@@ -3,6 +3,7 @@ pub mod Steps
 pub mod Standing
 pub mod Stepping
 pub mod Noted
+pub mod Imaging
 pub mod Answering
 pub mod Shown
 pub mod Kept

@@ -4,6 +4,7 @@
 
 mod answering;
 mod chunk_of;
+mod imaging;
 mod known_texts;
 mod outcome;
 mod planned;
@@ -13,6 +14,7 @@ mod span;
 mod stats;
 mod timeline;
 mod timeline_error;
+mod versioning;
 
 pub use dr_answers::AnswerError;
 pub use dr_ask::{Query, QueryError};

@@ -1,4 +1,4 @@
-use Rattle.std.proofs.Common.{◌≡◌, ◌∙◌, sym, [], ◌∷◌, ◌++◌, ◌<◌, length, arith}
+use Rattle.std.proofs.Common.{◌∙◌, sym, [], ◌∷◌, ◌++◌, ◌<◌, length, arith}
 use Rattle.dr_fragment.proofs.SameRows.{one_more_taken}
 use Rattle.dr_timeline.proofs.range_rows.copies.Goals as goal
 

@@ -1,4 +1,4 @@
-use Rattle.std.proofs.Common.{◌≡◌, ◌∙◌, sym, Some, rules, FitsSigned, w64, ◌<◌, length, arith}
+use Rattle.std.proofs.Common.{◌∙◌, sym, Some, rules, FitsSigned, w64, ◌<◌, length, arith}
 use Rattle.std.proofs.lemmas.Int.{to_z-of_z}
 use Rattle.dr_answers.specs.Span.{wider}
 use Rattle.dr_timeline.proofs.Pinning.{span-more, lies-in}
