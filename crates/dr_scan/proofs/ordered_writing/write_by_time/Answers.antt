@@ -11,7 +11,7 @@ use Rattle.dr_scan.specs.Entries.{by_time}
 use Rattle.dr_scan.specs.Places.{all_selected, places_cmp, row_of, IsPlace}
 use Rattle.dr_scan.specs.Written.{one_entry_tokens}
 use Rattle.dr_scan.proofs.PlaceLemmas.{are-given, are-in_order, are-places_over}
-use Rattle.dr_scan.proofs.ordered_writing.write_ordered.Goals as goal
+use Rattle.dr_scan.proofs.ordered_writing.write_by_time.Goals as goal
 
 pub write_one_entry-requires : goal.write_one_entry-requires
 write_one_entry-requires c =
