@@ -1,5 +1,7 @@
 pub mod Pinning
 pub mod Times
+pub mod Spans
+pub mod RangePlaces
 pub mod ShownRows
 pub mod PartialAnswers
 pub mod Keeping

@@ -5,5 +5,7 @@ pub mod Stepping
 pub mod Noted
 pub mod Answering
 pub mod Shown
+pub mod Scanning
+pub mod Numbered
 pub mod Kept
 pub mod CoreState
