@@ -9,8 +9,8 @@ use std::marker::Model;
 /// rows in the order of their keys.
 #[derive(Drop)]
 pub struct Segment<'a> {
-    identifier: Text,
-    fragment: &'a PinnedFragment,
+    pub identifier: Text,
+    pub fragment: &'a PinnedFragment,
 }
 
 impl<'a> Model for Segment<'a> {
@@ -22,16 +22,6 @@ impl<'a> Model for Segment<'a> {
 }
 
 impl<'a> Segment<'a> {
-    /// A segment. It takes no memory.
-    pub fn new(identifier: Text, fragment: &'a PinnedFragment) -> Segment<'a>
-        ensures { result ≡ record { identifier = identifier; rows = fragment.now.rows } }
-    {
-        Segment {
-            identifier,
-            fragment,
-        }
-    }
-
     /// The identifier.
     pub(crate) fn identifier(&self) -> &Text
         ensures { result.now ≡ self.now.identifier }

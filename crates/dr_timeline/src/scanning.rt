@@ -51,7 +51,10 @@ fn segments<'a>(
         let range = ranges[i];
         let place = next_place(last, range.chunk);
         let identifier = identifier(alloc, schema, range.chunk, range.version, place)?;
-        segments.push(Segment::new(identifier, &fragments[i]))?;
+        segments.push(Segment {
+            identifier,
+            fragment: &fragments[i],
+        })?;
         last = Some((range.chunk, place));
     }
     Ok(segments)
