@@ -1,10 +1,11 @@
 -- The places of ranges in their chunks, found one after the other.
-use Rattle.std.proofs.Common.{◌≡◌, ◌∙◌, sym, refl, ap, subst, ℕ, ℤ, zero, suc, ◌+◌, ◌≤ℤ◌, ◌<ℤ◌, Bool, true, false, cond, List, [], ◌∷◌, ◌++◌, length, map, filter, Option, Some, None, arith}
+use Rattle.std.proofs.Common.{◌≡◌, ◌∙◌, sym, refl, ap, subst, ℕ, ℤ, zero, suc, ◌+◌, ◌≤ℤ◌, ◌<ℤ◌, Bool, true, false, true≢false, cond, List, [], ◌∷◌, ◌++◌, length, map, filter, Option, Some, None, arith}
 use Rattle.std.specs.List.{AllByRecursion, flat_map}
 use Rattle.std.specs.List.Sorted.{IsStrictlySortedBy}
 use Rattle.std.specs.declared.cmp.Ordering.TheVariants.{Less, Equal, Greater}
 use Rattle.std.specs.Ordering.{int_cmp, int_eq, match_ordering}
-use Rattle.std.proofs.lemmas.Int.{ints, signed_arith}
+use Rattle.std.proofs.lemmas.Cmp.{int_ranked}
+use Rattle.std.proofs.lemmas.Int.{ints}
 use Rattle.std.proofs.lemmas.List.{length-append}
 use Rattle.dr_base.specs.declared.event.Event.{Event}
 use Rattle.dr_base.specs.declared.row.Row.{Row}
@@ -17,7 +18,7 @@ use Rattle.dr_cuts.specs.declared.range_info.RangeInfo.{RangeInfo}
 use Rattle.dr_cuts.specs.Chunks.{chunk, chunks, with_value, values_onto}
 use Rattle.dr_cuts.specs.Segments.{infos, infos_of_cut, sealed_info, open_info, events_in}
 use Rattle.dr_cuts.specs.State.{AreCuts, Cut, Range, open_from}
-use Rattle.dr_cuts.proofs.Parts.{int_eq-itself, rising-values}
+use Rattle.dr_cuts.proofs.Parts.{int_eq-itself, is_eq-true, rising-values}
 use Rattle.dr_scan.specs.Identified.{Identified}
 use Rattle.dr_scan.specs.Identifier.{identifier_of}
 use Rattle.dr_timeline.specs.Numbered.{next_place, numbered}
@@ -91,7 +92,7 @@ rise-block j k (r ∷ rs) after all le h =
 
 less-le : (j : ℤ) (ks : List ℤ) → AllByRecursion (λ k. int_cmp j k ≡ Less) ks → AllByRecursion (λ k. j ≤ℤ k) ks
 less-le j [] h = tt
-less-le j (k ∷ ks) h = (omega (arith, ints, h.0), less-le j ks h.1)
+less-le j (k ∷ ks) h = (omega (arith, ints, int_ranked j k Less (sym h.0)), less-le j ks h.1)
 
 rise-cuts : (schema : Schema) (es : List Event) (j : ℤ) (cuts : List Cut) → AllByRecursion (λ k. j ≤ℤ k) (map (λ c. c.chunk) cuts) → IsStrictlySortedBy int_cmp (map (λ c. c.chunk) cuts) → Rise j (infos schema es cuts)
 rise-cuts schema es j [] le rising = tt
@@ -118,6 +119,12 @@ rising-infos schema es cuts are fit =
 
 -- ---- the place of a range is the number of those of its chunk before it
 
+equal_from : (a b : ℤ) → int_eq a b ≡ true → a ≡ b
+equal_from a b h = int_ranked a b Equal (sym (is_eq-true (int_cmp a b) h))
+
+apart_from : (a b : ℤ) → int_eq a b ≡ false → a ≡ b → ⊥
+apart_from a b h same = true≢false (sym (int_eq-itself b) ∙ subst (λ (x : ℤ). int_eq x b ≡ false) same h)
+
 abbrev count : ℤ → List RangeInfo → ℕ
 count k rs = length (filter (λ r. int_eq r.chunk k) rs)
 
@@ -137,7 +144,7 @@ count-none k j (r ∷ rs) h less = ap (λ (b : Bool). length (cond b (r ∷ filt
     other = at (int_eq r.chunk k) refl
       where
         at : (b : Bool) → int_eq r.chunk k ≡ b → int_eq r.chunk k ≡ false
-        at true e = absurd (omega (arith, ints, h.0, less))
+        at true e = absurd (omega (arith, ints, h.0, less, equal_from r.chunk k e))
         at false e = e
 
 -- the last of some ranges has that chunk and place, and none has a later chunk
@@ -155,8 +162,8 @@ place-is before None k h low = ap (λ rs. count k rs) (sym h)
 place-is before (Some last) k h low = at (int_eq last.0 k) refl
   where
     at : (b : Bool) → int_eq last.0 k ≡ b → cond b (last.1 + 1) 0 ≡ count k before
-    at true e = let is : last.0 ≡ k = omega (arith, ints) in sym h.0 ∙ ap (λ j. count j before) is
-    at false e = let less : last.0 <ℤ k = omega (arith, ints, low) in sym (count-none k last.0 before h.1 less)
+    at true e = let is : last.0 ≡ k = equal_from last.0 k e in sym h.0 ∙ ap (λ j. count j before) is
+    at false e = let apart : last.0 ≡ k → ⊥ = apart_from last.0 k e in let less : last.0 <ℤ k = omega (arith, ints, low, apart) in sym (count-none k last.0 before h.1 less)
 
 below-all : (before : List RangeInfo) (last : Option (ℤ × ℕ)) (k : ℤ) → IsLast before last → IsBelow last k → AllByRecursion (λ r. r.chunk ≤ℤ k) before
 below-all before None k h low = subst (AllByRecursion (λ r. r.chunk ≤ℤ k)) (sym h) tt

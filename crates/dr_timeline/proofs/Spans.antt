@@ -3,7 +3,7 @@ use Rattle.std.proofs.Common.{◌≡◌, ◌∙◌, sym, refl, ap, ℤ, ◌≤�
 use Rattle.std.specs.Prelude.{int_le}
 use Rattle.std.specs.List.{fold, AllByRecursion}
 use Rattle.std.specs.Int.{int_min, int_max}
-use Rattle.std.proofs.lemmas.Int.{ints, clamps, signed_arith}
+use Rattle.std.proofs.lemmas.Int.{ints, clamps}
 use Rattle.dr_base.specs.declared.event.Event.{Event}
 use Rattle.dr_time.specs.Instant.{IsInstant}
 use Rattle.dr_gran.specs.declared.gran.Gran.{Gran}
@@ -20,8 +20,8 @@ use Rattle.dr_timeline.proofs.Times.{EndsAtInstants, wider-ends}
 
 rises : (g : Gran) (t u : ℤ) → IsInstant t → IsInstant u → t ≤ℤ u → truncation g t ≤ℤ truncation g u
 rises g t u a b h =
-    let low = IsTruncation-truncation g t (omega (arith, signed_arith, a.0)) in
-    (IsTruncation-truncation g u (omega (arith, signed_arith, b.0))).greatest (truncation g t) low.starts (omega (arith, ints, low.not_after, h))
+    let low = IsTruncation-truncation g t (omega (arith, ints, a.0)) in
+    (IsTruncation-truncation g u (omega (arith, ints, b.0))).greatest (truncation g t) low.starts (omega (arith, ints, low.not_after, h))
 
 least-truncated : (g : Gran) (t u : ℤ) → IsInstant t → IsInstant u → int_min (truncation g t) (truncation g u) ≡ truncation g (int_min t u)
 least-truncated g t u a b = at (int_le t u) refl
