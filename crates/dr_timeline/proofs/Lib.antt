@@ -2,6 +2,8 @@ pub mod Pinning
 pub mod Times
 pub mod Spans
 pub mod RangePlaces
+pub mod Numbering
+pub mod ShownSegments
 pub mod ShownRows
 pub mod PartialAnswers
 pub mod Keeping
