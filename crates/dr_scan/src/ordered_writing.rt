@@ -38,7 +38,7 @@ pub(crate) fn write_ordered(
 /// The rows of each segment.
 fn rows_of_each<'a>(
     alloc: Global,
-    segments: &'a [Segment<'a>],
+    segments: &'a [Segment<'_>],
 ) -> Result<Vec<OrderedRows<'a>>, AllocError>
     ensures { IfOk result (λ rows. rows.items ≡ map (λ g. g.rows) segments.now) }
 {
