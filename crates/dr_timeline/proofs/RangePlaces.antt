@@ -95,6 +95,7 @@ less-le j [] h = tt
 less-le j (k ∷ ks) h = (omega (arith, ints, int_ranked j k Less (sym h.0)), less-le j ks h.1)
 
 rise-cuts : (schema : Schema) (es : List Event) (j : ℤ) (cuts : List Cut) → AllByRecursion (λ k. j ≤ℤ k) (map (λ c. c.chunk) cuts) → IsStrictlySortedBy int_cmp (map (λ c. c.chunk) cuts) → Rise j (infos schema es cuts)
+unfolding IsStrictlySortedBy
 rise-cuts schema es j [] le rising = tt
 rise-cuts schema es j (c ∷ cs) le rising =
     rise-block j c.chunk (infos_of_cut schema es c) (infos schema es cs) (all-in schema es c) le.0 (rise-cuts schema es c.chunk cs (less-le c.chunk (map (λ c. c.chunk) cs) rising.0) rising.1)
