@@ -9,6 +9,7 @@ ghost use Rattle.dr_ask.specs.Asked.{asked};
 ghost use Rattle.dr_ask.specs.MadeFor.{MadeFor};
 ghost use Rattle.dr_schema.specs.Fits.{FitsSchema};
 
+use crate::asking::ask as answer_to;
 use crate::bytes::Bytes;
 use crate::core_error::CoreError;
 use crate::reply::Reply;
@@ -121,7 +122,7 @@ fn ask(core: &Core, number: usize, query: &Query) -> Reply
     ensures { Moves core.now (Ask number query.now) result core.now }
 {
     match core.snapshot(number) {
-        Some(snapshot) => answered(snapshot.answer_one(query)),
+        Some(snapshot) => answered(answer_to(snapshot, query)),
         None => Reply::NoSuch,
     }
 }
@@ -130,6 +131,9 @@ fn audit(core: &Core, number: usize, query: &Query) -> Reply
     requires { MadeFor core.now.timeline.schema (asked query.now) }
     ensures { Moves core.now (Audit number query.now) result core.now }
 {
+    if query.is_scan() {
+        return Reply::NoSuch;
+    }
     match core.snapshot(number) {
         Some(snapshot) => answered(snapshot.audit(query)),
         None => Reply::NoSuch,

@@ -10,7 +10,6 @@ use Rattle.dr_base.specs.declared.event.Event.{Event}
 use Rattle.dr_events.specs.declared.unparseable.Unparseable.{Unparseable}
 use Rattle.dr_events.specs.Refusal as event
 use Rattle.dr_events.specs.EventOf.{event_of}
-use Rattle.dr_answers.specs.Answer.{answer}
 use Rattle.dr_answers.specs.AnswerRefusal as no_answer
 use Rattle.dr_ask.specs.Asked.{Asked, is_scan}
 use Rattle.dr_ask.specs.declared.query_error.QueryError.{QueryError}
@@ -25,7 +24,8 @@ use Rattle.dr_merge.specs.declared.purpose.Purpose.{Purpose}
 use Rattle.dr_merge.specs.declared.purpose.Purpose.TheVariants.{Merge, Publish}
 use Rattle.dr_cuts.specs.RawAnswer.{raw_answer}
 use Rattle.dr_timeline.specs.CoreState.{CoreState}
-use Rattle.dr_cuts.specs.Segments.{pinned, rows_of}
+use Rattle.dr_cuts.specs.Segments.{pinned}
+use Rattle.dr_core.specs.Asking.{answer_over}
 use Rattle.dr_core.specs.Refusal as core_refusal
 use Rattle.dr_core.specs.Steps as core
 use Rattle.dr_requests.specs.declared.command_error.CommandError.{CommandError}
@@ -134,7 +134,22 @@ commit_job number c = do
 abbrev pub pin_snapshot : CoreState → Result (Answered × CoreState) ScriptError
 pin_snapshot c = Ok (answered (codes "pin " ++ decimal (core.pin c).0), (core.pin c).1)
 
--- a query that asks for groups; a scan is not answered yet
+-- `query JSON`: a query is answered over the ranges as they are
+abbrev pub ask_now : List ℕ → CoreState → Result (Answered × CoreState) ScriptError
+ask_now text c = do
+  q ← passed BadQuery (query_of c.timeline.schema text)
+  a ← passed Answer (answer_over q (pinned c.timeline))
+  Ok (answered a, c)
+
+-- `at N JSON`: it is answered over the ranges of the snapshot of that number
+abbrev pub ask_at : ℕ → List ℕ → CoreState → Result (Answered × CoreState) ScriptError
+ask_at number text c = do
+  p ← passed Core (core.given (slice_get c.pins number))
+  q ← passed BadQuery (query_of c.timeline.schema text)
+  a ← passed Answer (answer_over q p)
+  Ok (answered a, c)
+
+-- a query that can be audited, which a scan can't
 abbrev pub no_scan : Asked → Result Asked QueryError
 no_scan q = if is_scan q.shape then Err (Unsupported (codes "scan")) else Ok q
 
@@ -142,21 +157,6 @@ abbrev pub grouping_of : Schema → List ℕ → Result Asked QueryError
 grouping_of schema text = do
   q ← query_of schema text
   no_scan q
-
--- `query JSON`: a query is answered over the rows as they are
-abbrev pub ask_now : List ℕ → CoreState → Result (Answered × CoreState) ScriptError
-ask_now text c = do
-  q ← passed BadQuery (grouping_of c.timeline.schema text)
-  a ← passed Answer (answer q (rows_of (pinned c.timeline)))
-  Ok (answered a, c)
-
--- `at N JSON`: it is answered over the rows of the snapshot of that number
-abbrev pub ask_at : ℕ → List ℕ → CoreState → Result (Answered × CoreState) ScriptError
-ask_at number text c = do
-  p ← passed Core (core.given (slice_get c.pins number))
-  q ← passed BadQuery (grouping_of c.timeline.schema text)
-  a ← passed Answer (answer q (rows_of p))
-  Ok (answered a, c)
 
 -- `audit JSON`: it is answered over the accepted events, one by one
 abbrev pub audit_now : List ℕ → CoreState → Result (Answered × CoreState) ScriptError

@@ -1,5 +1,9 @@
 pub mod Pinning
 pub mod Times
+pub mod Spans
+pub mod RangePlaces
+pub mod SegmentNumbers
+pub mod ShownSegments
 pub mod ShownRows
 pub mod PartialAnswers
 pub mod Numbering

@@ -6,5 +6,7 @@ pub mod Noted
 pub mod Imaging
 pub mod Answering
 pub mod Shown
+pub mod Scanning
+pub mod Numbered
 pub mod Kept
 pub mod CoreState

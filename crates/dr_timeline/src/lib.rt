@@ -9,6 +9,7 @@ mod known_texts;
 mod outcome;
 mod planned;
 mod range_rows;
+mod scanning;
 mod snapshot;
 mod span;
 mod stats;

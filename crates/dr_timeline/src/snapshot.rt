@@ -74,7 +74,7 @@ impl Snapshot {
     }
 
     /// From the least to the greatest truncated time of the events, both included, in milliseconds since the epoch; none
-    /// where there is no event. It takes time by the events, and no memory.
+    /// where there is no event. It takes constant time, and no memory.
     pub fn span(&self) -> Option<(i64, i64)>
         ensures { result ≡ span (map (unrolled self.now.schema) self.now.stream) }
     {
@@ -94,7 +94,7 @@ impl Snapshot {
     ///
     /// Where the query matches, it is byte for byte the answer over the raw events, truncated, filtered, grouped and
     /// folded one by one, whatever the ranges. Refusals: 81 `ResultTooLarge` where there are over 100000 groups. It takes
-    /// expected time by the rows and the bytes of their dimension values, by the events for their span, and what sorting
+    /// expected time by the rows and the bytes of their dimension values, and what sorting
     /// the groups takes; and memory by the groups and the rows of open ranges and of images.
     pub fn answer_one(&self, query: &Query) -> Result<Vec<u8>, AnswerError>
         requires { MadeFor self.now.schema (asked query.now) }
