@@ -40,7 +40,7 @@ use Rattle.dr_core.proofs.RawRuns.{ArePins, IsPin, IsRunSoFar, commit-run, pin-n
 use Rattle.dr_lines.specs.Lines.{longest_line}
 use Rattle.dr_lines.specs.declared.line_error.LineError.TheVariants.{LineTooLong}
 use Rattle.dr_requests.specs.declared.command_error.CommandError.{CommandError}
-use Rattle.dr_requests.specs.declared.command_error.CommandError.TheVariants.{NoMemory, Line, BadCommand}
+use Rattle.dr_requests.specs.declared.command_error.CommandError.TheVariants.{NoMemory, Line}
 use Rattle.dr_requests.specs.declared.request.Request.{Request}
 use Rattle.dr_requests.specs.declared.request.Request.TheVariants.{Add, Seal, Join, Plan, Commit, Pin, Query, At, Audit, Image, Stats}
 use Rattle.dr_requests.specs.Request.{instant_in, request_in}

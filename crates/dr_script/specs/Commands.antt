@@ -29,7 +29,6 @@ use Rattle.dr_core.specs.Asking.{answer_over}
 use Rattle.dr_core.specs.Refusal as core_refusal
 use Rattle.dr_core.specs.Steps as core
 use Rattle.dr_requests.specs.declared.command_error.CommandError.{CommandError}
-use Rattle.dr_requests.specs.declared.command_error.CommandError.TheVariants.{BadCommand}
 use Rattle.dr_requests.specs.declared.request.Request.{Request}
 use Rattle.dr_requests.specs.declared.request.Request.TheVariants as line
 use Rattle.dr_script.specs.declared.script_error.ScriptError.{ScriptError}
