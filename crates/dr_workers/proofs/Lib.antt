@@ -1,0 +1,4 @@
+pub mod Rows
+pub mod Begins
+pub mod Folded
+pub mod Kept
