@@ -2,3 +2,4 @@ pub mod Rows
 pub mod Begins
 pub mod Folded
 pub mod Kept
+pub mod Crossing

@@ -5,6 +5,9 @@ use Rattle.dr_base.specs.declared.row.Row.{Row}
 use Rattle.dr_agg.specs.Rollup.{all_rows}
 use Rattle.dr_time.specs.Instant.{IsInstant}
 use Rattle.dr_workers.specs.Shared.{rows_of}
+use denote.Param.Send.{sendable}
+use Rattle.dr_fragment.proofs.pinned_fragment.PinnedFragment.TheSendSync as pinned
+use Rattle.dr_workers.proofs.Crossing.{query-sync}
 use Rattle.dr_workers.proofs.Begins.{begin-rises, begin-past}
 use Rattle.dr_workers.proofs.Rows.{rows-part, in-part}
 use Rattle.dr_workers.proofs.Kept.{one-more-share, all-push, kept-each}
@@ -45,3 +48,6 @@ returns g c =
       kept-each (λ h. h.promise.query.now) (λ h. rows_of h.promise.share.now) c.captures.query.now c.workers.children.items c.in_ok-join_promised.field-0.items n c.workers.invariant.2
       (λ i d lt. let k = (c.in_ok-join_promised.ensures.each i d (omega (arith, lt, m))).1 in (k.handle, k.handle_is, k.kept)),
     )
+
+pub spawn_with-requires-send-F : goal.spawn_with-requires-send-F
+spawn_with-requires-send-F g c κs within = search (sendable, query-sync, pinned.the_sync) depth 20
