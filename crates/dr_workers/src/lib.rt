@@ -1,20 +1,13 @@
-//! The partial result of a timeseries or groupBy over the ranges of a snapshot, by one thread or by several at once: each works
-//! on a share of the ranges, and what they found is merged.
+//! The partial result of a timeseries or groupBy over the ranges of a snapshot: that of each range in turn, merged from the first to
+//! the last. A gate is entered before each.
 #![tactic(auto)]
 
 mod gate;
-mod halves;
-mod merging;
 mod one;
 mod open_gate;
-mod scatter_error;
-mod scattering;
-mod sharing;
-mod threads;
 mod working;
 
 pub use gate::Gate;
 pub use one::{scatter_here, scatter_one};
 pub use open_gate::OpenGate;
-pub use scatter_error::ScatterError;
-pub use scattering::scatter;
+pub use working::partial_of;
