@@ -7,4 +7,3 @@ pub mod Standing
 pub mod Placing
 pub mod Working
 pub mod Worked
-pub mod Asking

@@ -1,5 +1,4 @@
 pub mod Refusal
-pub mod AskRefusal
 pub mod Steps
 pub mod Standing
 pub mod Stepping
