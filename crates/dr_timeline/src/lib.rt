@@ -8,7 +8,6 @@ mod imaging;
 mod known_texts;
 mod outcome;
 mod planned;
-mod range_rows;
 mod scanning;
 mod snapshot;
 mod span;
