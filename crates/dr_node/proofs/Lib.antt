@@ -1,0 +1,4 @@
+pub mod Seatings
+pub mod Counting
+pub mod Keeping
+pub mod Closings
