@@ -5,9 +5,11 @@ use Rattle.std.proofs.lemmas.Bool.Decides.{nat_tests}
 use Rattle.std.proofs.lemmas.List.Elements.{All-append, All-cons, All-nil, filter-append}
 use Rattle.dr_base.specs.declared.event.Event.{Event}
 use Rattle.dr_schema.specs.declared.schema_fields.SchemaFields.{SchemaFields}
-use Rattle.dr_cuts.specs.State.{State}
+use Rattle.dr_cuts.specs.State.{State, AreCuts}
+use Rattle.dr_timeline.specs.Order.{HaveFewRows}
 use Rattle.dr_timeline.specs.Steps.{accepted, with_event}
-use Rattle.dr_node.specs.Kept.{Held, IsKept}
+use Rattle.dr_node.specs.Kept.{Held, IsKept, SerialsDiffer}
+use Rattle.dr_node.proofs.Serials.{differ-accepted}
 use Rattle.dr_node.specs.Seats.{marked}
 
 -- what stands in a list after a store: the new value at its place, and elsewhere what stood there
@@ -29,11 +31,25 @@ marked-push k es e =
     let both = filter-append (λ (x : Event). nat_eq x.seat k) es (e ∷ []) in
     ap length both ∙ length-append (marked k es) (marked k (e ∷ [])) ∙ ap (λ n. length (marked k es) + n) (length-cond (nat_eq e.seat k) e)
 
+-- accepting adds the event to the stream, whether or not its range is sealed
+same-of : {A : Type 0} (f : State → A) (b : Bool) (s t : State) → f s ≡ f t → f (cond b s t) ≡ f t
+same-of f true s t h = h
+same-of f false s t h = refl
+
+pub accepted-stream : (s : State) (e : Event) → (accepted s e).stream ≡ s.stream ++ e ∷ []
+accepted-stream s e = same-of (λ u. u.stream) _ _ (with_event s e) refl
+
+pub accepted-schema : (s : State) (e : Event) → (accepted s e).schema ≡ s.schema
+accepted-schema s e = same-of (λ u. u.schema) _ _ (with_event s e) refl
+
 -- a seat has seen some events more
 pub kept-seen : (schema : SchemaFields) (seats : ℕ) (h : Held) (p m f d : ℕ) → IsKept schema seats h → slice_get h.mine p ≡ Some m → slice_get h.floor p ≡ Some f → f + d ≤ length h.timeline.stream
     → IsKept schema seats (record { timeline = h.timeline; mine = set h.mine p (m + 0); floor = set h.floor p (f + d) })
 kept-seen schema seats h p m f d kept own was most = record {
   schema_is = kept.schema_is;
+  cuts = kept.cuts;
+  few = kept.few;
+  serials = kept.serials;
   marks = kept.marks;
   mine = λ k n at. elim (set-get h.mine p (m + 0) k n at) [
     | inl here ↦ let marked-is = kept.mine p m own in let same = here.1 in rw here.0 (omega arith)
@@ -44,14 +60,19 @@ kept-seen schema seats h p m f d kept own was most = record {
 
 -- an event of a seat was accepted, and the seat has seen the stream up to it
 pub kept-accepted : (schema : SchemaFields) (seats : ℕ) (h : Held) (t : State) (e : Event) (p m f d : ℕ) → IsKept schema seats h → slice_get h.mine p ≡ Some m → slice_get h.floor p ≡ Some f
-    → t.schema ≡ h.timeline.schema → t.stream ≡ h.timeline.stream ++ e ∷ [] → p ≡ e.seat → p < seats → f + d ≤ length h.timeline.stream + 1
+    → t ≡ accepted h.timeline e → AreCuts t.schema t.stream t.cuts → HaveFewRows t.schema t.stream t.cuts → p ≡ e.seat → p < seats → f + d ≤ length h.timeline.stream + 1
     → IsKept schema seats (record { timeline = t; mine = set h.mine p (m + 1); floor = set h.floor p (f + d) })
-kept-accepted schema seats h t e p m f d kept own was schema-is stream-is mark-is within most =
+kept-accepted schema seats h t e p m f d kept own was accepted-is cuts few mark-is within most =
+    let schema-is : t.schema ≡ h.timeline.schema = ap (λ (s : State). s.schema) accepted-is ∙ accepted-schema h.timeline e in
+    let stream-is : t.stream ≡ h.timeline.stream ++ e ∷ [] = ap (λ (s : State). s.stream) accepted-is ∙ accepted-stream h.timeline e in
     let M : Event → Type 0 = λ x. x.seat < seats in
     let es = h.timeline.stream in
     let long : length (es ++ e ∷ []) ≡ length es + 1 = length-append es (e ∷ []) in
     record {
       schema_is = schema-is ∙ kept.schema_is;
+      cuts = cuts;
+      few = few;
+      serials = subst (λ (s : State). SerialsDiffer s.cuts s.serials) (sym accepted-is) (differ-accepted h.timeline e kept.serials);
       marks = subst (All M) (sym stream-is) (All-append M es (e ∷ []) kept.marks (All-cons M e [] (subst (λ n. n < seats) mark-is within) (All-nil M)));
       mine = λ k n at. subst (λ xs. length (marked k xs) ≡ n) (sym stream-is) (marked-push k es e ∙ elim (set-get h.mine p (m + 1) k n at) [
         | inl here ↦
@@ -69,14 +90,3 @@ kept-accepted schema seats h t e p m f d kept own was schema-is stream-is mark-i
         | inr there ↦ let less = kept.floor k n there.1 in omega arith
       ]);
     }
-
--- accepting adds the event to the stream, whether or not its range is sealed
-same-of : {A : Type 0} (f : State → A) (b : Bool) (s t : State) → f s ≡ f t → f (cond b s t) ≡ f t
-same-of f true s t h = h
-same-of f false s t h = refl
-
-pub accepted-stream : (s : State) (e : Event) → (accepted s e).stream ≡ s.stream ++ e ∷ []
-accepted-stream s e = same-of (λ u. u.stream) _ _ (with_event s e) refl
-
-pub accepted-schema : (s : State) (e : Event) → (accepted s e).schema ≡ s.schema
-accepted-schema s e = same-of (λ u. u.schema) _ _ (with_event s e) refl

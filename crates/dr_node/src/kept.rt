@@ -1,12 +1,14 @@
 ghost use Rattle.std.specs.Prelude.{◌≡◌, ◌+◌, ◌<◌, ◌≤◌, ◌⊎◌, ◌∷◌, [], true, Some, replicate, length, slice_get, All, IfOk, IfErr, OnOk, OnErr};
-ghost use Rattle.dr_cuts.specs.State.{State, empty_state};
+ghost use Rattle.dr_cuts.specs.State.{empty_state};
 ghost use Rattle.dr_timeline.specs.declared.timeline_error.TimelineError.TheVariants.{NoMemory, StreamFull};
 ghost use Rattle.dr_schema.specs.Fits.{FitsSchema};
 ghost use Rattle.dr_node.specs.Seats.{marked};
+ghost use Rattle.dr_node.specs.Acting.{IsActed};
 
 use crate::act::Act;
 use dr_base::Event;
 use dr_books::Books;
+use dr_cuts::answers_over_cuts;
 use dr_timeline::{Snapshot, Timeline, TimelineError};
 use std::alloc::{AllocError, Global};
 use std::marker::Model;
@@ -61,6 +63,7 @@ impl<B: Books> Kept<B> {
     {
         self.books.add(share, 0, 0);
         self.timeline.accept(event)?;
+        self.timeline.in_order();
         let count = self.timeline.stats().processed;
         self.books.add(share, 1, count - floor);
         Ok(count)
@@ -90,9 +93,12 @@ impl<B: Books> Kept<B> {
     /// Makes an act on the timeline.
     pub(crate) fn apply<T: Act>(&mut self, act: T) -> T::Answer
         requires { T.needs act B.schema }
-        ensures { (old : State) × (new : State) × (old.schema ≡ B.schema) × T.does act old result new }
+        ensures { IsActed B.schema B.seats (T.does act) result self.old self.new }
     {
-        act.act(&mut self.timeline)
+        let answer = act.act(&mut self.timeline);
+        self.timeline.in_order();
+        answers_over_cuts();
+        answer
     }
 
     /// Copies of the events of the stream, in order. The only error is that memory ran out.

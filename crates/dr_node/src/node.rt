@@ -1,8 +1,9 @@
 ghost use Rattle.std.specs.Prelude.{◌≡◌, ◌<◌, ◌≤◌, ◌⊎◌, true, length, All, IfOk, IfErr, OnErr};
-ghost use Rattle.dr_cuts.specs.State.{State};
 ghost use Rattle.dr_schema.specs.Fits.{FitsSchema};
 ghost use Rattle.dr_timeline.specs.declared.timeline_error.TimelineError.TheVariants.{NoMemory, StreamFull};
 ghost use Rattle.dr_node.specs.declared.node_error.NodeError.TheVariants as error;
+ghost use Rattle.dr_node.specs.Acting.{IsActed};
+ghost use Rattle.dr_node.specs.Kept.{Held};
 ghost use Rattle.dr_node.specs.Seats.{marked, new_seats, with_accepted, with_seen};
 
 use crate::act::Act;
@@ -120,10 +121,13 @@ impl<B: Books> Node<B> {
         Ok(snapshot)
     }
 
-    /// Makes an act on the node's timeline, and gives its answer. It may wait for the lock, and takes what the act takes.
+    /// Makes an act on the node's timeline, and gives its answer. Before it and after it the ranges tile the list of each chunk,
+    /// open ranges have fewer rows than the spec's `maxRowsInMemory`, serials differ, each event has the mark of a seat, and the
+    /// counts of the seats are those of the stream. It changes no answer to a matching query. It may wait for the lock, and takes
+    /// what the act takes.
     pub fn apply<R: Wait, T: Act>(&self, rt: &R, act: T) -> T::Answer
         requires { T.needs act B.schema }
-        ensures { (old : State) × (new : State) × (old.schema ≡ B.schema) × T.does act old result new }
+        ensures { (old : Held) × (new : Held) × IsActed B.schema B.seats (T.does act) result old new }
     {
         self.kept.lock(rt).apply(act)
     }
