@@ -19,13 +19,19 @@ pub fn seal<B: Books, R: Wait>(rt: &R, node: &Node<B>) -> Option<()> {
     node.apply(rt, SealAct { chunk: DAY }).ok()
 }
 
-/// Merges the sealed ranges of the day up to a place, and tells the version.
-pub fn merge<B: Books, R: Wait>(rt: &R, alloc: Global, node: &Node<B>, hi: usize) -> Option<u64> {
+/// Joins the sealed ranges of the day up to a place, and tells the version.
+pub fn join<B: Books, R: Wait>(
+    rt: &R,
+    alloc: Global,
+    node: &Node<B>,
+    hi: usize,
+    purpose: Purpose,
+) -> Option<u64> {
     let plan = PlanAct {
         chunk: DAY,
         lo: 0,
         hi,
-        purpose: Purpose::Merge,
+        purpose,
     };
     let Ok(job) = node.apply(rt, plan) else {
         return None;
@@ -59,7 +65,7 @@ fn before_and_after<B: Books, R: Wait>(
         return None;
     };
     seal(rt, node)?;
-    merge(rt, alloc, node, 2)?;
+    join(rt, alloc, node, 2, Purpose::Merge)?;
     let Ok(after) = node.pin(rt, seat) else {
         return None;
     };

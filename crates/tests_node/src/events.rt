@@ -7,6 +7,7 @@ use dr_node::{Books, Node, Seat};
 use dr_spec::IngestSpec;
 use std::alloc::Global;
 use std::sync::Wait;
+use std::sync::ledger::Blank;
 
 const SPEC: &str =
     r#"{"dataSchema":{"dataSource":"w","timestampSpec":{"column":"t","format":"iso"},"dimensionsSpec":{"dimensions":["page","lang"]},"metricsSpec":[{"type":"count","name":"n"},{"type":"longSum","name":"added","fieldName":"a"},{"type":"longMin","name":"lo","fieldName":"a"},{"type":"longMax","name":"hi","fieldName":"a"}],"granularitySpec":{"segmentGranularity":"day","queryGranularity":"hour"}}}"#;
@@ -67,4 +68,14 @@ pub fn accept<B: Books, R: Wait>(
     let event = event_of(alloc, spec, seat.number(), text)?;
     let receipt = node.accept(rt, seat, event).ok()?;
     Some(receipt.number())
+}
+
+/// Blanks for two seats.
+pub fn blanks() -> ((Blank, Blank), (Blank, Blank))
+    ensures { (result.0.0.parts ≡ 1) × (result.0.1.parts ≡ 1) × (result.1.0.parts ≡ 1) × (result.1.1.parts ≡ 1) }
+{
+    (
+        (Blank::new(1), Blank::new(1)),
+        (Blank::new(1), Blank::new(1)),
+    )
 }

@@ -1,6 +1,7 @@
 ghost use Rattle.std.specs.Prelude.{◌≡◌, ◌<◌};
 
-use crate::events::{FIRST, SECOND, THIRD, accept, copy_of, new_spec};
+use crate::events::{FIRST, SECOND, THIRD, accept, blanks, copy_of, new_spec};
+use dr_base::Event;
 use dr_node::{Books, Closed, Joined, Node, NodeError, NodeLedger, OneSeat, Seat};
 use dr_spec::IngestSpec;
 use dr_timeline::Snapshot;
@@ -13,34 +14,44 @@ use std::thread::Threads;
 
 type Two<A, B, C, D> = Joined<OneSeat<A, B>, OneSeat<C, D>>;
 
-/// How many events of a snapshot have a mark.
-fn marked(snapshot: &Snapshot, mark: u8) -> usize {
-    let mut count = 0usize;
+/// The times of the events of a snapshot with a mark, in order.
+fn times_in(alloc: Global, snapshot: &Snapshot, mark: u8) -> Option<Vec<i64>> {
+    let mut times = Vec::new(alloc);
     for number in 0..snapshot.event_count() {
-        if let Some(event) = snapshot.event(number as u64) {
-            if event.seat == mark {
-                count = count.saturating_add(1);
-            }
+        let event = snapshot.event(number as u64)?;
+        if event.seat == mark {
+            times.push(event.time).ok()?;
         }
     }
-    count
+    Some(times)
 }
 
-/// Accepts two events, and tells how many of its own a pin then shows.
+/// The times of the events with a mark, in order.
+fn times_of(alloc: Global, events: &[Event], mark: u8) -> Option<Vec<i64>> {
+    let mut times = Vec::new(alloc);
+    for event in events {
+        if event.seat == mark {
+            times.push(event.time).ok()?;
+        }
+    }
+    Some(times)
+}
+
+/// Accepts two events, and tells the times of its own that a pin then shows.
 fn accept_two<B: Books, R: Wait>(
     rt: &R,
     alloc: Global,
     node: &Node<B>,
     spec: &IngestSpec,
     seat: Seat<B>,
-) -> Option<(Seat<B>, usize)>
+) -> Option<(Seat<B>, Vec<i64>)>
     requires { spec.now ≡ B.schema }
 {
     let mut seat = seat;
     accept(rt, alloc, node, spec, &mut seat, FIRST)?;
     accept(rt, alloc, node, spec, &mut seat, SECOND)?;
     let snapshot = node.pin(rt, &mut seat).ok()?;
-    let own = marked(&snapshot, seat.number());
+    let own = times_in(alloc, &snapshot, seat.number())?;
     Some((seat, own))
 }
 
@@ -72,7 +83,7 @@ fn two_threads<
     spec: IngestSpec,
     blanks: ((Blank, Blank), (Blank, Blank)),
     both: bool,
-) -> Option<(usize, Result<Closed, NodeError>)>
+) -> Option<(Vec<i64>, Result<Closed, NodeError>)>
     requires schema { spec ≡ A.schema }
     requires first_mine { (blanks.0.0.name ≡ A.name) × (blanks.0.0.parts ≡ A.parts) × (0 < A.parts) }
     requires first_floor { (blanks.0.1.name ≡ B.name) × (blanks.0.1.parts ≡ B.parts) × (0 < B.parts) }
@@ -86,7 +97,7 @@ fn two_threads<
     let (shared, spec) = (&node, &copy);
     let (first, second) = thread::join(
         rt,
-        move || -> Option<(Seat<Two<A, B, C, D>>, usize)>
+        move || -> Option<(Seat<Two<A, B, C, D>>, Vec<i64>)>
             requires { spec.now ≡ A.schema }
         { accept_two(rt, alloc, shared, spec, first) },
         move || -> Option<Seat<Two<A, B, C, D>>>
@@ -102,21 +113,12 @@ fn two_threads<
     Some((own, node.close(seats)))
 }
 
-fn blanks() -> ((Blank, Blank), (Blank, Blank))
-    ensures { (result.0.0.parts ≡ 1) × (result.0.1.parts ≡ 1) × (result.1.0.parts ≡ 1) × (result.1.1.parts ≡ 1) }
-{
-    (
-        (Blank::new(1), Blank::new(1)),
-        (Blank::new(1), Blank::new(1)),
-    )
-}
-
 /// What two threads show, closed with both seats or with one.
 fn told<R: Threads + Wait + Sync>(
     rt: &R,
     alloc: Global,
     both: bool,
-) -> Option<(usize, Result<Closed, NodeError>)> {
+) -> Option<(Vec<i64>, Result<Closed, NodeError>)> {
     let spec = new_spec(alloc)?;
     two_threads::<Brand, Brand, Brand, Brand, R>(rt, alloc, spec, blanks(), both)
 }
@@ -126,9 +128,17 @@ fn a_pin_shows_the_events_of_its_seat_and_closing_those_of_both(rt: HostRuntime)
     let Some((own, Ok(closed))) = told(&rt, rt.alloc(), true) else {
         panic!(rt; "no answer");
     };
-    assert!(rt; own == 2);
+    assert!(rt; own.as_slice() == [1_704_067_800_000, 1_704_070_200_000].as_slice());
     assert!(rt; closed.stream.len() == 3);
     assert!(rt; closed.mine.as_slice() == [2, 1].as_slice());
+    let (Some(first), Some(second)) = (
+        times_of(rt.alloc(), &closed.stream, 0),
+        times_of(rt.alloc(), &closed.stream, 1),
+    ) else {
+        panic!(rt; "no memory");
+    };
+    assert!(rt; first.as_slice() == [1_704_067_800_000, 1_704_070_200_000].as_slice());
+    assert!(rt; second.as_slice() == [1_704_072_600_000].as_slice());
 }
 
 #[test]
