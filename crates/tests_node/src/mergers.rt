@@ -27,7 +27,7 @@ enum Beside {
 
 /// What a merger told, whether the policy was held for all turns, and how many ranges a last pin has sealed.
 #[derive(Drop)]
-struct Told {
+struct Seen {
     report: MergerReport,
     late: bool,
     sealed: usize,
@@ -96,7 +96,7 @@ fn merged<
     blanks: ((Blank, Blank), (Blank, Blank)),
     while_asked: bool,
     beside: Beside,
-) -> Option<Told>
+) -> Option<Seen>
     requires schema { spec ≡ A.schema }
     requires first_mine { (blanks.0.0.name ≡ A.name) × (blanks.0.0.parts ≡ A.parts) × (0 < A.parts) }
     requires first_floor { (blanks.0.1.name ≡ B.name) × (blanks.0.1.parts ≡ B.parts) × (0 < B.parts) }
@@ -128,7 +128,7 @@ fn merged<
     let report = report?;
     let mut seat = other?;
     let snapshot = node.pin(rt, &mut seat).ok()?;
-    Some(Told {
+    Some(Seen {
         report,
         late: policy.late.load(Ordering::SeqCst),
         sealed: sealed_in(snapshot.ranges()),
@@ -140,7 +140,7 @@ fn told<R: Threads + Wait + Sync>(
     alloc: Global,
     while_asked: bool,
     beside: Beside,
-) -> Option<Told> {
+) -> Option<Seen> {
     let spec = new_spec(alloc)?;
     merged::<Brand, Brand, Brand, Brand, R>(rt, alloc, spec, blanks(), while_asked, beside)
 }
