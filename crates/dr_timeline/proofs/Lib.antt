@@ -13,3 +13,4 @@ pub mod SealedImages
 pub mod Placing
 pub mod Working
 pub mod Worked
+mod Ordered

@@ -10,3 +10,4 @@ pub mod Scanning
 pub mod Numbered
 pub mod Kept
 pub mod CoreState
+pub mod Order
