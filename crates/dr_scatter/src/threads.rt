@@ -1,5 +1,6 @@
 ghost use Rattle.std.specs.Prelude.{IfOk, ◌≤◌, ◌<◌, length};
 ghost use Rattle.std.specs.List.{AllByRecursion};
+ghost use Rattle.std.specs.Thread.{IsSync};
 ghost use Rattle.dr_time.specs.Instant.{IsInstant};
 ghost use Rattle.dr_workers.specs.Shared.{rows_of, IsFoldOf};
 ghost use Rattle.dr_scatter.specs.Folds.{AreFoldsOver, AreFoldsOverWhereOk};
@@ -66,7 +67,7 @@ fn results<R: Threads + Wait, G: Gate + Sync>(
         thread::scope_env(),
         rt,
         |scope| -> Result<Vec<Result<Partial, AllocError>>, ScatterError>
-            requires { AllByRecursion (λ r. IsInstant r.key.time) (rows_of fragments.now) × (workers ≤ 16) × (0 < length fragments.now → 0 < workers) }
+            requires { IsSync G.row × AllByRecursion (λ r. IsInstant r.key.time) (rows_of fragments.now) × (workers ≤ 16) × (0 < length fragments.now → 0 < workers) }
             ensures { IfOk result (λ results. AreFoldsOverWhereOk query.entry.now (rows_of fragments.entry.now) results.items) }
         {
             let mut children = Vec::with_capacity(alloc, workers)?;

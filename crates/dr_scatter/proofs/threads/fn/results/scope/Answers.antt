@@ -5,7 +5,8 @@ use Rattle.dr_base.specs.declared.row.Row.{Row}
 use Rattle.dr_agg.specs.Rollup.{all_rows}
 use Rattle.dr_time.specs.Instant.{IsInstant}
 use Rattle.dr_workers.specs.Shared.{rows_of}
-use denote.Param.Send.{sendable}
+use denote.Param.Send.{IsSync, sendable, given_send, given_sync}
+use Rattle.std.proofs.Crossing.{crosses}
 use Rattle.dr_fragment.proofs.pinned_fragment.PinnedFragment.TheSendSync as pinned
 use Rattle.dr_scatter.proofs.Crossing.{query-sync}
 use Rattle.dr_scatter.proofs.Begins.{begin-rises, begin-past}
@@ -14,7 +15,7 @@ use Rattle.dr_scatter.proofs.Kept.{one-more-share, all-push, kept-each}
 use Rattle.dr_scatter.proofs.threads.fn.results.scope.Goals as goal
 
 pub spawn_with-requires-clause-runs : goal.spawn_with-requires-clause-runs
-spawn_with-requires-clause-runs g c κs within = in-part (λ (r : Row). IsInstant r.key.time) c.captures.fragments.now c.workers.from (c.begin_of-to.result - c.workers.from) c.requires.0
+spawn_with-requires-clause-runs g c κs within = in-part (λ (r : Row). IsInstant r.key.time) c.captures.fragments.now c.workers.from (c.begin_of-to.result - c.workers.from) c.requires.1
 
 pub workers-preserved : goal.workers-preserved
 workers-preserved g c =
@@ -40,7 +41,7 @@ returns g c =
     let stop = c.workers-test.false in
     let end = c.workers.auto.k-end in
     let last : c.workers.k ≡ c.captures.workers = omega arith in
-    let past : length fs ≤ c.workers.from = begin-past c.workers.k c.workers.from (length fs) c.captures.workers last c.workers.invariant.0 c.requires.2 in
+    let past : length fs ≤ c.workers.from = begin-past c.workers.k c.workers.from (length fs) c.captures.workers last c.workers.invariant.0 c.requires.3 in
     let n : length c.in_ok-join_promised.field-0.items ≡ length c.workers.children.items = search rules in
     let m : length c.workers.children.items ≡ vec_len c.workers.children = search rules in (
       map (λ h. rows_of h.promise.share.now) c.workers.children.items,
@@ -50,4 +51,6 @@ returns g c =
     )
 
 pub spawn_with-requires-send-F : goal.spawn_with-requires-send-F
-spawn_with-requires-send-F g c κs within = search (sendable, query-sync, pinned.the_sync) depth 20
+spawn_with-requires-send-F g c κs within =
+    let gate : IsSync g.row.G = given_sync 1 g.row.G c.requires.0 in
+    search (sendable, crosses, query-sync, pinned.the_sync, given_send) depth 20
