@@ -1,4 +1,3 @@
 pub mod Running
 pub mod CutSteps
 pub mod RawRuns
-pub mod WorkerRuns

@@ -1,4 +1,3 @@
 pub mod DigitLemmas
 pub mod ScriptSteps
 pub mod RawScripts
-pub mod Asking

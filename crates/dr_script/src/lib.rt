@@ -3,7 +3,6 @@
 #![tactic(auto)]
 
 mod answering;
-mod asking;
 mod hexadecimal;
 mod reply;
 mod script;
