@@ -2,7 +2,8 @@
 """gate/slowest.py [-n COUNT] [FOLDER]: the functions whose proofs took longest, of all crates that were checked in a checkout.
 
 A check by one job writes each module that it has checked as soon as it has, so the time between two of them is that of the
-second. What several jobs checked at once is told as it fell, and what was taken over from another checkout as it was there.
+second. What several jobs checked at once is told as it fell, and what was taken over from another checkout as it was there; where
+one check ended and another began, the time between them is left out.
 """
 import argparse
 import os
@@ -10,6 +11,9 @@ import re
 from collections import Counter
 
 from tree import TOP, Tree
+
+# no module takes longer
+LONGEST = 200
 
 # a module of a function's proof: its crate, the function's path, and which part of the proof it is
 MODULE = re.compile(r"Rattle-(\w+)-proofs\.(.+?)\.[\w-]+(?:\.decls)?\.oantt")
@@ -23,7 +27,7 @@ def seconds_of(folder):
     written.sort()
     found = Counter()
     for (before, _), (after, name) in zip(written, written[1:]):
-        if module := MODULE.fullmatch(name):
+        if (module := MODULE.fullmatch(name)) and after - before < LONGEST * 1e9:
             found[f"{module[1]}::{module[2].replace('.', '::')}"] += (after - before) / 1e9
     return found
 
