@@ -9,6 +9,7 @@ mod core_run;
 mod reply;
 mod step;
 mod timeline_core;
+mod worker_run;
 
 pub use bytes::Bytes;
 pub use core_error::CoreError;
@@ -16,3 +17,4 @@ pub use core_run::run_core_one;
 pub use reply::Reply;
 pub use step::Step;
 pub use timeline_core::Core;
+pub use worker_run::run_core;

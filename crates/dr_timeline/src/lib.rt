@@ -3,21 +3,25 @@
 #![tactic(auto)]
 
 mod answering;
+mod ask_error;
 mod chunk_of;
 mod known_texts;
 mod outcome;
 mod planned;
+mod scattering;
 mod snapshot;
 mod span;
 mod stats;
 mod timeline;
 mod timeline_error;
 
+pub use ask_error::AskError;
 pub use dr_answers::AnswerError;
 pub use dr_ask::{Query, QueryError};
 pub use dr_cuts::RangeInfo;
 pub use dr_fragment::Fragment;
 pub use dr_merge::{Job, MergeError, Purpose, work};
+pub use dr_workers::{Gate, OpenGate};
 pub use outcome::Outcome;
 pub use snapshot::Snapshot;
 pub use stats::Stats;

@@ -1,0 +1,8 @@
+use Rattle.dr_timeline.proofs.Asking.{given-too, failing-too}
+use Rattle.dr_timeline.proofs.answering.told.Goals as goal
+
+pub returns-in-Ok : goal.returns-in-Ok
+returns-in-Ok c = λ reading h. given-too reading c.in-Ok.text.items h
+
+pub returns-in-Err : goal.returns-in-Err
+returns-in-Err c = λ reading h. failing-too reading c.in-Err.error h
