@@ -7,7 +7,6 @@ ghost use Rattle.dr_time.specs.Instant.{IsInstant};
 ghost use Rattle.dr_time.specs.Printed.{IsPrintable};
 ghost use Rattle.dr_workers.specs.Shared.{rows_of};
 
-use dr_workers::Gate;
 use crate::merging::merged;
 use crate::scatter_error::ScatterError;
 use crate::sharing::worker_count;
@@ -15,6 +14,7 @@ use crate::threads::partials;
 use dr_ask::Query;
 use dr_fragment::PinnedFragment;
 use dr_partial::Partial;
+use dr_workers::Gate;
 use std::alloc::Global;
 use std::sync::Wait;
 use std::thread::Threads;

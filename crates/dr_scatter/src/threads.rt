@@ -5,12 +5,12 @@ ghost use Rattle.dr_time.specs.Instant.{IsInstant};
 ghost use Rattle.dr_workers.specs.Shared.{rows_of, IsFoldOf};
 ghost use Rattle.dr_scatter.specs.Folds.{AreFoldsOver, AreFoldsOverWhereOk};
 
-use dr_workers::{Gate, partial_of};
 use crate::scatter_error::ScatterError;
 use crate::sharing::begin_of;
 use dr_ask::Query;
 use dr_fragment::PinnedFragment;
 use dr_partial::Partial;
+use dr_workers::{Gate, partial_of};
 use std::alloc::{AllocError, Global};
 use std::sync::Wait;
 use std::thread;

@@ -11,7 +11,7 @@ loop-result-init g c =
     let gives = c.into_iter-result-iterator.ensures.into_iter_gives in
     let found = c.in_ok-results.ensures in (
       none-taken c.args.query.now (rows_of c.args.fragments.now) found.0 c.in_ok-parts.parts.items (into_iter_items c.into_iter-result-iterator.result) c.in_ok-parts.ensures.items found.1
-      (subst (AreFoldsWhereOk c.args.query.now found.0) (sym gives.0) found.2),
+          (subst (AreFoldsWhereOk c.args.query.now found.0) (sym gives.0) found.2),
       let kept = ap length gives.0 in let len = gives.1 in omega (arith, kept, len),
     )
 
@@ -22,7 +22,7 @@ loop-result-preserved g c =
     let rows = rows_of c.args.fragments.now in
     let steps : into_iter_items at.result-iterator ≡ c.in-Some.result ∷ into_iter_items c.next.new.self = c.in-Some.ensures.steps.0 in (
       one-taken q rows at.parts.items c.push.new.self.items c.in-Some.result c.in_ok-result.field-0 (into_iter_items c.next.new.self)
-      (subst (Taking q rows at.parts.items) steps at.invariant.0) c.in_ok-result.was c.in_ok-push.ensures.items,
+          (subst (Taking q rows at.parts.items) steps at.invariant.0) c.in_ok-result.was c.in_ok-push.ensures.items,
       let was = at.invariant.1 in
           let gone = c.in-Some.ensures.steps.1 in
           let short = ap length steps in

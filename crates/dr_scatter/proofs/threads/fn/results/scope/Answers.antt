@@ -28,11 +28,11 @@ workers-preserved g c =
     let promised = c.in-Ok.ensures.ok in (
       c.begin_of-to.ensures.value,
       ap (λ hs. all_rows (map (λ h. rows_of h.promise.share.now) hs)) c.in_ok-push-in-Ok.ensures.items
-      ∙ one-more-share (λ h. rows_of h.promise.share.now) c.workers.children.items c.in-Ok.child
-      ∙ (λ i. c.workers.invariant.1 i ++ rows_of (promised i).share.now)
-      ∙ rows-part fs from to le,
+          ∙ one-more-share (λ h. rows_of h.promise.share.now) c.workers.children.items c.in-Ok.child
+          ∙ (λ i. c.workers.invariant.1 i ++ rows_of (promised i).share.now)
+          ∙ rows-part fs from to le,
       subst (AllByRecursion (λ h. h.promise.query.now ≡ c.captures.query.now)) (sym c.in_ok-push-in-Ok.ensures.items)
-      (all-push (λ h. h.promise.query.now ≡ c.captures.query.now) c.workers.children.items c.in-Ok.child c.workers.invariant.2 (ap (λ p. p.query.now) promised)),
+          (all-push (λ h. h.promise.query.now ≡ c.captures.query.now) c.workers.children.items c.in-Ok.child c.workers.invariant.2 (ap (λ p. p.query.now) promised)),
     )
 
 pub returns : goal.returns
@@ -47,7 +47,7 @@ returns g c =
       map (λ h. rows_of h.promise.share.now) c.workers.children.items,
       c.workers.invariant.1 ∙ ap rows_of (take_all c.workers.from fs past),
       kept-each (λ h. h.promise.query.now) (λ h. rows_of h.promise.share.now) c.captures.query.now c.workers.children.items c.in_ok-join_promised.field-0.items n c.workers.invariant.2
-      (λ i d lt. let k = (c.in_ok-join_promised.ensures.each i d (omega (arith, lt, m))).1 in (k.handle, k.handle_is, k.kept)),
+          (λ i d lt. let k = (c.in_ok-join_promised.ensures.each i d (omega (arith, lt, m))).1 in (k.handle, k.handle_is, k.kept)),
     )
 
 pub spawn_with-requires-send-F : goal.spawn_with-requires-send-F
