@@ -7,3 +7,4 @@ pub mod Standing
 pub mod Placing
 pub mod Working
 pub mod Worked
+mod Ordered

@@ -7,3 +7,4 @@ pub mod Answering
 pub mod Shown
 pub mod Kept
 pub mod CoreState
+pub mod Order

@@ -1,11 +1,12 @@
 ghost use Rattle.std.specs.Prelude.{◌≡◌, ◌<◌, ◌≤◌, ◌↔◌, ◌⊎◌, ℕ, true, [], length, map, OnOk, OnErr, IfOk, IfErr, IsErrOf};
 ghost use Rattle.dr_timeline.specs.declared.timeline_error.TimelineError.TheVariants.{NoMemory, StreamFull, NothingToSeal, NoSuchRange, Stale, CommitsFull};
-ghost use Rattle.dr_cuts.specs.State.{State, empty_state, sealed_in};
+ghost use Rattle.dr_cuts.specs.State.{State, AreCuts, empty_state, sealed_in};
 ghost use Rattle.dr_timeline.specs.Steps.{accepted, sealed_at, open_in, job_of, StandsAt, Commits};
 ghost use Rattle.dr_timeline.specs.Stepping.{accept, seal, plan, commit};
 ghost use Rattle.dr_timeline.specs.Refusal.{is_memory};
 ghost use Rattle.dr_base.specs.Reading.{GivesUnless};
 ghost use Rattle.dr_timeline.specs.Noted.{noted, stats};
+ghost use Rattle.dr_timeline.specs.Order.{HaveFewRows};
 ghost use Rattle.dr_merge.specs.Joined.{joined_fragment, IsJobOf};
 ghost use Rattle.dr_cuts.specs.Segments.{pinned};
 ghost use Rattle.dr_schema.specs.Fits.{FitsSchema};
@@ -77,6 +78,15 @@ impl Timeline {
         ensures { result.now ≡ self.now.schema }
     {
         &self.spec
+    }
+
+    /// Does nothing. Its contract says what holds of each timeline, whatever its steps were: its ranges tile the list of each
+    /// chunk, and each open range has fewer rows than the spec's `maxRowsInMemory`.
+    pub fn in_order(&self)
+        ensures cuts { AreCuts self.now.schema self.now.stream self.now.cuts }
+        ensures few { HaveFewRows self.now.schema self.now.stream self.now.cuts }
+    {
+        let _ = &self.spec;
     }
 
     /// Whether an event of the data source is kept, which each one is.

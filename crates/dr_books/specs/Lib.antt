@@ -1,0 +1,3 @@
+pub mod Unnamed
+pub mod Opened
+pub mod Sides

@@ -1,0 +1,6 @@
+pub mod Seatings
+pub mod Counting
+pub mod Serials
+pub mod Acts
+pub mod Keeping
+pub mod Closings

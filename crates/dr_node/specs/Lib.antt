@@ -1,0 +1,5 @@
+pub mod Seats
+pub mod Kept
+pub mod Refusal
+pub mod Acting
+pub mod Closing

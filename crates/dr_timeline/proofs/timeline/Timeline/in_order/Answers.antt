@@ -1,0 +1,15 @@
+use Rattle.dr_timeline.proofs.Pinning.{are-cuts}
+use Rattle.dr_timeline.proofs.Ordered.{few-cuts}
+use Rattle.dr_timeline.proofs.timeline.Timeline.in_order.Goals as goal
+
+pub returns-clause-cuts : goal.returns-clause-cuts
+returns-clause-cuts c =
+    let i = c.self.invariant in
+    let t = c.self.inside in
+    are-cuts t.spec t.stream.items t.chunks i.starts i.each
+
+pub returns-clause-few : goal.returns-clause-few
+returns-clause-few c =
+    let i = c.self.invariant in
+    let t = c.self.inside in
+    few-cuts t.spec t.stream.items t.chunks i.each i.few

@@ -1,0 +1,176 @@
+ghost use Rattle.std.specs.Prelude.{◌≡◌, ◌<◌};
+
+use crate::acts::{join, seal};
+use crate::events::{FIRST, SECOND, THIRD, accept, blanks, copy_of, new_spec};
+use crate::turns::{Once, wait_for};
+use dr_node::{Books, Joined, MergerReport, Node, NodeLedger, OneSeat, Seat, Stop};
+use dr_spec::IngestSpec;
+use dr_timeline::{Purpose, RangeInfo};
+use std::alloc::Global;
+use std::marker::Brand;
+use std::sync::Wait;
+use std::sync::atomic::Ordering;
+use std::sync::ledger::{Blank, Ledger};
+use std::thread;
+use std::thread::Threads;
+
+type Two<A, B, C, D> = Joined<OneSeat<A, B>, OneSeat<C, D>>;
+
+/// What the thread beside a merger does while the policy is held.
+#[derive(Clone, Copy)]
+enum Beside {
+    /// It accepts an event.
+    Accepts,
+    /// It publishes the first range of the merger's job.
+    Publishes,
+}
+
+/// What a merger told, whether the policy was held for all turns, and how many ranges a last pin has sealed.
+#[derive(Drop)]
+struct Seen {
+    report: MergerReport,
+    late: bool,
+    sealed: usize,
+}
+
+fn sealed_in(ranges: &[RangeInfo]) -> usize {
+    let mut count = 0usize;
+    for range in ranges {
+        if range.sealed {
+            count = count.saturating_add(1);
+        }
+    }
+    count
+}
+
+/// Seals a range with one event, and another one.
+fn two_ranges<B: Books, R: Wait>(
+    rt: &R,
+    alloc: Global,
+    node: &Node<B>,
+    spec: &IngestSpec,
+    seat: &mut Seat<B>,
+) -> Option<()>
+    requires { spec.now ≡ B.schema }
+{
+    accept(rt, alloc, node, spec, seat, FIRST)?;
+    seal(rt, node)?;
+    accept(rt, alloc, node, spec, seat, SECOND)?;
+    seal(rt, node)
+}
+
+/// Once the policy is held: accepts an event, or publishes a range, and lets the policy go.
+fn beside_merger<B: Books, R: Wait>(
+    rt: &R,
+    alloc: Global,
+    node: &Node<B>,
+    spec: &IngestSpec,
+    seat: &mut Seat<B>,
+    policy: &Once<'_>,
+    beside: Beside,
+) -> Option<u64>
+    requires { spec.now ≡ B.schema }
+{
+    if !wait_for(&policy.entered) {
+        return None;
+    }
+    let answer = match beside {
+        Beside::Accepts => accept(rt, alloc, node, spec, seat, THIRD),
+        Beside::Publishes => join(rt, alloc, node, 1, Purpose::Publish),
+    };
+    policy.answered.store(true, Ordering::SeqCst);
+    answer
+}
+
+/// What a merger tells that merges two ranges while another thread uses the node.
+fn merged<
+    A: NodeLedger + Send + Sync,
+    B: Ledger + Send + Sync,
+    C: NodeLedger + Send + Sync,
+    D: Ledger + Send + Sync,
+    R: Threads + Wait + Sync,
+>(
+    rt: &R,
+    alloc: Global,
+    spec: IngestSpec,
+    blanks: ((Blank, Blank), (Blank, Blank)),
+    while_asked: bool,
+    beside: Beside,
+) -> Option<Seen>
+    requires schema { spec ≡ A.schema }
+    requires first_mine { (blanks.0.0.name ≡ A.name) × (blanks.0.0.parts ≡ A.parts) × (0 < A.parts) }
+    requires first_floor { (blanks.0.1.name ≡ B.name) × (blanks.0.1.parts ≡ B.parts) × (0 < B.parts) }
+    requires second_mine { (blanks.1.0.name ≡ C.name) × (blanks.1.0.parts ≡ C.parts) × (0 < C.parts) }
+    requires second_floor { (blanks.1.1.name ≡ D.name) × (blanks.1.1.parts ≡ D.parts) × (0 < D.parts) }
+{
+    let copy = copy_of(&spec)?;
+    let (node, mut seats) = Node::<Two<A, B, C, D>>::new(alloc, spec, blanks).ok()?;
+    let mut second = seats.pop()?;
+    let first = seats.pop()?;
+    two_ranges(rt, alloc, &node, &copy, &mut second)?;
+    let stop = Stop::new();
+    let policy = Once::new(&stop, while_asked);
+    let (shared, spec, held, ended) = (&node, &copy, &policy, &stop);
+    let (report, other) = thread::join(
+        rt,
+        move || -> Option<MergerReport> {
+            let mut seat = first;
+            shared.merger(rt, &mut seat, held, ended).ok()
+        },
+        move || -> Option<Seat<Two<A, B, C, D>>>
+            requires { spec.now ≡ A.schema }
+        {
+            let mut seat = second;
+            beside_merger(rt, alloc, shared, spec, &mut seat, held, beside)?;
+            Some(seat)
+        },
+    );
+    let report = report?;
+    let mut seat = other?;
+    let snapshot = node.pin(rt, &mut seat).ok()?;
+    Some(Seen {
+        report,
+        late: policy.late.load(Ordering::SeqCst),
+        sealed: sealed_in(snapshot.ranges()),
+    })
+}
+
+fn told<R: Threads + Wait + Sync>(
+    rt: &R,
+    alloc: Global,
+    while_asked: bool,
+    beside: Beside,
+) -> Option<Seen> {
+    let spec = new_spec(alloc)?;
+    merged::<Brand, Brand, Brand, Brand, R>(rt, alloc, spec, blanks(), while_asked, beside)
+}
+
+#[test]
+fn an_event_is_accepted_while_the_policy_is_asked(rt: HostRuntime) {
+    let Some(told) = told(&rt, rt.alloc(), true, Beside::Accepts) else {
+        panic!(rt; "no answer");
+    };
+    assert!(rt; !told.late);
+    assert!(rt; told.report.commits == 1 && told.report.stale == 0);
+    assert!(rt; told.sealed == 1);
+}
+
+#[test]
+fn an_event_is_accepted_while_a_job_is_planned(rt: HostRuntime) {
+    let Some(told) = told(&rt, rt.alloc(), false, Beside::Accepts) else {
+        panic!(rt; "no answer");
+    };
+    assert!(rt; !told.late);
+    assert!(rt; told.report.commits == 1 && told.report.stale == 0);
+    assert!(rt; told.sealed == 1);
+}
+
+#[test]
+fn a_job_is_stale_once_another_thread_published_its_range(rt: HostRuntime) {
+    let Some(told) = told(&rt, rt.alloc(), false, Beside::Publishes) else {
+        panic!(rt; "no answer");
+    };
+    assert!(rt; !told.late);
+    assert!(rt; told.report.commits == 0 && told.report.stale == 1);
+    assert!(rt; told.sealed == 2);
+}

@@ -1,0 +1,69 @@
+use crate::events::DAY;
+use dr_node::{Policy, Stop};
+use dr_timeline::{Purpose, RangeInfo};
+use std::sync::atomic::{AtomicBool, Ordering};
+use std::thread;
+
+/// Waits until a flag is set, for so many turns at most, and tells whether it was.
+pub fn wait_for(flag: &AtomicBool) -> bool {
+    for _ in 0..1_000_000u32 {
+        if flag.load(Ordering::SeqCst) {
+            return true;
+        }
+        thread::yield_now();
+    }
+    false
+}
+
+/// A policy that names the first two ranges once, and stops its merger at its next turn. It is held until another thread has
+/// answered, while it is asked or once the job is planned.
+#[derive(Drop)]
+pub struct Once<'a> {
+    stop: &'a Stop,
+    while_asked: bool,
+    asked: AtomicBool,
+    /// Whether it is held, or was.
+    pub entered: AtomicBool,
+    /// Whether the other thread has answered.
+    pub answered: AtomicBool,
+    /// Whether it was held for all turns, and the other thread hadn't answered.
+    pub late: AtomicBool,
+}
+
+impl<'a> Once<'a> {
+    pub fn new(stop: &'a Stop, while_asked: bool) -> Once<'a> {
+        Once {
+            stop,
+            while_asked,
+            asked: AtomicBool::new(false),
+            entered: AtomicBool::new(false),
+            answered: AtomicBool::new(false),
+            late: AtomicBool::new(false),
+        }
+    }
+
+    fn hold(&self) {
+        self.entered.store(true, Ordering::SeqCst);
+        let late = !wait_for(&self.answered);
+        self.late.store(late, Ordering::SeqCst);
+    }
+}
+
+impl<'a> Policy for Once<'a> {
+    fn next(&self, _ranges: &[RangeInfo]) -> Option<(i64, usize, usize, Purpose)> {
+        if self.asked.swap(true, Ordering::SeqCst) {
+            self.stop.stop();
+            return None;
+        }
+        if self.while_asked {
+            self.hold();
+        }
+        Some((DAY, 0, 2, Purpose::Merge))
+    }
+
+    fn planned(&self) {
+        if !self.while_asked {
+            self.hold();
+        }
+    }
+}
