@@ -1,7 +1,8 @@
 -- Fields of JSON values. A field that holds null counts as absent.
-use Rattle.std.specs.Prelude.{◌≡◌, ℕ, ℤ, Bool, false, List, Option, Some, None, Result, Ok, Err}
+use Rattle.std.specs.Prelude.{◌≡◌, ℕ, ℤ, Bool, false, List, Option, Some, None, Result, Ok, Err, option_and_then}
 use Rattle.serde_json.specs.Data.{Data, null, boolean, number, string, array, object, Items, Members}
-use Rattle.serde_json.specs.Find.{get, as_i64}
+use Rattle.serde_json.specs.Find.{get, as_str, as_array, as_number, as_i64}
+use Rattle.serde_json.specs.Find as find
 use Rattle.dr_base.specs.declared.base_error.BaseError.{BaseError}
 use Rattle.dr_base.specs.declared.base_error.BaseError.TheVariants.{Missing, WrongKind}
 use Rattle.dr_base.specs.Reading.{◌>>=◌, GivesUnless}
@@ -34,55 +35,30 @@ abbrev pub required : List ℕ → Option Data → Result Data BaseError
 required name None = Err (Missing name)
 required name (Some d) = Ok d
 
--- the value is a text; a refusal names it by name
+-- what was found of a value, where it is of that kind; a refusal names the value
+abbrev pub of_kind : {A : Type 0} → List ℕ → Option A → Result A BaseError
+of_kind name None = Err (WrongKind name)
+of_kind name (Some found) = Ok found
+
+-- the value is a text
 abbrev pub as_text : List ℕ → Data → Result (List ℕ) BaseError
-as_text name null = Err (WrongKind name)
-as_text name (boolean b) = Err (WrongKind name)
-as_text name (number n) = Err (WrongKind name)
-as_text name (string s) = Ok s
-as_text name (array ds) = Err (WrongKind name)
-as_text name (object ms) = Err (WrongKind name)
+as_text name d = of_kind name (as_str d)
 
 -- the value is a list
 abbrev pub as_list : List ℕ → Data → Result Items BaseError
-as_list name null = Err (WrongKind name)
-as_list name (boolean b) = Err (WrongKind name)
-as_list name (number n) = Err (WrongKind name)
-as_list name (string s) = Err (WrongKind name)
-as_list name (array ds) = Ok ds
-as_list name (object ms) = Err (WrongKind name)
+as_list name d = of_kind name (as_array d)
 
 -- the value is true or false
 abbrev pub as_bool : List ℕ → Data → Result Bool BaseError
-as_bool name null = Err (WrongKind name)
-as_bool name (boolean b) = Ok b
-as_bool name (number n) = Err (WrongKind name)
-as_bool name (string s) = Err (WrongKind name)
-as_bool name (array ds) = Err (WrongKind name)
-as_bool name (object ms) = Err (WrongKind name)
-
--- a number that is whole, and of 64 bits with a sign
-abbrev pub whole : List ℕ → Option ℤ → Result ℤ BaseError
-whole name None = Err (WrongKind name)
-whole name (Some n) = Ok n
+as_bool name d = of_kind name (find.as_bool d)
 
 -- the value is a whole number of 64 bits with a sign
 abbrev pub as_int : List ℕ → Data → Result ℤ BaseError
-as_int name null = Err (WrongKind name)
-as_int name (boolean b) = Err (WrongKind name)
-as_int name (number n) = whole name (as_i64 n)
-as_int name (string s) = Err (WrongKind name)
-as_int name (array ds) = Err (WrongKind name)
-as_int name (object ms) = Err (WrongKind name)
+as_int name d = of_kind name (option_and_then as_i64 (as_number d))
 
 -- the value is an object
 abbrev pub as_object : List ℕ → Data → Result Members BaseError
-as_object name null = Err (WrongKind name)
-as_object name (boolean b) = Err (WrongKind name)
-as_object name (number n) = Err (WrongKind name)
-as_object name (string s) = Err (WrongKind name)
-as_object name (array ds) = Err (WrongKind name)
-as_object name (object ms) = Ok ms
+as_object name d = of_kind name (find.as_object d)
 
 -- a field that is required, of that kind
 abbrev pub text_field : List ℕ → Data → Result (List ℕ) BaseError

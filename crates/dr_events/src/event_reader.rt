@@ -77,6 +77,7 @@ impl EventReader {
     pub fn read(&mut self, alloc: Global, seat: u8, bytes: &[u8]) -> Result<Event, Unparseable>
         ensures event { Gives (λ e. e) result (event_of self.old seat bytes.now) }
         ensures fits { IfOk result (FitsSchema self.old) }
+        ensures mark { IfOk result (λ e. e.seat ≡ seat) }
         ensures kept { self.new ≡ self.old }
     {
         let mut found = blank(alloc, self.columns)?;

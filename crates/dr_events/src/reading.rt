@@ -29,6 +29,7 @@ pub fn read_event(
 ) -> Result<Event, Unparseable>
     ensures event { Gives (λ e. e) result (event_of spec.now seat bytes.now) }
     ensures fits { IfOk result (FitsSchema spec.now) }
+    ensures mark { IfOk result (λ e. e.seat ≡ seat) }
 {
     EventReader::new(alloc, spec)?.read(alloc, seat, bytes)
 }
@@ -42,7 +43,8 @@ pub fn event_of_fields<'a>(
     places: &Places,
     found: &[Scalar<'a>],
 ) -> Result<Event, Unparseable>
-    ensures { Gives (λ e. e) result (event_seen format seat places.now found.now) }
+    ensures event { Gives (λ e. e) result (event_seen format seat places.now found.now) }
+    ensures mark { IfOk result (λ e. e.seat ≡ seat) }
 {
     let time = event_time(format, value_at(found, places.time))?;
     let dims = dimensions(alloc, places.dimensions.as_slice(), found)?;

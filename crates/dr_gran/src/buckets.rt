@@ -5,14 +5,8 @@ ghost use Rattle.dr_time.specs.Instant.{first_instant, last_instant};
 ghost use Rattle.dr_gran.specs.Buckets.{buckets_of, first_common as first_common_of};
 
 use crate::gran::Gran;
-use dr_time::Union;
+use dr_time::{FIRST_INSTANT, LAST_INSTANT, Union};
 use std::marker::Model;
-
-/// 0001-01-01T00:00:00.000Z
-const FIRST_INSTANT: i64 = -62_135_596_800_000;
-
-/// 9999-12-31T23:59:59.999Z
-const LAST_INSTANT: i64 = 253_402_300_799_999;
 
 /// The buckets that hold a millisecond both of a union of intervals and of a span of times, by their starts, rising.
 /// A contract sees it as the list of those that are still to come.

@@ -7,9 +7,7 @@ ghost use Rattle.dr_gran.specs.Truncation.{truncation, next, month_of as month_o
 ghost use Rattle.dr_gran.specs.Nesting.{nests};
 
 use crate::step::Step;
-use dr_time::{first_day_of_month, month_of_day};
-
-const DAY_MILLIS: i64 = 86_400_000;
+use dr_time::{DAY_MILLIS, first_day_of_month, month_of_day};
 
 /// 2001-01-01T00:00:00.000Z, a Monday.
 const MONDAY: i64 = 978_307_200_000;

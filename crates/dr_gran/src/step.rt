@@ -2,7 +2,7 @@ ghost use Rattle.std.specs.Prelude.{◌≡◌};
 ghost use Rattle.dr_gran.specs.Nesting.{divides as divides_of};
 ghost use Rattle.dr_gran.specs.Step.{IsProper};
 
-const DAY_MILLIS: u32 = 86_400_000;
+use dr_time::DAY_MILLIS;
 
 /// How the buckets of a granularity follow one another.
 #[derive(Clone, Copy, Debug, PartialEq, Eq)]
@@ -21,7 +21,7 @@ impl Step {
     {
         match (self, other) {
             (Step::Millis(_, fine), Step::Millis(_, coarse)) => coarse % fine == 0,
-            (Step::Millis(_, fine), Step::Months(_)) => DAY_MILLIS % fine == 0,
+            (Step::Millis(_, fine), Step::Months(_)) => DAY_MILLIS % i64::from(fine) == 0,
             (Step::Months(fine), Step::Months(coarse)) => coarse % fine == 0,
             (Step::Months(_), Step::Millis(..)) => false,
         }

@@ -10,12 +10,8 @@ ghost use Rattle.dr_image.specs.Opening.{is_below, is_dictionary, numbers_fit, i
 use crate::part::Part;
 use crate::pieces::{do_ends_fit, list_piece, text_piece};
 use crate::words::{number, signed};
+use dr_time::{FIRST_INSTANT, LAST_INSTANT};
 use std::str;
-
-// 0001-01-01T00:00:00.000Z and 9999-12-31T23:59:59.999Z, in milliseconds since the epoch.
-const FIRST_INSTANT: i64 = -62_135_596_800_000;
-
-const LAST_INSTANT: i64 = 253_402_300_799_999;
 
 // Whether the texts of a dimension are told apart by their ends, are UTF-8, and ascend.
 pub(crate) fn has_dictionary(part: &Part) -> bool

@@ -7,13 +7,14 @@ use crate::clock::clock_behind;
 use crate::digits::{four_digits, two_digits};
 use crate::time_error::TimeError;
 
-const DAY_MILLIS: i64 = 86_400_000;
+/// The milliseconds of a day.
+pub const DAY_MILLIS: i64 = 86_400_000;
 
-/// 0001-01-01T00:00:00.000Z, the first instant.
-const FIRST_INSTANT: i64 = -62_135_596_800_000;
+/// 0001-01-01T00:00:00.000Z, the first instant, in milliseconds since 1970-01-01T00:00:00Z.
+pub const FIRST_INSTANT: i64 = -62_135_596_800_000;
 
-/// 9999-12-31T23:59:59.999Z, the last one.
-const LAST_INSTANT: i64 = 253_402_300_799_999;
+/// 9999-12-31T23:59:59.999Z, the last instant, in milliseconds since 1970-01-01T00:00:00Z.
+pub const LAST_INSTANT: i64 = 253_402_300_799_999;
 
 /// The instant that a text names, in milliseconds since 1970-01-01T00:00:00Z (ISO 8601, calendar dates).
 ///

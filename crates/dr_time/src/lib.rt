@@ -14,7 +14,7 @@ mod time_error;
 mod union;
 
 pub use calendar::{first_day_of_month, month_of_day};
-pub use instant::parse_instant;
+pub use instant::{DAY_MILLIS, FIRST_INSTANT, LAST_INSTANT, parse_instant};
 pub use interval::{Interval, parse_interval};
 pub use laws::{
     a_day_number_has_one_date, days_are_counted_from_1970, printed_instants_read_back,

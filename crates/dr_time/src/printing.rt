@@ -5,10 +5,9 @@ ghost use Rattle.dr_time.specs.Printed.{IsPrintable, last_printable, instant_tex
 ghost use Rattle.jiff_core.specs.Calendar.{IsBetween};
 
 use crate::calendar::date_of_day;
+use crate::instant::DAY_MILLIS;
 use dr_base::Text;
 use std::alloc::{AllocError, Global};
-
-const DAY_MILLIS: i64 = 86_400_000;
 
 /// The day number of 9999-12-31, the last day of the calendar of jiff.
 const LAST_DAY: i64 = 2_932_896;

@@ -36,7 +36,7 @@ returns-clause-event c =
     let seen = subst (λ xs. AreSeen firsts xs done.0) (sym (c.as_slice.ensures.value ∙ written-back filled items c.in_ok-found.found.len same_length all)) read_so in
     let same = event_of-seen r.schema seat bytes firsts r.places found done.0 done.1 c.self.invariant.0 seen in
     let given : Gives (λ e. e) c.event_of_fields.result (event_of r.schema seat bytes) =
-    rw same (subst (λ (f : TimeFormat). Gives (λ e. e) c.event_of_fields.result (event_seen f seat r.places found)) c.time_format.ensures c.event_of_fields.ensures) in
+    rw same (subst (λ (f : TimeFormat). Gives (λ e. e) c.event_of_fields.result (event_seen f seat r.places found)) c.time_format.ensures c.event_of_fields.ensures.event) in
     subst (λ (s : Schema). Gives (λ e. e) c.event_of_fields.result (event_of s seat bytes)) c.self.view_is given
 
 pub returns-clause-fits : goal.returns-clause-fits
