@@ -3,3 +3,4 @@ pub mod LineLemmas
 pub mod LineSteps
 pub mod WrittenLemmas
 pub mod ManyLines
+pub mod Behind

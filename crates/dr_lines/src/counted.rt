@@ -6,8 +6,13 @@ ghost use Rattle.dr_lines.specs.Failures.{failures_of, reads_of, inner_of, failu
 use std::io;
 use std::io::{ErrorKind, Read, Write};
 
-/// A reader or a writer whose failed calls are counted, and its reads. A write that takes none of the bytes that it is given
-/// counts as failed, and is an error. A count stays at 2^64-1 once it is there.
+/// How often a call that was interrupted is made again, before it counts as failed.
+const MOST_TRIES: u32 = 1_000_000_000;
+
+/// A reader or a writer whose failed calls are counted, and its reads. A call that a signal interrupted is made again, as
+/// Rust's `read_until` and `write_all` do, and isn't counted as failed; where that happens a thousand million times in a row it
+/// fails. A write that takes none of the bytes that it is given counts as failed, and is an error. A count stays at 2^64-1 once
+/// it is there.
 #[derive(Debug, Drop)]
 pub struct Counted<T> {
     inner: T,
@@ -76,7 +81,7 @@ impl<R: Read> Read for Counted<R> {
         ensures reads { reads_of self.new ≡ min (reads_of self.old + 1) (2 ^ 64 - 1) }
     {
         self.reads = self.reads.saturating_add(1);
-        let result = self.inner.read(buf);
+        let result = read_through(&mut self.inner, buf);
         if result.is_err() {
             self.count_failure();
         }
@@ -94,7 +99,7 @@ impl<W: Write> Write for Counted<W> {
         ensures failures { failures_of self.new ≡ failures_after (failures_of self.old) result }
         ensures reads { reads_of self.new ≡ reads_of self.old }
     {
-        match self.inner.write(buf) {
+        match write_through(&mut self.inner, buf) {
             Ok(0) if !buf.is_empty() => {
                 self.count_failure();
                 Err(io::Error::from(ErrorKind::WriteZero))
@@ -112,10 +117,54 @@ impl<W: Write> Write for Counted<W> {
         ensures failures { failures_of self.new ≡ failures_after (failures_of self.old) result }
         ensures reads { reads_of self.new ≡ reads_of self.old }
     {
-        let result = self.inner.flush();
+        let result = flush_through(&mut self.inner);
         if result.is_err() {
             self.count_failure();
         }
         result
     }
+}
+
+// Reads, as often as a signal interrupts it.
+#[tactic(auto, using(crate::proofs::Behind::reads_behind))]
+fn read_through<R: Read>(reader: &mut R, buf: &mut [u8]) -> io::Result<usize>
+    ensures bound { ReadsAtMost result buf.new }
+    ensures bytes { ReadConsumes (R.remaining reader.old) (R.remaining reader.new) result buf.new }
+{
+    'tries: for _ in 1..MOST_TRIES {
+        match reader.read(buf) {
+            Err(error) if error.kind() == ErrorKind::Interrupted => {}
+            result => return result,
+        }
+    }
+    reader.read(buf)
+}
+
+// Writes, as often as a signal interrupts it.
+#[tactic(auto, using(crate::proofs::Behind::writes_behind))]
+fn write_through<W: Write>(writer: &mut W, buf: &[u8]) -> io::Result<usize>
+    ensures bound { WritesAtMost result buf.now }
+    ensures bytes { WriteAppends (W.contents writer.old) (W.contents writer.new) result buf.now }
+{
+    'tries: for _ in 1..MOST_TRIES {
+        match writer.write(buf) {
+            Err(error) if error.kind() == ErrorKind::Interrupted => {}
+            result => return result,
+        }
+    }
+    writer.write(buf)
+}
+
+// Flushes, as often as a signal interrupts it.
+#[tactic(auto, using(crate::proofs::Behind::keeps_behind))]
+fn flush_through<W: Write>(writer: &mut W) -> io::Result<()>
+    ensures { Keeps (W.contents writer.old) (W.contents writer.new) }
+{
+    'tries: for _ in 1..MOST_TRIES {
+        match writer.flush() {
+            Err(error) if error.kind() == ErrorKind::Interrupted => {}
+            result => return result,
+        }
+    }
+    writer.flush()
 }

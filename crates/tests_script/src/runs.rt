@@ -4,15 +4,33 @@ use std::io;
 use std::io::{ErrorKind, Read, Write};
 use std::test::Fail;
 
-// Gives the bytes one by one, and fails after so many reads.
+/// Counts calls, and tells which of them a signal interrupts: every third.
+#[derive(Drop)]
+struct Signals {
+    calls: u32,
+}
+
+impl Signals {
+    fn pass(&mut self) -> io::Result<()> {
+        self.calls = self.calls.wrapping_add(1);
+        if self.calls % 3 == 0 {
+            return Err(io::Error::from(ErrorKind::Interrupted));
+        }
+        Ok(())
+    }
+}
+
+// Gives the bytes one by one, and fails after so many reads that no signal interrupts.
 #[derive(Drop)]
 struct FailingReader<'a> {
     bytes: &'a [u8],
     left: usize,
+    signals: Signals,
 }
 
 impl Read for FailingReader<'_> {
     fn read(&mut self, buf: &mut [u8]) -> io::Result<usize> {
+        self.signals.pass()?;
         if self.left == 0 {
             return Err(io::Error::from(ErrorKind::Other));
         }
@@ -27,10 +45,12 @@ impl Read for FailingReader<'_> {
 struct FailingWriter {
     held: Vec<u8>,
     room: usize,
+    signals: Signals,
 }
 
 impl Write for FailingWriter {
     fn write(&mut self, buf: &[u8]) -> io::Result<usize> {
+        self.signals.pass()?;
         if self.held.len() >= self.room {
             return Err(io::Error::from(ErrorKind::Other));
         }
@@ -40,7 +60,7 @@ impl Write for FailingWriter {
     }
 
     fn flush(&mut self) -> io::Result<()> {
-        Ok(())
+        self.signals.pass()
     }
 }
 
@@ -80,10 +100,12 @@ fn run(rt: &impl AllocGlobal, reads: usize, room: usize) -> Result<Vec<u8>, Fail
     let mut reader = Counted::new(FailingReader {
         bytes: SCRIPT.as_bytes(),
         left: reads,
+        signals: Signals { calls: 0 },
     });
     let mut writer = Counted::new(FailingWriter {
         held: Vec::new(rt.alloc()),
         room,
+        signals: Signals { calls: 0 },
     });
     let status = run_script(rt, &mut reader, &mut writer, 1);
     let mut held = writer.into_inner().held;
