@@ -37,3 +37,14 @@ arg_of WorkerNotStarted = None
 arg_of ReadFault = None
 arg_of (Node e) = None
 arg_of (Answer e) = None
+
+-- memory ran out
+abbrev pub is_memory : LoadError → Bool
+is_memory NoMemory = true
+is_memory (Spec e) = spec.is_memory e
+is_memory (Query e) = query.is_memory e
+is_memory NotMatching = false
+is_memory WorkerNotStarted = false
+is_memory ReadFault = false
+is_memory (Node e) = node.is_memory e
+is_memory (Answer e) = answer.is_memory e
