@@ -3,3 +3,5 @@
 
 #[cfg(test)]
 mod loads;
+#[cfg(test)]
+mod meeting;
