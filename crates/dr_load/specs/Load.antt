@@ -1,11 +1,14 @@
 -- What is asked of a load before a file is read, and what it tells in the end.
-use Rattle.std.specs.Prelude.{ℕ, List, ◌++◌, Bool, true, false, Result, Ok, Err, codes, decimal, if◌then◌else◌}
+use Rattle.std.specs.Prelude.{◌≡◌, ◌⊎◌, ℕ, List, ◌++◌, length, true, Result, Ok, Err, codes, decimal, if◌then◌else◌}
 use Rattle.dr_base.specs.Reading.{◌>>=◌, passed}
+use Rattle.dr_base.specs.declared.event.Event.{Event}
 use Rattle.dr_schema.specs.declared.schema.Schema.{Schema}
 use Rattle.dr_spec.specs.SpecOf.{spec_of}
 use Rattle.dr_ask.specs.Asked.{Asked}
 use Rattle.dr_ask.specs.Matching.{is_matching}
 use Rattle.dr_ask.specs.QueryOf.{query_of}
+use Rattle.dr_cuts.specs.RawAnswer.{raw_answer}
+use Rattle.dr_load.specs.Refusal.{is_memory}
 use Rattle.dr_load.specs.declared.load_error.LoadError.{LoadError}
 use Rattle.dr_load.specs.declared.load_error.LoadError.TheVariants.{Spec, Query, NotMatching}
 
@@ -29,3 +32,18 @@ counts_line processed unparseable thrown_away =
 -- that, and the line of the answer
 abbrev pub told : ℕ → ℕ → ℕ → List ℕ → List ℕ
 told processed unparseable thrown_away answer = counts_line processed unparseable thrown_away ++ (answer ++ codes "\n")
+
+-- the text of the raw answer over some events, behind their counts
+abbrev pub TellsRaw : Schema → Asked → List ℕ → Type 0
+TellsRaw schema q text = (es : List Event) × (unparseable : ℕ) × (thrown_away : ℕ) × (answer : List ℕ)
+    × (raw_answer schema q es ≡ Ok answer) × (text ≡ told (length es) unparseable thrown_away answer)
+
+-- a text is told where nothing was refused before a file was read
+abbrev pub Tells : Result (Schema × Asked) LoadError → List ℕ → Type 0
+Tells (Ok asked) text = TellsRaw asked.0 asked.1 text
+Tells (Err e) text = ⊥
+
+-- what is refused before a file is read is the answer, unless memory ran out
+abbrev pub RefusesFirst : {X : Type 0} → Result (Schema × Asked) LoadError → Result X LoadError → Type 0
+RefusesFirst (Ok asked) result = Unit {0}
+RefusesFirst (Err e) result = (result ≡ Err e) ⊎ ((m : LoadError) × (is_memory m ≡ true) × (result ≡ Err m))

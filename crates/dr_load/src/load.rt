@@ -1,5 +1,6 @@
-ghost use Rattle.std.specs.Prelude.{◌≡◌, ◌≤◌, ◌<◌, ◌↔◌, IsTrue, IfOk, length, string_bytes};
-ghost use Rattle.dr_load.specs.Load.{told, counts_line};
+ghost use Rattle.std.specs.Prelude.{◌≡◌, ◌+◌, ◌≤◌, ◌<◌, true, ◌↔◌, IsTrue, IfOk, length, string_bytes};
+ghost use Rattle.dr_ask.specs.Matching.{is_matching};
+ghost use Rattle.dr_load.specs.Load.{told, counts_line, asked_of, RefusesFirst, Tells, TellsRaw};
 ghost use Rattle.dr_ask.specs.Asked.{asked};
 ghost use Rattle.dr_ask.specs.MadeFor.{MadeFor};
 
@@ -36,7 +37,17 @@ type TwoBlanks = (OneBlank, OneBlank);
 type FourBlanks = (TwoBlanks, TwoBlanks);
 
 /// Loads files of events, one event a line, and answers a query over all of them: the line `processed P unparseable U thrownAway T`
-/// and the line of the answer.
+/// and the line of the answer (Apache Druid documentation, ingestion: row statistics; timeseries and groupBy queries).
+///
+/// Each file is ingested by a thread of its own. A merger publishes all sealed ranges of the first chunk that has two or more,
+/// and a query thread pins and answers, while files are ingested; a refusal that these two meet ends that thread alone. A line
+/// over 1048576 bytes is unparseable, and a final newline starts no line.
+///
+/// Refusals, the first in this order: those of the spec and of the query; 97 `NotMatching` where the query doesn't match, a scan
+/// among them; what ended the thread of the first file that wasn't read whole (0, 80 `WorkerNotStarted`, 90 `StreamFull`, 99
+/// `ReadFault`); 94 `HistoryMismatch`; those of the answer. Where a text is answered, it is byte for byte that of the raw answer
+/// over the events that the node kept. It waits for its threads, and takes time by the bytes of the files and memory by their
+/// events.
 pub fn load_run<R: Read + Send + Drop, T: Threads + Wait + Clock + Sync + AllocGlobal>(
     rt: &T,
     spec: &[u8],
@@ -45,6 +56,8 @@ pub fn load_run<R: Read + Send + Drop, T: Threads + Wait + Clock + Sync + AllocG
     workers: u8,
 ) -> Result<Vec<u8>, LoadError>
     requires { length files.items ≤ 6 }
+    ensures first { RefusesFirst (asked_of spec.now query.now) result }
+    ensures text { IfOk result (λ text. Tells (asked_of spec.now query.now) text.items) }
 {
     load_watched(rt, spec, query, files, workers, &NoWatch)
 }
@@ -63,6 +76,8 @@ pub fn load_watched<
     watch: &W,
 ) -> Result<Vec<u8>, LoadError>
     requires { length files.items ≤ 6 }
+    ensures first { RefusesFirst (asked_of spec.now query.now) result }
+    ensures text { IfOk result (λ text. Tells (asked_of spec.now query.now) text.items) }
 {
     let alloc = rt.alloc();
     let spec = IngestSpec::parse(alloc, spec)?;
@@ -135,6 +150,7 @@ fn of_eight<
 ) -> Result<Vec<u8>, LoadError>
     requires schema { spec ≡ A.schema }
     requires query { MadeFor A.schema (asked query) }
+    requires matching { is_matching (asked query) ≡ true }
     requires files { length files.items ≤ 6 }
     requires seat_0 { (blanks.0.0.0.0.name ≡ A.name) × (blanks.0.0.0.0.parts ≡ A.parts) × (0 < A.parts) × (blanks.0.0.0.1.name ≡ B.name) × (blanks.0.0.0.1.parts ≡ B.parts) × (0 < B.parts) }
     requires seat_1 { (blanks.0.0.1.0.name ≡ C.name) × (blanks.0.0.1.0.parts ≡ C.parts) × (0 < C.parts) × (blanks.0.0.1.1.name ≡ D.name) × (blanks.0.0.1.1.parts ≡ D.parts) × (0 < D.parts) }
@@ -144,15 +160,41 @@ fn of_eight<
     requires seat_5 { (blanks.1.0.1.0.name ≡ K.name) × (blanks.1.0.1.0.parts ≡ K.parts) × (0 < K.parts) × (blanks.1.0.1.1.name ≡ L.name) × (blanks.1.0.1.1.parts ≡ L.parts) × (0 < L.parts) }
     requires seat_6 { (blanks.1.1.0.0.name ≡ M.name) × (blanks.1.1.0.0.parts ≡ M.parts) × (0 < M.parts) × (blanks.1.1.0.1.name ≡ N.name) × (blanks.1.1.0.1.parts ≡ N.parts) × (0 < N.parts) }
     requires seat_7 { (blanks.1.1.1.0.name ≡ O.name) × (blanks.1.1.1.0.parts ≡ O.parts) × (0 < O.parts) × (blanks.1.1.1.1.name ≡ P.name) × (blanks.1.1.1.1.parts ≡ P.parts) × (0 < P.parts) }
+    ensures { IfOk result (λ text. TellsRaw A.schema (asked query) text.items) }
 {
     let copy = spec.copy()?;
-    let (node, mut seats) = Node::<Eight<A, B, C, D, E, F, G, H, I, J, K, L, M, N, O, P>>::new(
+    let (node, seats) = Node::<Eight<A, B, C, D, E, F, G, H, I, J, K, L, M, N, O, P>>::new(
         alloc, spec, blanks,
     )?;
-    let order = Order {
-        spec: &copy,
-        query: &query,
-    };
+    load_into(rt, alloc, node, seats, &copy, &query, files, workers, watch)
+}
+
+// Loads the files into a node, and answers the query over all events.
+fn load_into<
+    B: Books + Send,
+    R: Read + Send + Drop,
+    T: Threads + Wait + Clock + Sync,
+    W: Watch + Sync,
+>(
+    rt: &T,
+    alloc: Global,
+    node: Node<B>,
+    mut seats: Vec<Seat<B>>,
+    spec: &IngestSpec,
+    query: &Query,
+    files: Vec<R>,
+    workers: u8,
+    watch: &W,
+) -> Result<Vec<u8>, LoadError>
+where
+    B::Share: Send,
+    requires schema { spec.now ≡ B.schema }
+    requires query { MadeFor B.schema (asked query.now) }
+    requires matching { is_matching (asked query.now) ≡ true }
+    requires seats { length files.items + 2 ≤ length seats.items }
+    ensures { IfOk result (λ text. TellsRaw B.schema (asked query.now) text.items) }
+{
+    let order = Order { spec, query };
     let told = ingest_all(rt, alloc, &node, seats.as_mut_slice(), &order, files, watch)?;
     let counts = counts_of(told)?;
     let snapshot = node.pin(rt, &mut seats[0])?;
@@ -160,7 +202,22 @@ fn of_eight<
     if !is_closed(&snapshot, &closed) {
         return Err(LoadError::Node(NodeError::HistoryMismatch));
     }
-    let answer = snapshot.answer_one(&query)?;
+    answered(alloc, query, &snapshot, counts, workers)
+}
+
+// The counts and the answer over a snapshot.
+fn answered(
+    alloc: Global,
+    query: &Query,
+    snapshot: &Snapshot,
+    counts: (u64, u64),
+    _workers: u8,
+) -> Result<Vec<u8>, LoadError>
+    requires query { MadeFor snapshot.now.schema (asked query.now) }
+    requires matching { is_matching (asked query.now) ≡ true }
+    ensures { IfOk result (λ text. TellsRaw snapshot.now.schema (asked query.now) text.items) }
+{
+    let answer = snapshot.answer_one(query)?;
     told_of(
         alloc,
         snapshot.event_count() as u64,
