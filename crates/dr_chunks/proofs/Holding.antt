@@ -162,11 +162,11 @@ joined-is schema k l from s ss tiled h =
     λ i. record { chunk = k; from = s.fragment.from; to = end i; rows = rows i }
 
 -- the joined range in the place of adjacent sealed ones
-pub holds-replaced : (schema : Schema) (es : List Event) (c : Chunk) (before : List SealedRange) (s : SealedRange) (ss after : List SealedRange) (new : SealedRange)
+pub holds-replaced : (schema : Schema) (es : List Event) (c : Chunk) (before : List SealedRange) (s : SealedRange) (ss after : List SealedRange) (new : SealedRange) (publications : ℕ)
     → c.sealed ≡ before ++ ((s ∷ ss) ++ after) → Holds schema es c
     → new.fragment ≡ joined schema c.start (map (λ s. s.fragment) (s ∷ ss))
-    → Holds schema es (record c { sealed = before ++ (new ∷ after) }) × (open_from (map range_of (before ++ (new ∷ after))) ≡ open_from (ranges_of c))
-holds-replaced schema es c before s ss after new parts held is =
+    → Holds schema es (record c { sealed = before ++ (new ∷ after); publications = publications }) × (open_from (map range_of (before ++ (new ∷ after))) ≡ open_from (ranges_of c))
+holds-replaced schema es c before s ss after new publications parts held is =
     let l : List Event = chunk_list schema es c.start in
     let inner : List SealedRange = s ∷ ss in
     let ranges : ranges_of c ≡ map range_of before ++ (map range_of inner ++ map range_of after) = ap (map range_of) parts ∙ map-append range_of before (inner ++ after) ∙ ap (λ rs. map range_of before ++ rs) (map-append range_of inner after) in

@@ -106,9 +106,9 @@ sealed_if_full serial c = if is_full c then with_open_sealed serial c else c
 abbrev pub grown : ℕ → Event → Chunk → Chunk
 grown serial e c = sealed_if_full serial (with_one e c)
 
--- a range in the place of so many sealed ones, from a place on
-abbrev pub with_range : ℕ → ℕ → SealedRange → Chunk → Chunk
-with_range place count range c = record c { sealed = take place c.sealed ++ (range ∷ drop (place + count) c.sealed) }
+-- a range in the place of so many sealed ones, from a place on, with so many publications then
+abbrev pub with_range : ℕ → ℕ → ℕ → SealedRange → Chunk → Chunk
+with_range place count publications range c = record c { sealed = take place c.sealed ++ (range ∷ drop (place + count) c.sealed); publications = publications }
 
 -- the chunk that starts so, changed; it may be new
 abbrev pub at_start : Schema → (Chunk → Chunk) → ℤ → List Chunk → List Chunk

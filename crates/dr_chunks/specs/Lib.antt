@@ -1,3 +1,4 @@
+pub mod Times
 pub mod Blocks
 pub mod Open
 pub mod Held

@@ -84,15 +84,24 @@ impl Chunks {
         chunk.seal(alloc, serial)
     }
 
-    /// Puts a sealed range in the place of so many, from a place on, in the chunk that starts at this time.
-    pub fn replace(&mut self, start: i64, place: usize, count: usize, range: SealedRange)
+    /// Puts a sealed range in the place of so many, from a place on, in the chunk that starts at this time, of which there are
+    /// so many publications then.
+    pub fn replace(
+        &mut self,
+        start: i64,
+        place: usize,
+        count: usize,
+        publications: u64,
+        range: SealedRange,
+    )
         requires chunk { IsSome (chunk_in start self.old) }
         requires some { 0 < count }
         requires within { IfSome (chunk_in start self.old) (λ c. place + count ≤ length c.sealed) }
-        ensures { (schema : SchemaOf) → self.new ≡ at_start schema (with_range place count range) start self.old }
+        ensures { (schema : SchemaOf) → self.new ≡ at_start schema (with_range place count publications range) start self.old }
     {
         let chunk = self.0.get_mut(&start).unwrap();
         chunk.sealed.replace(place, count, range);
+        chunk.publications = publications;
     }
 
     /// Puts the ranges of each chunk behind these, as a snapshot shows them, and shares of their fragments. No row is copied.

@@ -9,6 +9,7 @@ mod open_range;
 mod sealed_range;
 mod sealed_ranges;
 mod stream;
+mod times;
 
 pub use chunk::Chunk;
 pub use chunks::Chunks;

@@ -1,7 +1,9 @@
 ghost use Rattle.std.specs.Prelude.{◌≡◌, ◌<◌, ◌≤◌, ◌++◌, ◌∷◌, [], true, Some, length, map, slice_get, IfOk, OnOk, OnErr};
 ghost use Rattle.std.specs.List.{flat_map};
+ghost use Rattle.dr_chunks.specs.Times.{times};
 
 use crate::block::Block;
+use crate::times::wider;
 use dr_base::Event;
 use std::alloc::{AllocError, Global};
 use std::marker::Model;
@@ -20,6 +22,8 @@ pub struct Stream {
     blocks: Vec<Block>,
     last: Vec<Event>,
     count: usize,
+    // From the least to the greatest time of the events.
+    times: Option<(i64, i64)>,
 }
 
 impl Model for Stream {
@@ -29,7 +33,7 @@ impl Model for Stream {
 
     ghost view = { λ s. record { items = in_blocks s.blocks.items s.last.items; room = has_room s.last.items s.last.cap } };
 
-    ghost invariant = { λ s. AreBlocks s.blocks.items s.last.items s.count };
+    ghost invariant = { λ s. AreBlocks s.blocks.items s.last.items s.count s.times };
 }
 
 impl Stream {
@@ -41,6 +45,7 @@ impl Stream {
             blocks: Vec::new(alloc),
             last: Vec::new(alloc),
             count: 0,
+            times: None,
         }
     }
 
@@ -54,6 +59,14 @@ impl Stream {
         ensures { result ≡ length self.now.items }
     {
         self.count
+    }
+
+    /// From the least to the greatest time of the events, both included, in milliseconds since the epoch, as they came; none
+    /// where there is no event. It takes constant time.
+    pub fn times(&self) -> Option<(i64, i64)>
+        ensures { result ≡ times self.now.items }
+    {
+        self.times
     }
 
     /// The event at a place, from 0.
@@ -100,6 +113,7 @@ impl Stream {
         requires few { length self.old.items < 18446744073709551615 }
         ensures { self.new.items ≡ self.old.items ++ event ∷ [] }
     {
+        self.times = wider(self.times, event.time);
         self.last.push(event).unwrap();
         self.count += 1;
     }
@@ -113,6 +127,7 @@ impl Stream {
             blocks: share_all(alloc, &self.blocks)?,
             last: copy_all(alloc, &self.last)?,
             count: self.count,
+            times: self.times,
         })
     }
 }

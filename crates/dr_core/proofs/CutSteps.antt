@@ -119,7 +119,7 @@ tile-joined schema es k end place count ranges (r ∷ rs) new is some tiled is_f
     sym (take-append-drop place ranges) ∙ ap (λ l. take place ranges ++ l) (sym (take-append-drop count (drop place ranges)) ∙ (λ i. is i ++ drop-drop count place ranges i)) in
     tile-replaced 0 end (take place ranges) r rs (drop (place + count) ranges) new (subst (Tile 0 end) parts tiled) is_from (is_to ∙ last-of schema es k r.to rs)
 
-pub cuts-after_merge : (s : State) (job : Job) (place : ℕ) → AreCuts s.schema s.stream s.cuts → StandsAt s job place → AreCuts s.schema s.stream (at_chunk job.chunk (replaced place (length job.inputs) (joined_range s job place)) s.cuts)
+pub cuts-after_merge : (s : State) (job : Job) (place : ℕ) → AreCuts s.schema s.stream s.cuts → StandsAt s job place → AreCuts s.schema s.stream (at_chunk job.chunk (replaced place (length job.inputs) job.purpose (joined_range s job place)) s.cuts)
 cuts-after_merge s job place are stands =
     let k : ℤ = job.chunk in
     let n : ℕ = length job.inputs in
@@ -138,8 +138,8 @@ cuts-after_merge s job place are stands =
     let longer : Tile 0 (length l) (take place c.sealed ++ (new ∷ drop (place + n) c.sealed)) =
     tile-joined s.schema s.stream k (length l) place n c.sealed (take n (drop place c.sealed)) new refl (omega arith) tiled (ap first_from (sym inputs)) (ap last_to (sym inputs)) in
     record {
-      chunks = keys-at_key (λ (c : Cut). c.chunk) (open_cut k) s.cuts k (replaced place n new) (λ c. refl) refl ∙ with_value-there k (map (λ c. c.chunk) s.cuts) (there s.schema s.stream s.cuts k are list) (rising-cuts s.schema s.stream s.cuts are) ∙ are.chunks;
-      tiled = All-at_key (λ c. c.chunk) (open_cut k) (IsTiled s.schema s.stream) (IsTiled s.schema s.stream) s.cuts k (replaced place n new) (λ c other h. h)
+      chunks = keys-at_key (λ (c : Cut). c.chunk) (open_cut k) s.cuts k (replaced place n job.purpose new) (λ c. refl) refl ∙ with_value-there k (map (λ c. c.chunk) s.cuts) (there s.schema s.stream s.cuts k are list) (rising-cuts s.schema s.stream s.cuts are) ∙ are.chunks;
+      tiled = All-at_key (λ c. c.chunk) (open_cut k) (IsTiled s.schema s.stream) (IsTiled s.schema s.stream) s.cuts k (replaced place n job.purpose new) (λ c other h. h)
           (subst (λ (j : ℤ). Tile 0 (length (chunk_list s.schema s.stream j)) (take place c.sealed ++ (new ∷ drop (place + n) c.sealed))) (sym at.1) longer) are.tiled (rising-cuts s.schema s.stream s.cuts are);
     }
   where

@@ -1,6 +1,6 @@
 -- Each answer of a run is the raw answer, over the definitions alone.
 use Rattle.std.proofs.Common.{◌≡◌, ◌∙◌, sym, refl, ap, subst, inl, inr, ℕ, ℤ, ◌≤◌, Bool, true, false, List, [], ◌∷◌, ◌++◌, length, Some, None, zero, suc, cond, nat_le, arith}
-use Rattle.std.specs.Prelude.{Option, Ok, nat_eq}
+use Rattle.std.specs.Prelude.{Option, Ok, nat_eq, not, ◌&&◌, ◌||◌}
 use Rattle.dr_base.specs.Reading.{◌>>=◌, passed}
 use Rattle.std.specs.List.{AllByRecursion, slice_get}
 use Rattle.std.proofs.lemmas.List.{append-nil}
@@ -10,8 +10,8 @@ use Rattle.dr_base.specs.declared.row.Row.{Row}
 use Rattle.dr_agg.specs.Rollup.{rollup_onto}
 use Rattle.dr_schema.specs.declared.schema.Schema.{Schema}
 use Rattle.dr_schema.specs.WellFormed.{IsWellFormed}
-use Rattle.dr_ask.specs.Asked.{Asked, asked}
-use Rattle.dr_ask.specs.Matching.{is_matching}
+use Rattle.dr_ask.specs.Asked.{Asked, asked, is_scan}
+use Rattle.dr_ask.specs.Matching.{all_match, is_matching}
 use Rattle.dr_ask.specs.MadeFor.{MadeFor}
 use Rattle.dr_answers.specs.Answer.{answer}
 use Rattle.dr_merge.specs.declared.job.Job.{Job}
@@ -34,11 +34,13 @@ use Rattle.dr_cuts.specs.Segments.{Pinned, pinned, infos, rows_over, rows_of}
 use Rattle.dr_timeline.specs.CoreState.{CoreState, empty_core, with_timeline, with_job, with_pin}
 use Rattle.dr_core.specs.Run.{FitsStep, Moves, told, taken, RunFrom, reply_to}
 use Rattle.dr_core.specs.Steps.{commit_job, given}
+use Rattle.dr_core.specs.Asking.{answer_over, audited}
+use Rattle.dr_timeline.specs.Scanning.{scan_over}
 use Rattle.dr_core.specs.Headline.{accepted_by, pinned_by, IsRaw, AnswersRaw, AnswersFrom, AnswersAreRaw}
 use Rattle.dr_core.proofs.CutSteps.{cuts-opened, cuts-after_seal, cuts-after_merge}
 use Rattle.dr_cuts.proofs.Matching.{answer-cut_rows}
 use Rattle.dr_timeline.proofs.Placing.{place_of-stands}
-use Rattle.dr_core.proofs.Running.{told-if, told-unless, told-given, told-with, told-worked, image_fits, with_answer}
+use Rattle.dr_core.proofs.Running.{told-if, told-unless, told-given, told-audited, told-with, told-worked, image_fits, with_answer}
 use Rattle.dr_merge.specs.Joined.{joined_fragment}
 
 -- ---- an event that may seal
@@ -206,9 +208,9 @@ taken-run schema es ess old (Commit n) least h =
     told-with (Follows schema es ess (Commit n)) (λ (a : ℕ × CoreState). (Committed a.0, a.1)) (λ job. commit_job job old) old (slice_get old.jobs n) (as-before schema es ess old h) (λ job. commit-run schema es ess old n job h)
 taken-run schema es ess old Pin least h = pin-run schema es ess old h
 taken-run schema es ess old (Ask n q) least h =
-    told-given (Follows schema es ess (Ask n q)) (λ p. (reply_to (answer (asked q) (rows_of p)), old)) old (slice_get old.pins n) (as-before schema es ess old h) (λ p. as-before schema es ess old h)
+    told-given (Follows schema es ess (Ask n q)) (λ p. (reply_to (answer_over (asked q) p), old)) old (slice_get old.pins n) (as-before schema es ess old h) (λ p. as-before schema es ess old h)
 taken-run schema es ess old (Audit n q) least h =
-    told-given (Follows schema es ess (Audit n q)) (λ p. (reply_to (raw_answer p.schema (asked q) p.stream), old)) old (slice_get old.pins n) (as-before schema es ess old h) (λ p. as-before schema es ess old h)
+    told-audited (Follows schema es ess (Audit n q)) (λ p. (reply_to (raw_answer p.schema (asked q) p.stream), old)) old (asked q) (slice_get old.pins n) (as-before schema es ess old h) (λ p. as-before schema es ess old h)
 
 pub moves-run : (schema : Schema) (es : List Event) (ess : List (List Event)) (old new : CoreState) (s : Step) (r : Reply) → 1 ≤ schema.limits.max_rows_in_memory → Moves old s r new → IsRunSoFar schema es ess old → IsRunSoFar schema (es ++ accepted_by s r) (ess ++ pinned_by es s r) new
 moves-run schema es ess old new s r least (inl h) g = coe 0 1 (i. Follows schema es ess s ((sym h.0) i, (sym h.1) i)) (taken-run schema es ess old s least g)
@@ -216,13 +218,22 @@ moves-run schema es ess old new s r least (inr h) g = coe 0 1 (i. Follows schema
 
 -- ---- the answers
 
+-- a matching query is no scan
+no_scan : (scans : Bool) (rest : Bool) → (not scans && rest) ≡ true → scans ≡ false
+no_scan true rest h = absurd (cc)
+no_scan false rest h = refl
+
+pub groups-matching : (q : Asked) (p : Pinned) → is_matching q ≡ true → answer_over q p ≡ answer q (rows_of p)
+groups-matching q p matches = ap (λ (b : Bool). cond b (Ok (scan_over q p)) (answer q (rows_of p))) (no_scan (is_scan q.shape) (not q.rollup || all_match q.aggregations) matches)
+
 -- the answer on a snapshot
-pub pin-raw : (schema : Schema) (es : List Event) (p : Pinned) (q : Asked) → IsPin schema es p → MadeFor schema q → is_matching q ≡ true → answer q (rows_of p) ≡ raw_answer schema q es
+pub pin-raw : (schema : Schema) (es : List Event) (p : Pinned) (q : Asked) → IsPin schema es p → MadeFor schema q → is_matching q ≡ true → answer_over q p ≡ raw_answer schema q es
 pin-raw schema es p q pin made matches =
+    groups-matching q p matches ∙
     ap (answer q) (λ i. rows_over (pin.schema_is i) (pin.stream_is i) (pin.ranges_are i)) ∙ answer-cut_rows schema q es pin.cuts pin.are_cuts made matches
 
 ask-raw : (schema : Schema) (ess : List (List Event)) (ps : List Pinned) (n : ℕ) (q : Asked) (c : CoreState) → ArePins schema ess ps → MadeFor schema q → is_matching q ≡ true
-    → IsRaw schema q (slice_get ess n) (told (λ p. (reply_to (answer q (rows_of p)), c)) c (given (slice_get ps n))).0
+    → IsRaw schema q (slice_get ess n) (told (λ p. (reply_to (answer_over q p), c)) c (given (slice_get ps n))).0
 ask-raw schema [] [] n q c pins made matches = inl refl
 ask-raw schema [] (p ∷ ps) n q c pins made matches = absurd pins
 ask-raw schema (es ∷ ess) [] n q c pins made matches = absurd pins

@@ -3,10 +3,10 @@ use Rattle.std.proofs.Common.{◌≡◌, ◌∙◌, refl, ap, subst, inl, inr, �
 use Rattle.std.specs.Prelude.{Result, Ok, Err, Option, nat_le}
 use Rattle.dr_base.specs.Reading.{◌>>=◌, passed}
 use Rattle.dr_base.specs.declared.event.Event.{Event}
-use Rattle.dr_ask.specs.Asked.{asked}
-use Rattle.dr_answers.specs.Answer.{answer}
+use Rattle.dr_ask.specs.Asked.{Asked, asked, is_scan}
 use Rattle.dr_core.specs.declared.core_error.CoreError.{CoreError}
 use Rattle.dr_core.specs.declared.core_error.CoreError.TheVariants.{Merge, Timeline}
+use Rattle.dr_core.specs.declared.core_error.CoreError.TheVariants as error
 use Rattle.dr_fragment.specs.declared.fragment.Fragment.{Fragment}
 use Rattle.dr_merge.specs.declared.merge_error.MergeError.TheVariants.{ImageTooLarge}
 use Rattle.dr_image.specs.Image.{image}
@@ -16,6 +16,7 @@ use Rattle.dr_core.specs.declared.step.Step.TheVariants.{Accept, Seal, Plan, Com
 use Rattle.dr_core.specs.declared.reply.Reply.{Reply}
 use Rattle.dr_core.specs.declared.reply.Reply.TheVariants.{Accepted, Sealed, Job as JobGiven, Committed, Refused, NoSuch}
 use Rattle.dr_core.specs.Steps.{commit_job, given}
+use Rattle.dr_core.specs.Asking.{answer_over, audited}
 use Rattle.dr_merge.specs.declared.job.Job.{Job}
 use Rattle.dr_timeline.specs.declared.timeline_error.TimelineError.{TimelineError}
 use Rattle.dr_timeline.specs.declared.timeline_error.TimelineError.TheVariants.{StreamFull, NothingToSeal, NoSuchRange, CommitsFull}
@@ -27,7 +28,7 @@ use Rattle.dr_cuts.specs.RawAnswer.{raw_answer}
 use Rattle.dr_timeline.specs.Standing.{place_of}
 use Rattle.dr_timeline.specs.Steps.{accepted, with_event, sealed_at, open_in}
 use Rattle.dr_timeline.specs.Stepping.{commit_at}
-use Rattle.dr_cuts.specs.Segments.{rows_of}
+use Rattle.dr_cuts.specs.Segments.{Pinned}
 use Rattle.dr_timeline.specs.CoreState.{CoreState, with_timeline, with_job}
 use Rattle.dr_core.specs.Run.{RunFrom, Moves, told, taken, reply_to}
 
@@ -55,6 +56,13 @@ told-unless P done next old false e x refused taken = refused
 pub told-given : {A : Type 0} (P : Reply × CoreState → Type 0) (done : A → Reply × CoreState) (old : CoreState) (o : Option A) → P (NoSuch, old) → ((x : A) → P (done x)) → P (told done old (given o))
 told-given P done old None none each = none
 told-given P done old (Some x) none each = each x
+
+pub told-audited : (P : Reply × CoreState → Type 0) (done : Pinned → Reply × CoreState) (old : CoreState) (q : Asked) (o : Option Pinned) → P (NoSuch, old) → ((p : Pinned) → P (done p)) → P (told done old (audited q o))
+told-audited P done old q o none each = at (is_scan q.shape)
+  where
+    at : (b : Bool) → P (told done old (cond b (Err error.NoSuch) (given o)))
+    at true = none
+    at false = told-given P done old o none each
 
 pub told-with : {A B : Type 0} (P : Reply × CoreState → Type 0) (done : B → Reply × CoreState) (next : A → Result B CoreError) (old : CoreState) (o : Option A)
     → P (NoSuch, old) → ((x : A) → P (told done old (next x))) → P (told done old (given o >>= next))
@@ -99,8 +107,8 @@ taken-schema old (Plan k lo hi purpose) = told-unless (KeepsSchema old) (λ (a :
 taken-schema old (Commit n) =
     told-with (KeepsSchema old) (λ (a : ℕ × CoreState). (Committed a.0, a.1)) (λ job. commit_job job old) old (slice_get old.jobs n) refl (λ job. commit_job-schema old job)
 taken-schema old Pin = refl
-taken-schema old (Ask n q) = told-given (KeepsSchema old) (λ p. (reply_to (answer (asked q) (rows_of p)), old)) old (slice_get old.pins n) refl (λ p. refl)
-taken-schema old (Audit n q) = told-given (KeepsSchema old) (λ p. (reply_to (raw_answer p.schema (asked q) p.stream), old)) old (slice_get old.pins n) refl (λ p. refl)
+taken-schema old (Ask n q) = told-given (KeepsSchema old) (λ p. (reply_to (answer_over (asked q) p), old)) old (slice_get old.pins n) refl (λ p. refl)
+taken-schema old (Audit n q) = told-audited (KeepsSchema old) (λ p. (reply_to (raw_answer p.schema (asked q) p.stream), old)) old (asked q) (slice_get old.pins n) refl (λ p. refl)
 
 pub moves-schema : (old new : CoreState) (s : Step) (r : Reply) → Moves old s r new → new.timeline.schema ≡ old.timeline.schema
 moves-schema old new s r (inl h) = ap (λ (c : CoreState). c.timeline.schema) h.1 ∙ taken-schema old s

@@ -1,4 +1,5 @@
 pub mod Refusal
 pub mod Steps
+pub mod Asking
 pub mod Run
 pub mod Headline

@@ -3,7 +3,6 @@ use Rattle.std.specs.Prelude.{◌≡◌, ◌⊎◌, ℕ, List, [], ◌∷◌, Re
 use Rattle.dr_schema.specs.Fits.{FitsSchema}
 use Rattle.dr_schema.specs.declared.schema.Schema.{Schema}
 use Rattle.dr_answers.specs.declared.answer_error.AnswerError.{AnswerError}
-use Rattle.dr_answers.specs.Answer.{answer}
 use Rattle.dr_answers.specs.AnswerRefusal as no_answer
 use Rattle.dr_ask.specs.Asked.{asked}
 use Rattle.dr_ask.specs.MadeFor.{MadeFor}
@@ -14,12 +13,12 @@ use Rattle.dr_core.specs.declared.reply.Reply.TheVariants.{Accepted, Sealed, Job
 use Rattle.dr_core.specs.declared.core_error.CoreError.{CoreError}
 use Rattle.dr_core.specs.declared.core_error.CoreError.TheVariants as error
 use Rattle.dr_core.specs.Steps.{accept, seal, plan, commit, pin, given}
+use Rattle.dr_core.specs.Asking.{answer_over, audited}
 use Rattle.dr_timeline.specs.declared.timeline_error.TimelineError.TheVariants.{NoMemory}
 use Rattle.dr_merge.specs.Refusal as merge
 use Rattle.dr_timeline.specs.Refusal.{number_of}
 use Rattle.dr_cuts.specs.RawAnswer.{raw_answer}
 use Rattle.dr_timeline.specs.CoreState.{CoreState, empty_core}
-use Rattle.dr_cuts.specs.Segments.{rows_of}
 
 -- a step may be taken over a schema: its event fits it, or its query was made for it
 abbrev pub FitsStep : Schema → Step → Type 0
@@ -47,16 +46,16 @@ abbrev pub told : {A : Type 0} → (A → Reply × CoreState) → CoreState → 
 told done old (Ok x) = done x
 told done old (Err e) = (reply_for e, old)
 
--- the reply to a step, and the state after it, where memory is found; a query on a snapshot is answered over its own rows,
--- and an audit over its events
+-- the reply to a step, and the state after it, where memory is found; a query on a snapshot is answered over its own ranges,
+-- and an audit over its events; an audit of a scan is answered as one of a snapshot that there isn't
 abbrev pub taken : CoreState → Step → Reply × CoreState
 taken old (Accept e) = told (λ a. (Accepted a.0, a.1)) old (accept e old)
 taken old (Seal k) = told (λ new. (Sealed, new)) old (seal k old)
 taken old (Plan k lo hi purpose) = told (λ a. (JobGiven a.0, a.1)) old (plan k lo hi purpose old)
 taken old (Commit n) = told (λ a. (Committed a.0, a.1)) old (commit n old)
 taken old Pin = (PinGiven (pin old).0, (pin old).1)
-taken old (Ask n q) = told (λ p. (reply_to (answer (asked q) (rows_of p)), old)) old (given (slice_get old.pins n))
-taken old (Audit n q) = told (λ p. (reply_to (raw_answer p.schema (asked q) p.stream), old)) old (given (slice_get old.pins n))
+taken old (Ask n q) = told (λ p. (reply_to (answer_over (asked q) p), old)) old (given (slice_get old.pins n))
+taken old (Audit n q) = told (λ p. (reply_to (raw_answer p.schema (asked q) p.stream), old)) old (audited (asked q) (slice_get old.pins n))
 
 -- the reply and the state after it are these
 abbrev pub Becomes : Reply → CoreState → Reply × CoreState → Type 0

@@ -1,5 +1,5 @@
 -- The steps of a core: what each answers and the state after it, or its refusal, which changes nothing.
-use Rattle.std.specs.Prelude.{ℕ, ℤ, length, Option, Some, None, Result, Ok, Err, slice_get}
+use Rattle.std.specs.Prelude.{ℕ, ℤ, List, length, Option, Some, None, Result, Ok, Err, slice_get}
 use Rattle.dr_base.specs.Reading.{◌>>=◌, passed}
 use Rattle.dr_base.specs.declared.event.Event.{Event}
 use Rattle.dr_merge.specs.declared.job.Job.{Job}
@@ -10,6 +10,7 @@ use Rattle.dr_cuts.specs.Segments.{pinned}
 use Rattle.dr_timeline.specs.declared.outcome.Outcome.{Outcome}
 use Rattle.dr_timeline.specs.CoreState.{CoreState, with_timeline, with_job, with_pin}
 use Rattle.dr_timeline.specs.Noted.{noted}
+use Rattle.dr_timeline.specs.Imaging.{image_at}
 use Rattle.dr_timeline.specs.Stepping as timeline
 use Rattle.dr_core.specs.declared.core_error.CoreError.{CoreError}
 use Rattle.dr_core.specs.declared.core_error.CoreError.TheVariants.{NoSuch, Merge, Timeline}
@@ -63,6 +64,10 @@ abbrev pub join : ℤ → ℕ → ℕ → Purpose → CoreState → Result (ℕ 
 join k lo hi purpose c = do
   job ← passed Timeline (timeline.plan c.timeline k lo hi purpose)
   commit_job job c
+
+-- the image of the sealed range of a chunk at a place
+abbrev pub image : ℤ → ℕ → CoreState → Result (List ℕ) CoreError
+image k place c = passed Timeline (image_at c.timeline k place)
 
 -- a snapshot of the timeline as it is now is kept; the answer is its number
 abbrev pub pin : CoreState → ℕ × CoreState

@@ -17,7 +17,7 @@ pub enum CoreError {
     /// A refusal of the work of a job: 0 or 59.
     #[error(transparent)]
     Merge(MergeError),
-    /// A refusal of the timeline: 0, 90 to 93, or 95.
+    /// A refusal of the timeline: 0, 59, 90 to 93, or 95.
     #[error(transparent)]
     Timeline(TimelineError),
 }

@@ -9,6 +9,7 @@ ghost use Rattle.dr_ask.specs.Asked.{asked};
 ghost use Rattle.dr_ask.specs.MadeFor.{MadeFor};
 ghost use Rattle.dr_schema.specs.Fits.{FitsSchema};
 
+use crate::asking::ask as answer_to;
 use crate::bytes::Bytes;
 use crate::core_error::CoreError;
 use crate::reply::Reply;
@@ -25,7 +26,7 @@ use std::alloc::{AllocError, Global};
 /// that there was no memory to begin or for the list of replies; within a run a step that finds no memory is refused with
 /// 0, and changes nothing. Each event must fit the schema of the spec, and each query have been made for it.
 ///
-/// Whatever the steps seal and merge, and however late, often or in whatever order jobs are committed: each answer to a
+/// Whatever the steps seal, merge and publish, and however late, often or in whatever order jobs are committed: each answer to a
 /// matching query on a snapshot is, byte for byte, the answer over the raw events that were accepted before its pin.
 pub fn run_core_one(
     alloc: Global,
@@ -121,7 +122,7 @@ fn ask(core: &Core, number: usize, query: &Query) -> Reply
     ensures { Moves core.now (Ask number query.now) result core.now }
 {
     match core.snapshot(number) {
-        Some(snapshot) => answered(snapshot.answer_one(query)),
+        Some(snapshot) => answered(answer_to(snapshot, query)),
         None => Reply::NoSuch,
     }
 }
@@ -130,6 +131,9 @@ fn audit(core: &Core, number: usize, query: &Query) -> Reply
     requires { MadeFor core.now.timeline.schema (asked query.now) }
     ensures { Moves core.now (Audit number query.now) result core.now }
 {
+    if query.is_scan() {
+        return Reply::NoSuch;
+    }
     match core.snapshot(number) {
         Some(snapshot) => answered(snapshot.audit(query)),
         None => Reply::NoSuch,

@@ -3,6 +3,7 @@
 //! were accepted before its pin.
 #![tactic(auto)]
 
+mod asking;
 mod bytes;
 mod core_error;
 mod core_run;
@@ -10,6 +11,7 @@ mod reply;
 mod step;
 mod timeline_core;
 
+pub use asking::ask;
 pub use bytes::Bytes;
 pub use core_error::CoreError;
 pub use core_run::run_core_one;

@@ -141,6 +141,14 @@ impl Core {
         commit_to(alloc, &mut self.timeline, &planned)
     }
 
+    /// The image of the sealed range of a chunk at a place, from 0. The chunk is named by its start in milliseconds since the epoch.
+    /// What it is and what it costs, [`Timeline::image`] says. Refusals: 92 `NoSuchRange`, then 59 `ImageTooLarge`.
+    pub fn image(&self, chunk: i64, place: usize) -> Result<Vec<u8>, CoreError>
+        ensures { GivesUnless is_memory (λ bytes. bytes.items) result (step.image chunk place self.now) }
+    {
+        Ok(self.timeline.image(chunk, place)?)
+    }
+
     /// Keeps a snapshot of the timeline as it is now, and answers its number, from 0. An error leaves the core as it was.
     /// The only error is that memory ran out. What it costs, [`Timeline::pin`] says.
     pub fn pin(&mut self) -> Result<usize, AllocError>

@@ -1,4 +1,4 @@
-ghost use Rattle.std.specs.Prelude.{◌≡◌, ◌<◌, Some, length, slice_get};
+ghost use Rattle.std.specs.Prelude.{◌≡◌, ◌<◌, Some, length, slice_get, IfSome};
 ghost use Rattle.dr_image.specs.Table.{rows_of};
 
 use crate::row_ref::RowRef;
@@ -59,6 +59,17 @@ impl<'a> OrderedRows<'a> {
             Place::Lent(rows) => rows.len(),
             Place::InImage(view) => view.row_count(),
             Place::Own(rows) => rows.len(),
+        }
+    }
+
+    /// The columns of the image; none where the rows were made. It takes constant time and no memory.
+    pub fn view(&self) -> Option<&SegmentView<'a>>
+        ensures { IfSome result (λ view. rows_of view.now ≡ self.now) }
+    {
+        match &self.0 {
+            Place::InImage(view) => Some(view),
+            Place::Lent(_) => None,
+            Place::Own(_) => None,
         }
     }
 

@@ -1,4 +1,4 @@
-ghost use Rattle.std.specs.Prelude.{◌≡◌, ◌↔◌, ◌<◌, [], pos, length, get_or, IfOk, IsTrue};
+ghost use Rattle.std.specs.Prelude.{◌≡◌, ◌↔◌, ◌<◌, [], pos, length, get_or, IfOk, IfSome, IsTrue};
 ghost use Rattle.std.specs.Ordering.{nat_cmp};
 ghost use Rattle.std.specs.Cmp.Lexicographic.{slice_cmp};
 ghost use Rattle.dr_base.specs.Order.{key_cmp};
@@ -47,6 +47,16 @@ impl<'a> RowRef<'a> {
         ensures { result ≡ row_at view.now i }
     {
         RowRef(Lying::InImage(view, i))
+    }
+
+    /// The row, where it was made; none where it lies in an image.
+    pub fn made(&self) -> Option<&Row>
+        ensures { IfSome result (λ row. row.now ≡ self.now) }
+    {
+        match &self.0 {
+            Lying::Made(row) => Some(row),
+            Lying::InImage(_, _) => None,
+        }
     }
 
     /// The time, in milliseconds since the epoch.

@@ -27,11 +27,20 @@ record Leaves (old new : State) : Type 0 where
   stream : new.stream ≡ old.stream
   serials : SerialsDiffer old.cuts old.serials → SerialsDiffer new.cuts new.serials
 
+-- the state behind an answer; where there is none, another one
+abbrev state_in : {E : Type 0} → State → Result State E → State
+state_in other (Ok s) = s
+state_in other (Err e) = other
+
+abbrev state_behind : {E : Type 0} → State → Result (ℕ × State) E → State
+state_behind other (Ok p) = p.1
+state_behind other (Err e) = other
+
 by-seal : (old new : State) (k : ℤ) → seal old k ≡ Ok new → Leaves old new
 by-seal old new k h =
     elim (nat_eq (length (open_in old k)) 0) as (λ b. cond {A = Result State TimelineError} b (Err NothingToSeal) (Ok (sealed_at k old)) ≡ Ok new → Leaves old new) [
       | true ↦ λ e. absurd cc
-      | false ↦ λ e. let is : new ≡ sealed_at k old = cc in subst (λ (t : State). Leaves old t) (sym is) (record { schema = refl; stream = refl; serials = λ d. differ-sealed old k d })
+      | false ↦ λ e. subst (λ (t : State). Leaves old t) (ap (state_in old) e) (record { schema = refl; stream = refl; serials = λ d. differ-sealed old k d })
     ] h
 
 by-commit-at : (old new : State) (job : Job) (version : ℕ) (place : Option ℕ) → commit_at old job place ≡ Ok (version, new) → Leaves old new
@@ -39,7 +48,7 @@ by-commit-at old new job version None h = absurd cc
 by-commit-at old new job version (Some place) h =
     elim (nat_le old.schema.limits.max_commits old.commits) as (λ b. cond {A = Result (ℕ × State) TimelineError} b (Err CommitsFull) (Ok ((joined_range old job place).version, committed old job place)) ≡ Ok (version, new) → Leaves old new) [
       | true ↦ λ e. absurd cc
-      | false ↦ λ e. let is : new ≡ committed old job place = cc in subst (λ (t : State). Leaves old t) (sym is) (record { schema = refl; stream = refl; serials = λ d. differ-committed old job place d })
+      | false ↦ λ e. subst (λ (t : State). Leaves old t) (ap (state_behind old) e) (record { schema = refl; stream = refl; serials = λ d. differ-committed old job place d })
     ] h
 
 leaves : (old new : State) → IsAtMostOneStep old new → Leaves old new

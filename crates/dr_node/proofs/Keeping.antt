@@ -1,11 +1,12 @@
 -- What lies behind the lock stays as it should be, step by step.
 use Rattle.std.proofs.Common.{◌≡◌, ◌≢◌, ◌∙◌, sym, ap, refl, subst, ℕ, zero, suc, ◌+◌, ◌<◌, ◌≤◌, List, [], ◌∷◌, ◌++◌, length, true, false, Bool, cond, Some, arith, inl, inr, All, length-append}
-use Rattle.std.specs.Prelude.{nat_eq, ◌⊎◌, slice_get, set}
+use Rattle.std.specs.Prelude.{nat_eq, ◌⊎◌, slice_get, set, replicate}
 use Rattle.std.proofs.lemmas.Bool.Decides.{nat_tests}
 use Rattle.std.proofs.lemmas.List.Elements.{All-append, All-cons, All-nil, filter-append}
 use Rattle.dr_base.specs.declared.event.Event.{Event}
 use Rattle.dr_schema.specs.declared.schema_fields.SchemaFields.{SchemaFields}
-use Rattle.dr_cuts.specs.State.{State, AreCuts}
+use Rattle.dr_cuts.specs.Chunks.{values_onto}
+use Rattle.dr_cuts.specs.State.{State, AreCuts, empty_state}
 use Rattle.dr_timeline.specs.Order.{HaveFewRows}
 use Rattle.dr_timeline.specs.Steps.{accepted, with_event}
 use Rattle.dr_node.specs.Kept.{Held, IsKept, SerialsDiffer}
@@ -41,6 +42,28 @@ accepted-stream s e = same-of (λ u. u.stream) _ _ (with_event s e) refl
 
 pub accepted-schema : (s : State) (e : Event) → (accepted s e).schema ≡ s.schema
 accepted-schema s e = same-of (λ u. u.schema) _ _ (with_event s e) refl
+
+-- nothing is accepted yet
+get-zeros : (m k n : ℕ) → slice_get (replicate m 0) k ≡ Some n → n ≡ 0
+get-zeros zero k n h = absurd cc
+get-zeros (suc m) zero n h = let same : Some 0 ≡ Some n = h in cc
+get-zeros (suc m) (suc k) n h = get-zeros m k n h
+
+empty-kept : (schema : SchemaFields) (seats : ℕ) → IsKept schema seats (record { timeline = empty_state schema; mine = replicate seats 0; floor = replicate seats 0 })
+unfolding values_onto
+empty-kept schema seats = record {
+  schema_is = refl;
+  cuts = record { chunks = refl; tiled = tt };
+  few = tt;
+  serials = record { once = λ n. omega arith; given = λ n le. refl };
+  marks = All-nil (λ (e : Event). e.seat < seats);
+  mine = λ k n at. sym (get-zeros seats k n at);
+  floor = λ k n at. let none = get-zeros seats k n at in omega arith;
+}
+
+pub kept-empty : (schema : SchemaFields) (seats : ℕ) (t : State) (mine floor : List ℕ) → t ≡ empty_state schema → mine ≡ replicate seats 0 → floor ≡ replicate seats 0
+    → IsKept schema seats (record { timeline = t; mine = mine; floor = floor })
+kept-empty schema seats t mine floor h k l = coe 1 0 (i. IsKept schema seats (record { timeline = h i; mine = k i; floor = l i })) (empty-kept schema seats)
 
 -- a seat has seen some events more
 pub kept-seen : (schema : SchemaFields) (seats : ℕ) (h : Held) (p m f d : ℕ) → IsKept schema seats h → slice_get h.mine p ≡ Some m → slice_get h.floor p ≡ Some f → f + d ≤ length h.timeline.stream

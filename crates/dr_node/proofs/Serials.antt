@@ -6,13 +6,14 @@ use Rattle.std.specs.declared.cmp.Ordering.TheVariants.{Less, Equal, Greater}
 use Rattle.std.specs.Ordering.{int_cmp, match_ordering}
 use Rattle.std.proofs.lemmas.Bool.Decides.{nat_tests}
 use Rattle.std.proofs.lemmas.List.{take-append-drop, drop-drop}
+use Rattle.std.proofs.lemmas.List.Sums.{sum_by-append, sum_by-cons}
 use Rattle.dr_base.specs.declared.event.Event.{Event}
 use Rattle.dr_merge.specs.declared.job.Job.{Job}
 use Rattle.dr_rollup.specs.Unrolled.{rolled_up}
 use Rattle.dr_cuts.specs.AtKey.{at_key}
 use Rattle.dr_cuts.specs.Chunks.{chunk, chunk_list}
 use Rattle.dr_cuts.specs.State.{State, Range, Cut, at_chunk, open_cut, open_from}
-use Rattle.dr_timeline.specs.Steps.{accepted, with_event, sealed_at, sealed_if_full, with_seal, replaced, joined_range, committed, open_in}
+use Rattle.dr_timeline.specs.Steps.{accepted, with_event, sealed_at, sealed_if_full, with_seal, joined_range, committed, open_in}
 use Rattle.dr_node.specs.Kept.{SerialsDiffer, with_serial}
 
 -- how many of some ranges have a serial
@@ -20,11 +21,10 @@ abbrev counted : ℕ → List Range → ℕ
 counted n rs = count_by (λ r. nat_eq r.serial n) rs
 
 one : (n : ℕ) (r : Range) (rs : List Range) → counted n (r ∷ rs) ≡ cond (nat_eq r.serial n) 1 0 + counted n rs
-one n r rs = refl
+one n r rs = sum_by-cons (λ (x : Range). cond (nat_eq x.serial n) 1 0) r rs
 
 counted-append : (n : ℕ) (xs ys : List Range) → counted n (xs ++ ys) ≡ counted n xs + counted n ys
-counted-append n [] ys = refl
-counted-append n (x ∷ xs) ys = let rest = counted-append n xs ys in omega (arith, one n x (xs ++ ys), one n x xs)
+counted-append n xs ys = sum_by-append (λ (x : Range). cond (nat_eq x.serial n) 1 0) xs ys
 
 counted-replaced : (n place count : ℕ) (r : Range) (rs : List Range) → counted n (take place rs ++ (r ∷ drop (place + count) rs)) ≤ counted n rs + cond (nat_eq r.serial n) 1 0
 counted-replaced n place count r rs =
@@ -87,7 +87,7 @@ differ-committed s job place h =
     let count : ℕ = length job.inputs in
     let r : Range = joined_range s job place in
     differ-more s.cuts (committed s job place).cuts s.serials
-    (λ n. with-at_chunk n (cond (nat_eq s.serials n) 1 0) job.chunk (replaced place count r) s.cuts (λ c. counted-replaced n place count r c.sealed)) h
+    (λ n. with-at_chunk n (cond (nat_eq s.serials n) 1 0) job.chunk _ s.cuts (λ c. counted-replaced n place count r c.sealed)) h
 
 differ-event : (s : State) (e : Event) → SerialsDiffer s.cuts s.serials → SerialsDiffer (with_event s e).cuts (with_event s e).serials
 differ-event s e h = differ-same s.cuts (with_event s e).cuts s.serials (λ n. with-at_chunk n 0 (chunk s.schema e) (λ c. c) s.cuts (λ c. let own : counted n c.sealed ≤ counted n c.sealed + 0 = omega arith in own)) h

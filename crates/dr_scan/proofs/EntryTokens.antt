@@ -136,8 +136,8 @@ module _ (s : Scan) (columns : List ScanColumn) (written : AreWritten s columns)
       ∙ ap (λ (o : Option TimeOrder). flat_map data_tokens (map (entry_data s) (entries_by o s (map (selected_in q) gs)))) (sym is)
 
   pub entries-ordered : (q : Asked) (gs : List Segment) (order : TimeOrder) → s.order ≡ Some order
-      → one_entry_tokens s columns (limited s.limit (drop s.offset (by_time order (all_selected q gs)))) ≡ flat_map data_tokens (map (entry_data s) (entries_by s.order s (map (selected_in q) gs)))
+      → one_entry_tokens s columns (limited s.limit (drop s.offset (by_time order (all_selected q (map (λ (g : Segment). g.rows) gs))))) ≡ flat_map data_tokens (map (entry_data s) (entries_by s.order s (map (selected_in q) gs)))
   entries-ordered q gs order is =
-      one-entry (limited s.limit (drop s.offset (by_time order (all_selected q gs))))
-      ∙ ap (λ (rows : List Row). flat_map data_tokens (map (entry_data s) (one_entry (limited s.limit (drop s.offset (by_time order rows)))))) (sym (flat-map (λ (g : Segment). g.rows) (selected_in q) gs))
+      one-entry (limited s.limit (drop s.offset (by_time order (all_selected q (map (λ (g : Segment). g.rows) gs)))))
+      ∙ ap (λ (rows : List Row). flat_map data_tokens (map (entry_data s) (one_entry (limited s.limit (drop s.offset (by_time order rows)))))) (flat-map (selected q) (λ (g : Segment). g.rows) gs ∙ sym (flat-map (λ (g : Segment). g.rows) (selected_in q) gs))
       ∙ ap (λ (o : Option TimeOrder). flat_map data_tokens (map (entry_data s) (entries_by o s (map (selected_in q) gs)))) (sym is)

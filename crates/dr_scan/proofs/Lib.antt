@@ -1,5 +1,4 @@
 mod Pieces
-mod ImageRows
 mod RowMembers
 mod Windows
 mod RowsInTurn

@@ -12,7 +12,6 @@ use Rattle.dr_ask.specs.Asked.{Asked}
 use Rattle.dr_ask.specs.declared.time_order.TimeOrder.{TimeOrder}
 use Rattle.dr_base.specs.declared.row.Row.{Row}
 use Rattle.dr_scan.specs.declared.row_place.RowPlace.{RowPlace}
-use Rattle.dr_scan.specs.declared.segment.Segment.{Segment}
 use Rattle.dr_scan.specs.Entries.{by_time, times_cmp}
 use Rattle.dr_scan.specs.Places.{all_selected, places_cmp, places_in, places_over, row_of, rows_at, ArePlaces, IsPlace}
 use Rattle.dr_scan.specs.Rows.{row_in, no_row}
@@ -23,7 +22,7 @@ row_behind : (pre : List Row) (r : Row) (rest : List Row) → row_in (pre ++ r �
 row_behind [] r rest = refl
 row_behind (p ∷ pre) r rest = row_behind pre r rest
 
-segment_behind : (pre : List Segment) (g : Segment) (rest : List Segment) → rows_at (pre ++ g ∷ rest) (length pre) ≡ g.rows
+segment_behind : (pre : List (List Row)) (g : List Row) (rest : List (List Row)) → rows_at (pre ++ g ∷ rest) (length pre) ≡ g
 segment_behind [] g rest = refl
 segment_behind (p ∷ pre) g rest = segment_behind pre g rest
 
@@ -33,14 +32,14 @@ is_within pre x rest = omega (arith, length-append pre (x ∷ rest))
 one_longer : {A : Type 0} (pre : List A) (x : A) → length (pre ++ x ∷ []) ≡ length pre + 1
 one_longer pre x = length-append pre (x ∷ [])
 
-pub rows_at-get_or : (gs : List Segment) (i : ℕ) (d : Segment) → i < length gs → rows_at gs i ≡ (get_or gs i d).rows
+pub rows_at-get_or : (gs : List (List Row)) (i : ℕ) (d : List Row) → i < length gs → rows_at gs i ≡ get_or gs i d
 rows_at-get_or [] i d less = absurd (omega arith)
 rows_at-get_or (g ∷ gs) zero d less = refl
 rows_at-get_or (g ∷ gs) (suc i) d less = rows_at-get_or gs i d (omega arith)
 
 -- ---- the places of the rows of segments
 
-module _ (q : Asked) (segments : List Segment) where
+module _ (q : Asked) (segments : List (List Row)) where
   together : (ps qs : List RowPlace) (rs ss : List Row) → ArePlaces segments ps rs → ArePlaces segments qs ss → ArePlaces segments (ps ++ qs) (rs ++ ss)
   together [] qs rs ss a b = subst (λ (t : List Row). ArePlaces segments qs (t ++ ss)) a.rows b
   together (p ∷ ps) qs rs ss a b =
@@ -55,25 +54,26 @@ module _ (q : Asked) (segments : List Segment) where
       let next : ArePlaces segments (places_in q i (length pre + 1) rest) (selected q rest) =
       subst (λ n. ArePlaces segments (places_in q i n rest) (selected q rest)) (one_longer pre r) (in_rows i lt (pre ++ r ∷ []) rest (e ∙ sym (append_assoc pre (r ∷ []) rest))) in
       let is : row_of segments p ≡ r = ap (λ rows. row_in rows (length pre)) e ∙ row_behind pre r rest in
-      let there : IsPlace segments p = record { segment = lt; time = ap (λ (x : Row). x.key.time) (sym is) } in
+      let within : length pre < length (rows_at segments i) = subst (λ (rs : List Row). length pre < length rs) (sym e) (is_within pre r rest) in
+      let there : IsPlace segments p = record { segment = lt; row = within; time = ap (λ (x : Row). x.key.time) (sym is) } in
       elim (selects q r.key) as (λ b. ArePlaces segments (cond b (p ∷ places_in q i (length pre + 1) rest) (places_in q i (length pre + 1) rest)) (cond b (r ∷ selected q rest) (selected q rest)))
       [ true ↦ record { rows = λ j. is j ∷ next.rows j; there = (there, next.there) } | false ↦ next ]
 
-  in_segments : (pre rest : List Segment) → segments ≡ pre ++ rest → ArePlaces segments (places_over q (length pre) rest) (all_selected q rest)
+  in_segments : (pre rest : List (List Row)) → segments ≡ pre ++ rest → ArePlaces segments (places_over q (length pre) rest) (all_selected q rest)
   in_segments pre [] e = record { rows = refl; there = tt }
   in_segments pre (g ∷ rest) e =
       let next : ArePlaces segments (places_over q (length pre + 1) rest) (all_selected q rest) =
       subst (λ n. ArePlaces segments (places_over q n rest) (all_selected q rest)) (one_longer pre g) (in_segments (pre ++ g ∷ []) rest (e ∙ sym (append_assoc pre (g ∷ []) rest))) in
-      let lt : length pre < length segments = subst (λ (gs : List Segment). length pre < length gs) (sym e) (is_within pre g rest) in
-      let rows : rows_at segments (length pre) ≡ g.rows = ap (λ gs. rows_at gs (length pre)) e ∙ segment_behind pre g rest in
-      together (places_in q (length pre) 0 g.rows) (places_over q (length pre + 1) rest) (selected q g.rows) (all_selected q rest) (in_rows (length pre) lt [] g.rows rows) next
+      let lt : length pre < length segments = subst (λ (gs : List (List Row)). length pre < length gs) (sym e) (is_within pre g rest) in
+      let rows : rows_at segments (length pre) ≡ g = ap (λ gs. rows_at gs (length pre)) e ∙ segment_behind pre g rest in
+      together (places_in q (length pre) 0 g) (places_over q (length pre + 1) rest) (selected q g) (all_selected q rest) (in_rows (length pre) lt [] g rows) next
 
   pub are-places_over : ArePlaces segments (places_over q 0 segments) (all_selected q segments)
   are-places_over = in_segments [] segments refl
 
 -- ---- in order
 
-module _ (segments : List Segment) (order : TimeOrder) where
+module _ (segments : List (List Row)) (order : TimeOrder) where
   abbrev by_row : Row → Row → Ordering
   by_row a b = times_cmp order a.key.time b.key.time
 
@@ -110,7 +110,7 @@ module _ (segments : List Segment) (order : TimeOrder) where
 
 -- ---- some of them
 
-module _ (segments : List Segment) where
+module _ (segments : List (List Row)) where
   are-dropped : (n : ℕ) (ps : List RowPlace) (rows : List Row) → ArePlaces segments ps rows → ArePlaces segments (drop n ps) (drop n rows)
   are-dropped zero ps rows a = a
   are-dropped (suc n) [] rows a = subst (λ (rs : List Row). ArePlaces segments [] (drop (suc n) rs)) a.rows (record { rows = refl; there = tt })

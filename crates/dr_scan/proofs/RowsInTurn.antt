@@ -1,5 +1,6 @@
 -- The rows of a segment one after the other, as a loop reads them.
-use Rattle.std.proofs.Common.{◌≡◌, ◌∙◌, sym, refl, ap, ℕ, ◌+◌, ◌==◌, ◌<◌, ◌≤◌, Bool, true, false, cond, List, [], ◌∷◌, ◌++◌, drop, length, append_assoc, arith}
+use Rattle.std.proofs.Common.{◌≡◌, ◌∙◌, sym, refl, ap, ℕ, ◌+◌, ◌==◌, ◌<◌, ◌≤◌, Bool, true, false, cond, List, [], ◌∷◌, ◌++◌, drop, length, Some, append_assoc, arith}
+use Rattle.std.specs.Prelude.{slice_get, unwrap_or}
 use Rattle.std.proofs.lemmas.List.{drop_more, length-append}
 use Rattle.std.proofs.lemmas.Option.{unwrap_or-slice_get}
 use Rattle.std.specs.List.{flat_map}
@@ -14,6 +15,10 @@ use Rattle.dr_scan.specs.Rows.{row_in, no_row}
 use Rattle.dr_scan.specs.Written.{count_with}
 use Rattle.dr_scan.specs.Window.{after, given, moved, takes}
 use Rattle.dr_scan.proofs.Windows.{given-more, after-more}
+
+-- a row that is found is that one
+pub row_in-found : (rows : List Row) (n : ℕ) (r : Row) → slice_get rows n ≡ Some r → row_in rows n ≡ r
+row_in-found rows n r h = ap (λ o. unwrap_or o no_row) h
 
 pub next-row : (rows : List Row) (n : ℕ) → n < length rows → drop n rows ≡ row_in rows n ∷ drop (n + 1) rows
 next-row rows n less = drop_more rows n no_row less ∙ ap (λ r. r ∷ drop (n + 1) rows) (sym (unwrap_or-slice_get rows n no_row))

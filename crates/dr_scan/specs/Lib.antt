@@ -1,3 +1,4 @@
+pub mod Identified
 pub mod Identifier
 pub mod Rows
 pub mod Entries

@@ -11,8 +11,9 @@ use crate::columns_written::columns_written;
 use crate::entry_writing::{begin_entry, end_entry};
 use crate::row_writing::write_row;
 use crate::scan_entry::ScanEntry;
-use crate::segment_rows::SegmentRows;
 use dr_ask::{Query, ResultFormat, Scan, ScanColumn, Shape};
+use dr_base::Row;
+use dr_fragment::RowRef;
 use json::Writer;
 use std::alloc::{AllocError, Global};
 
@@ -89,8 +90,7 @@ fn write_entry(
     ensures { Adds result out.old out.new (entry_tokens scan.now columns.now entry.now) }
 {
     begin_entry(out, scan.columns.as_slice())?;
-    let rows = SegmentRows::of_rows(entry.rows.as_slice());
-    write_rows(out, scan.result_format, columns, &rows)?;
+    write_rows(out, scan.result_format, columns, entry.rows.as_slice())?;
     end_entry(out, entry.segment_id.as_ref())
 }
 
@@ -98,12 +98,12 @@ fn write_rows(
     out: &mut Writer,
     format: ResultFormat,
     columns: &[ScanColumn],
-    rows: &SegmentRows<'_>,
+    rows: &[Row],
 ) -> Result<(), AllocError>
     ensures { Adds result out.old out.new (flat_map (row_tokens format columns.now) rows.now) }
 {
-    for i in 0..rows.len() {
-        write_row(out, format, columns, rows, i)?;
+    for row in rows {
+        write_row(out, format, columns, &RowRef::of_row(row))?;
     }
     Ok(())
 }

@@ -1,5 +1,6 @@
 //! Scans: the text of the rows that a query selects, segment by segment or by their times, and the identifiers of segments.
-//! Rows are read where they lie, and nothing is kept but the text, and where rows are ordered their places.
+//! Rows are read where they lie, and nothing is kept but the text, the rows of an open range while they are read, and where rows are
+//! ordered their places.
 #![tactic(auto)]
 
 mod columns_written;
@@ -9,11 +10,11 @@ mod identifying;
 mod ordered_writing;
 mod placing;
 mod row_place;
+mod row_reading;
 mod row_writing;
 mod scan_entry;
 mod scanning;
 mod segment;
-mod segment_rows;
 mod segment_writing;
 mod selecting;
 mod window;
@@ -23,4 +24,3 @@ pub use identifying::identifier;
 pub use scan_entry::ScanEntry;
 pub use scanning::scan;
 pub use segment::Segment;
-pub use segment_rows::SegmentRows;

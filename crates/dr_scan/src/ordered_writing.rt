@@ -1,4 +1,4 @@
-ghost use Rattle.std.specs.Prelude.{◌≡◌, ◌<◌, drop};
+ghost use Rattle.std.specs.Prelude.{◌≡◌, ◌<◌, IfOk, drop};
 ghost use Rattle.std.specs.List.{AllByRecursion, flat_map};
 ghost use Rattle.std.specs.Prelude.{map};
 ghost use Rattle.dr_answers.specs.Given.{limited};
@@ -14,6 +14,7 @@ use crate::row_place::RowPlace;
 use crate::row_writing::write_row;
 use crate::segment::Segment;
 use dr_ask::{Query, ResultFormat, Scan, ScanColumn, TimeOrder};
+use dr_fragment::OrderedRows;
 use json::Writer;
 use std::alloc::{AllocError, Global};
 
@@ -28,6 +29,36 @@ pub(crate) fn write_ordered(
     segments: &[Segment<'_>],
     order: TimeOrder,
 ) -> Result<(), AllocError>
+    ensures { Adds result out.old out.new (one_entry_tokens scan.now columns.now (limited scan.now.limit (drop scan.now.offset (by_time_of order (all_selected (asked query.now) (map (λ g. g.rows) segments.now)))))) }
+{
+    let rows = rows_of_each(alloc, segments)?;
+    write_by_time(alloc, out, query, scan, columns, &rows, order)
+}
+
+/// The rows of each segment.
+fn rows_of_each<'a>(
+    alloc: Global,
+    segments: &'a [Segment<'_>],
+) -> Result<Vec<OrderedRows<'a>>, AllocError>
+    ensures { IfOk result (λ rows. rows.items ≡ map (λ g. g.rows) segments.now) }
+{
+    let mut rows = Vec::with_capacity(alloc, segments.len())?;
+    for segment in segments {
+        rows.push(segment.rows()?)?;
+    }
+    Ok(rows)
+}
+
+/// Writes the one entry of an ordered scan over the rows of each segment.
+fn write_by_time(
+    alloc: Global,
+    out: &mut Writer,
+    query: &Query,
+    scan: &Scan,
+    columns: &[ScanColumn],
+    segments: &[OrderedRows<'_>],
+    order: TimeOrder,
+) -> Result<(), AllocError>
     ensures { Adds result out.old out.new (one_entry_tokens scan.now columns.now (limited scan.now.limit (drop scan.now.offset (by_time_of order (all_selected (asked query.now) segments.now))))) }
 {
     let places = by_time(selected_places(alloc, query, segments)?, order)?;
@@ -40,7 +71,7 @@ fn write_one_entry(
     out: &mut Writer,
     scan: &Scan,
     columns: &[ScanColumn],
-    segments: &[Segment<'_>],
+    segments: &[OrderedRows<'_>],
     places: &[RowPlace],
 ) -> Result<(), AllocError>
     requires { AllByRecursion (IsPlace segments.now) places.now }
@@ -58,7 +89,7 @@ fn write_rows(
     out: &mut Writer,
     format: ResultFormat,
     columns: &[ScanColumn],
-    segments: &[Segment<'_>],
+    segments: &[OrderedRows<'_>],
     places: &[RowPlace],
 ) -> Result<(), AllocError>
     requires { AllByRecursion (IsPlace segments.now) places.now }
@@ -74,12 +105,12 @@ fn write_place(
     out: &mut Writer,
     format: ResultFormat,
     columns: &[ScanColumn],
-    segments: &[Segment<'_>],
+    segments: &[OrderedRows<'_>],
     place: &RowPlace,
 ) -> Result<(), AllocError>
     requires { IsPlace segments.now place.now }
     ensures { Adds result out.old out.new (row_tokens format columns.now (row_of segments.now place.now)) }
 {
-    let rows = &segments[place.segment].rows;
-    write_row(out, format, columns, rows, place.row)
+    let row = segments[place.segment].row(place.row);
+    write_row(out, format, columns, &row)
 }

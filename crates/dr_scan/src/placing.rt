@@ -6,26 +6,25 @@ ghost use Rattle.dr_ask.specs.Asked.{asked};
 ghost use Rattle.dr_scan.specs.Places.{places_cmp, places_in, places_over};
 
 use crate::row_place::RowPlace;
-use crate::segment::Segment;
-use crate::segment_rows::SegmentRows;
 use crate::selecting::is_selected;
 use dr_ask::{Query, TimeOrder};
 use dr_base::Text;
+use dr_fragment::OrderedRows;
 use std::alloc::{AllocError, Global};
 use std::cmp::Ordering;
 
-/// The places of the rows that a query selects, segments in order, rows in order.
+/// The places of the rows that a query selects, segments in order, rows in order. These are the rows of each segment.
 pub(crate) fn selected_places(
     alloc: Global,
     query: &Query,
-    segments: &[Segment<'_>],
+    segments: &[OrderedRows<'_>],
 ) -> Result<Vec<RowPlace>, AllocError>
     ensures { IfOk result (λ ps. ps.items ≡ places_over (asked query.now) 0 segments.now) }
 {
     let mut places = Vec::new(alloc);
     let mut dims = Vec::new(alloc);
-    for (i, segment) in segments.iter().enumerate() {
-        add_places(&mut places, &mut dims, query, &segment.rows, i)?;
+    for (i, rows) in segments.iter().enumerate() {
+        add_places(&mut places, &mut dims, query, rows, i)?;
     }
     Ok(places)
 }
@@ -35,16 +34,17 @@ fn add_places(
     places: &mut Vec<RowPlace>,
     dims: &mut Vec<Text>,
     query: &Query,
-    rows: &SegmentRows<'_>,
+    rows: &OrderedRows<'_>,
     segment: usize,
 ) -> Result<(), AllocError>
     ensures { OnOk result (places.new.items ≡ places.old.items ++ places_in (asked query.now) segment 0 rows.now) }
 {
     for row in 0..rows.len() {
-        if !is_selected(query, rows, row, dims)? {
+        let lying = rows.row(row);
+        if !is_selected(query, &lying, dims)? {
             continue;
         }
-        let time = rows.time(row);
+        let time = lying.time();
         places.push(RowPlace { time, segment, row })?;
     }
     Ok(())

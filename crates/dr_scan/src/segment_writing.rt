@@ -13,6 +13,7 @@ use crate::selecting::is_selected;
 use crate::window::Window;
 use dr_ask::{Query, Scan, ScanColumn};
 use dr_base::Text;
+use dr_fragment::OrderedRows;
 use json::Writer;
 use std::alloc::{AllocError, Global};
 
@@ -30,21 +31,40 @@ pub(crate) fn write_segment(
     ensures tokens { Adds result out.old out.new (segment_tokens scan.now columns.now segment.now.identifier 0 (given window.old (selected (asked query.now) segment.now.rows))) }
     ensures window { OnOk result (window.new ≡ after window.old (length (selected (asked query.now) segment.now.rows))) }
 {
-    let rows = &segment.rows;
+    let rows = segment.rows()?;
+    let identifier = segment.identifier();
+    write_given(alloc, out, window, query, scan, columns, identifier, &rows)
+}
+
+/// Writes the entries of a segment with this identifier and these rows.
+fn write_given(
+    alloc: Global,
+    out: &mut Writer,
+    window: &mut Window,
+    query: &Query,
+    scan: &Scan,
+    columns: &[ScanColumn],
+    identifier: &Text,
+    rows: &OrderedRows<'_>,
+) -> Result<(), AllocError>
+    ensures tokens { Adds result out.old out.new (segment_tokens scan.now columns.now identifier.now 0 (given window.old (selected (asked query.now) rows.now))) }
+    ensures window { OnOk result (window.new ≡ after window.old (length (selected (asked query.now) rows.now))) }
+{
     let mut dims = Vec::new(alloc);
     let mut count = 0;
     for i in 0..rows.len() {
-        if !is_selected(query, rows, i, &mut dims)? {
+        let row = rows.row(i);
+        if !is_selected(query, &row, &mut dims)? {
             continue;
         }
         if !window.takes() {
             continue;
         }
-        write_before_row(out, scan, &segment.identifier, count)?;
-        write_row(out, scan.result_format, columns, rows, i)?;
+        write_before_row(out, scan, identifier, count)?;
+        write_row(out, scan.result_format, columns, &row)?;
         count = count_with(scan.batch_size, count);
     }
-    write_at_end(out, &segment.identifier, count)
+    write_at_end(out, identifier, count)
 }
 
 /// Before a row, where so many rows of an entry are written: ends it where it is full, and begins one where there is none.

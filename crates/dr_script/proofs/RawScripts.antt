@@ -1,6 +1,6 @@
 -- Each answer of a script to a matching query is the raw answer, over the definitions alone.
 use Rattle.std.proofs.Common.{append-nil, ◌≡◌, ◌∙◌, ◌≤◌, inl, inr, refl, sym, ap, subst, ℕ, ℤ, zero, suc, Bool, true, false, cond, List, [], ◌∷◌, ◌++◌, length, Option, Some, None, Result, Ok, Err, codes}
-use Rattle.std.specs.Prelude.{nat_lt, not, slice_get, ◌&&◌, ◌||◌}
+use Rattle.std.specs.Prelude.{nat_lt, slice_get}
 use Rattle.dr_base.specs.Reading.{◌>>=◌, passed}
 use Rattle.dr_base.specs.declared.event.Event.{Event}
 use Rattle.dr_time.specs.declared.time_error.TimeError.{TimeError}
@@ -13,18 +13,16 @@ use Rattle.dr_spec.specs.SpecOf.{spec_of}
 use Rattle.dr_spec.proofs.WellFormedSchemas.{IsWellFormed-spec_of}
 use Rattle.dr_events.specs.EventOf.{event_of}
 use Rattle.dr_answers.specs.declared.answer_error.AnswerError.{AnswerError}
-use Rattle.dr_ask.specs.Asked.{Asked, is_scan}
-use Rattle.dr_ask.specs.Matching.{all_match, is_matching}
+use Rattle.dr_ask.specs.Asked.{Asked}
+use Rattle.dr_ask.specs.Matching.{is_matching}
 use Rattle.dr_ask.specs.declared.query_error.QueryError.{QueryError}
-use Rattle.dr_ask.specs.declared.query_error.QueryError.TheVariants.{Unsupported}
-use Rattle.dr_answers.specs.Answer.{answer}
+use Rattle.dr_core.specs.Asking.{answer_over}
 use Rattle.dr_ask.specs.QueryOf.{query_of}
 use Rattle.dr_merge.specs.declared.job.Job.{Job}
 use Rattle.dr_merge.specs.declared.purpose.Purpose.{Purpose}
-use Rattle.dr_merge.specs.declared.purpose.Purpose.TheVariants.{Merge, Publish}
 use Rattle.dr_cuts.specs.Chunks.{values_onto}
 use Rattle.dr_cuts.specs.RawAnswer.{raw_answer}
-use Rattle.dr_cuts.specs.Segments.{Pinned, pinned, rows_of}
+use Rattle.dr_cuts.specs.Segments.{Pinned, pinned}
 use Rattle.dr_timeline.specs.declared.outcome.Outcome.TheVariants.{Unparseable as NotParsed}
 use Rattle.dr_timeline.specs.CoreState.{CoreState, empty_core}
 use Rattle.dr_timeline.specs.Noted.{noted}
@@ -42,27 +40,17 @@ use Rattle.dr_core.proofs.RawRuns.{ArePins, IsPin, IsRunSoFar, commit-run, pin-n
 use Rattle.dr_lines.specs.Lines.{longest_line}
 use Rattle.dr_lines.specs.declared.line_error.LineError.TheVariants.{LineTooLong}
 use Rattle.dr_requests.specs.declared.command_error.CommandError.{CommandError}
-use Rattle.dr_requests.specs.declared.command_error.CommandError.TheVariants.{NoMemory, Line, BadCommand}
+use Rattle.dr_requests.specs.declared.command_error.CommandError.TheVariants.{NoMemory, Line}
 use Rattle.dr_requests.specs.declared.request.Request.{Request}
 use Rattle.dr_requests.specs.declared.request.Request.TheVariants.{Add, Seal, Join, Plan, Commit, Pin, Query, At, Audit, Image, Stats}
 use Rattle.dr_requests.specs.Request.{instant_in, request_in}
 use Rattle.dr_script.specs.declared.script_error.ScriptError.{ScriptError}
 use Rattle.dr_script.specs.declared.script_error.ScriptError.TheVariants.{Command, Time, Core, Query as BadQuery, Answer}
-use Rattle.dr_script.specs.Commands.{Answered, add_event, add_read, answered, ask_at, ask_now, audit_now, carried_out, check_purpose, chunk_named, commit_job, image_at, join_ranges, plan_ranges, refused_by, seal_chunk, tell_stats, told, grouping_of, no_scan}
+use Rattle.dr_script.specs.Commands.{Answered, add_event, add_read, answered, ask_at, ask_now, audit_now, carried_out, chunk_named, commit_job, image_at, join_ranges, plan_ranges, refused_by, seal_chunk, tell_stats, told, grouping_of}
 use Rattle.dr_script.specs.Headline.{AnswersRaw, AnswersAreRaw, RawScript, IsRaw, RawFrom, accepted_for, asked_by, begins, event_asked, event_read, pin_asked, pinned_for, told_answer}
 use Rattle.dr_script.specs.Script.{GoesOn, Moves, Script, ScriptAfter, ScriptFrom, opened_by, settled, step}
 use Rattle.dr_ask.proofs.MadeQueries.{query_of-made}
 use Rattle.dr_ask.proofs.ReadSteps.{through}
-
--- ---- a matching query is no scan
-
-scans_not : (scans matches : Bool) (q : Asked) → (not scans && matches) ≡ true → cond scans (Err (Unsupported (codes "scan"))) (Ok q) ≡ Ok q
-scans_not true matches q h = absurd (cc)
-scans_not false matches q h = refl
-
-grouped : (schema : Schema) (text : List ℕ) (q : Asked) → query_of schema text ≡ Ok q → is_matching q ≡ true → grouping_of schema text ≡ Ok q
-grouped schema text q read matches =
-    ap (λ (r : Result Asked QueryError). r >>= no_scan) read ∙ scans_not (is_scan q.shape) (not q.rollup || all_match q.aggregations) q matches
 
 -- ---- what is written begins otherwise
 
@@ -122,12 +110,6 @@ named P c instant f refused taken = at (instant_in instant)
     at (Ok t) = taken (truncation c.timeline.schema.segment_granularity t)
     at (Err e) = refused (Time e)
 
--- a purpose is checked, and then
-checked : (P : Answered × CoreState → Type 0) (c : CoreState) (purpose : Purpose) (f : Unit {0} → Result (Answered × CoreState) ScriptError)
-    → ((e : ScriptError) → P (told e, c)) → P (settled c (f tt)) → P (settled c (check_purpose purpose >>= f))
-checked P c Merge f refused taken = taken
-checked P c Publish f refused taken = refused (Command BadCommand)
-
 -- ---- the commands
 
 module _ (schema : Schema) (es : List Event) (ess : List (List Event)) (c : CoreState) (h : IsRunSoFar schema es ess c) (least : 1 ≤ schema.limits.max_rows_in_memory) where
@@ -159,8 +141,8 @@ module _ (schema : Schema) (es : List Event) (ess : List (List Event)) (c : Core
 
   joins : (purpose : Purpose) (instant : List ℕ) (lo hi : ℕ) → Stays (settled c (join_ranges purpose instant lo hi c))
   joins purpose instant lo hi =
-      checked Stays c purpose _ same (named Stays c instant _ same (λ k. settles Stays Core c (core.join k lo hi purpose c) _ same
-      (λ n is. through (passed Timeline (plan c.timeline k lo hi purpose)) _ n is (λ job _ is. joined job n is))))
+      named Stays c instant _ same (λ k. settles Stays Core c (core.join k lo hi purpose c) _ same
+      (λ n is. through (passed Timeline (plan c.timeline k lo hi purpose)) _ n is (λ job _ is. joined job n is)))
 
   planned : (k : ℤ) (lo hi : ℕ) (purpose : Purpose) (n : ℕ × CoreState) → core.plan k lo hi purpose c ≡ Ok n → IsRunSoFar schema es ess n.1
   planned k lo hi purpose n is =
@@ -168,7 +150,7 @@ module _ (schema : Schema) (es : List Event) (ess : List (List Event)) (c : Core
 
   plans : (purpose : Purpose) (instant : List ℕ) (lo hi : ℕ) → Stays (settled c (plan_ranges purpose instant lo hi c))
   plans purpose instant lo hi =
-      checked Stays c purpose _ same (named Stays c instant _ same (λ k. settles Stays Core c (core.plan k lo hi purpose c) _ same (λ n is. planned k lo hi purpose n is)))
+      named Stays c instant _ same (λ k. settles Stays Core c (core.plan k lo hi purpose c) _ same (λ n is. planned k lo hi purpose n is))
 
   committed : (number : ℕ) (n : ℕ × CoreState) → core.commit number c ≡ Ok n → IsRunSoFar schema es ess n.1
   committed number n is =
@@ -179,16 +161,19 @@ module _ (schema : Schema) (es : List Event) (ess : List (List Event)) (c : Core
 
   asks_now : (text : List ℕ) → Stays (settled c (ask_now text c))
   asks_now text =
-      settles Stays BadQuery c (grouping_of c.timeline.schema text) _ same (λ q _. settles Stays Answer c (answer q (rows_of (pinned c.timeline))) _ same (λ a _. h))
+      settles Stays BadQuery c (query_of c.timeline.schema text) _ same (λ q _. settles Stays Answer c (answer_over q (pinned c.timeline)) _ same (λ a _. h))
 
   asks_at : (number : ℕ) (text : List ℕ) → Stays (settled c (ask_at number text c))
   asks_at number text =
-      settles Stays Core c (core.given (slice_get c.pins number)) _ same (λ p _. settles Stays BadQuery c (grouping_of c.timeline.schema text) _ same
-      (λ q _. settles Stays Answer c (answer q (rows_of p)) _ same (λ a _. h)))
+      settles Stays Core c (core.given (slice_get c.pins number)) _ same (λ p _. settles Stays BadQuery c (query_of c.timeline.schema text) _ same
+      (λ q _. settles Stays Answer c (answer_over q p) _ same (λ a _. h)))
 
   audits : (text : List ℕ) → Stays (settled c (audit_now text c))
   audits text =
       settles Stays BadQuery c (grouping_of c.timeline.schema text) _ same (λ q _. settles Stays Answer c (raw_answer c.timeline.schema q c.timeline.stream) _ same (λ a _. h))
+
+  shows : (instant : List ℕ) (place : ℕ) → Stays (settled c (image_at instant place c))
+  shows instant place = named Stays c instant _ same (λ k. settles Stays Core c (core.image k place c) _ same (λ bytes _. h))
 
   -- an event is accepted
   abbrev Adds : Result Event Unparseable → Answered × CoreState → Type 0
@@ -220,7 +205,7 @@ module _ (schema : Schema) (es : List Event) (ess : List (List Event)) (c : Core
   done_follows (Query text) = quiet schema es ess (Ok (Query text)) (settled c (ask_now text c)) refl refl (asks_now text)
   done_follows (At number text) = quiet schema es ess (Ok (At number text)) (settled c (ask_at number text c)) refl refl (asks_at number text)
   done_follows (Audit text) = quiet schema es ess (Ok (Audit text)) (settled c (audit_now text c)) refl refl (audits text)
-  done_follows (Image instant place) = quiet schema es ess (Ok (Image instant place)) (settled c (image_at instant place c)) refl refl h
+  done_follows (Image instant place) = quiet schema es ess (Ok (Image instant place)) (settled c (image_at instant place c)) refl refl (shows instant place)
   done_follows Stats = quiet schema es ess (Ok Stats) (settled c (tell_stats c)) refl refl h
 
   -- ---- the answers
@@ -229,17 +214,17 @@ module _ (schema : Schema) (es : List Event) (ess : List (List Event)) (c : Core
   told_is (Ok text) = refl
   told_is (Err e) = refl
 
-  -- the answer over the rows of a snapshot of these events
+  -- the answer over the ranges of a snapshot of these events
   pin_answers : (text : List ℕ) (on : List Event) (p : Pinned) → IsPin schema on p
-      → IsRaw schema text (Some on) (settled c (passed BadQuery (grouping_of c.timeline.schema text) >>= (λ q. passed Answer (answer q (rows_of p)) >>= (λ a. Ok (answered a, c))))).0
+      → IsRaw schema text (Some on) (settled c (passed BadQuery (query_of c.timeline.schema text) >>= (λ q. passed Answer (answer_over q p) >>= (λ a. Ok (answered a, c))))).0
   pin_answers text on p pin = λ q read matches.
-      let read_here : grouping_of c.timeline.schema text ≡ Ok q = ap (λ (sc : Schema). grouping_of sc text) h.schema_is ∙ grouped schema text q read matches in
-      inl (ap (λ (r : Result Asked QueryError). (settled c (passed BadQuery r >>= (λ q. passed Answer (answer q (rows_of p)) >>= (λ a. Ok (answered a, c))))).0) read_here
-      ∙ told_is (answer q (rows_of p)) ∙ ap told_answer (pin-raw schema on p q pin (query_of-made schema text q read) matches))
+      let read_here : query_of c.timeline.schema text ≡ Ok q = ap (λ (sc : Schema). query_of sc text) h.schema_is ∙ read in
+      inl (ap (λ (r : Result Asked QueryError). (settled c (passed BadQuery r >>= (λ q. passed Answer (answer_over q p) >>= (λ a. Ok (answered a, c))))).0) read_here
+      ∙ told_is (answer_over q p) ∙ ap told_answer (pin-raw schema on p q pin (query_of-made schema text q read) matches))
 
   at_answers : (ons : List (List Event)) (ps : List Pinned) (n : ℕ) (text : List ℕ) → ArePins schema ons ps
       → IsRaw schema text (slice_get ons n)
-      (settled c (passed Core (core.given (slice_get ps n)) >>= (λ p. passed BadQuery (grouping_of c.timeline.schema text) >>= (λ q. passed Answer (answer q (rows_of p)) >>= (λ a. Ok (answered a, c)))))).0
+      (settled c (passed Core (core.given (slice_get ps n)) >>= (λ p. passed BadQuery (query_of c.timeline.schema text) >>= (λ q. passed Answer (answer_over q p) >>= (λ a. Ok (answered a, c)))))).0
   at_answers [] [] n text are = inl refl
   at_answers [] (p ∷ ps) n text are = absurd are
   at_answers (on ∷ ons) [] n text are = absurd are

@@ -3,13 +3,13 @@ use Rattle.std.specs.Prelude.{ℕ, ℤ, Bool, true, false, List, ◌++◌, Optio
 use Rattle.dr_base.specs.FaultLine.{fault_line, arg_part}
 use Rattle.dr_base.specs.Reading.{◌>>=◌, passed}
 use Rattle.dr_base.specs.declared.fault.Arg.{Arg}
+use Rattle.hex.specs.Hex.{encode_lower}
 use Rattle.dr_time.specs.Refusal as time
 use Rattle.dr_gran.specs.Truncation.{truncation}
 use Rattle.dr_base.specs.declared.event.Event.{Event}
 use Rattle.dr_events.specs.declared.unparseable.Unparseable.{Unparseable}
 use Rattle.dr_events.specs.Refusal as event
 use Rattle.dr_events.specs.EventOf.{event_of}
-use Rattle.dr_answers.specs.Answer.{answer}
 use Rattle.dr_answers.specs.AnswerRefusal as no_answer
 use Rattle.dr_ask.specs.Asked.{Asked, is_scan}
 use Rattle.dr_ask.specs.declared.query_error.QueryError.{QueryError}
@@ -24,11 +24,11 @@ use Rattle.dr_merge.specs.declared.purpose.Purpose.{Purpose}
 use Rattle.dr_merge.specs.declared.purpose.Purpose.TheVariants.{Merge, Publish}
 use Rattle.dr_cuts.specs.RawAnswer.{raw_answer}
 use Rattle.dr_timeline.specs.CoreState.{CoreState}
-use Rattle.dr_cuts.specs.Segments.{pinned, rows_of}
+use Rattle.dr_cuts.specs.Segments.{pinned}
+use Rattle.dr_core.specs.Asking.{answer_over}
 use Rattle.dr_core.specs.Refusal as core_refusal
 use Rattle.dr_core.specs.Steps as core
 use Rattle.dr_requests.specs.declared.command_error.CommandError.{CommandError}
-use Rattle.dr_requests.specs.declared.command_error.CommandError.TheVariants.{BadCommand}
 use Rattle.dr_requests.specs.declared.request.Request.{Request}
 use Rattle.dr_requests.specs.declared.request.Request.TheVariants as line
 use Rattle.dr_script.specs.declared.script_error.ScriptError.{ScriptError}
@@ -109,15 +109,9 @@ abbrev pub joined_line : Purpose → ℕ → List ℕ
 joined_line Merge version = codes "merged"
 joined_line Publish version = codes "published v" ++ decimal version
 
--- publications aren't carried out yet: a line that asks for one is refused as one that fits no command
-abbrev pub check_purpose : Purpose → Result (Unit {0}) ScriptError
-check_purpose Merge = Ok tt
-check_purpose Publish = Err (Command BadCommand)
-
 -- `merge INSTANT LO HI`, `publish INSTANT LO HI`: a job that is planned and committed at once
 abbrev pub join_ranges : Purpose → List ℕ → ℕ → ℕ → CoreState → Result (Answered × CoreState) ScriptError
 join_ranges purpose instant lo hi c = do
-  checked ← check_purpose purpose
   k ← chunk_named c instant
   n ← passed Core (core.join k lo hi purpose c)
   Ok (answered (joined_line purpose n.0), n.1)
@@ -125,7 +119,6 @@ join_ranges purpose instant lo hi c = do
 -- `plan merge INSTANT LO HI`, `plan publish INSTANT LO HI`: a job that is kept, numbered from 0
 abbrev pub plan_ranges : Purpose → List ℕ → ℕ → ℕ → CoreState → Result (Answered × CoreState) ScriptError
 plan_ranges purpose instant lo hi c = do
-  checked ← check_purpose purpose
   k ← chunk_named c instant
   n ← passed Core (core.plan k lo hi purpose c)
   Ok (answered (codes "job " ++ decimal n.0), n.1)
@@ -140,7 +133,22 @@ commit_job number c = do
 abbrev pub pin_snapshot : CoreState → Result (Answered × CoreState) ScriptError
 pin_snapshot c = Ok (answered (codes "pin " ++ decimal (core.pin c).0), (core.pin c).1)
 
--- a query that asks for groups; a scan is not answered yet
+-- `query JSON`: a query is answered over the ranges as they are
+abbrev pub ask_now : List ℕ → CoreState → Result (Answered × CoreState) ScriptError
+ask_now text c = do
+  q ← passed BadQuery (query_of c.timeline.schema text)
+  a ← passed Answer (answer_over q (pinned c.timeline))
+  Ok (answered a, c)
+
+-- `at N JSON`: it is answered over the ranges of the snapshot of that number
+abbrev pub ask_at : ℕ → List ℕ → CoreState → Result (Answered × CoreState) ScriptError
+ask_at number text c = do
+  p ← passed Core (core.given (slice_get c.pins number))
+  q ← passed BadQuery (query_of c.timeline.schema text)
+  a ← passed Answer (answer_over q p)
+  Ok (answered a, c)
+
+-- a query that can be audited, which a scan can't
 abbrev pub no_scan : Asked → Result Asked QueryError
 no_scan q = if is_scan q.shape then Err (Unsupported (codes "scan")) else Ok q
 
@@ -148,21 +156,6 @@ abbrev pub grouping_of : Schema → List ℕ → Result Asked QueryError
 grouping_of schema text = do
   q ← query_of schema text
   no_scan q
-
--- `query JSON`: a query is answered over the rows as they are
-abbrev pub ask_now : List ℕ → CoreState → Result (Answered × CoreState) ScriptError
-ask_now text c = do
-  q ← passed BadQuery (grouping_of c.timeline.schema text)
-  a ← passed Answer (answer q (rows_of (pinned c.timeline)))
-  Ok (answered a, c)
-
--- `at N JSON`: it is answered over the rows of the snapshot of that number
-abbrev pub ask_at : ℕ → List ℕ → CoreState → Result (Answered × CoreState) ScriptError
-ask_at number text c = do
-  p ← passed Core (core.given (slice_get c.pins number))
-  q ← passed BadQuery (grouping_of c.timeline.schema text)
-  a ← passed Answer (answer q (rows_of p))
-  Ok (answered a, c)
 
 -- `audit JSON`: it is answered over the accepted events, one by one
 abbrev pub audit_now : List ℕ → CoreState → Result (Answered × CoreState) ScriptError
@@ -182,9 +175,12 @@ stats_line n = counts_line n.processed n.unparseable n.thrown_away
 abbrev pub tell_stats : CoreState → Result (Answered × CoreState) ScriptError
 tell_stats c = Ok (answered (stats_line (stats c.timeline)), c)
 
--- `image INSTANT PLACE`: images aren't told yet either
+-- `image INSTANT PLACE`: the image of the sealed range of a chunk at that place
 abbrev pub image_at : List ℕ → ℕ → CoreState → Result (Answered × CoreState) ScriptError
-image_at instant place c = Err (Command BadCommand)
+image_at instant place c = do
+  k ← chunk_named c instant
+  bytes ← passed Core (core.image k place c)
+  Ok (answered (encode_lower bytes), c)
 
 -- what a line asks for is done
 abbrev pub carried_out : CoreState → Request (List ℕ) → Result (Answered × CoreState) ScriptError

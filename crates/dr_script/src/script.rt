@@ -28,11 +28,13 @@ use std::mem::forget;
 /// | `+ EVENT` | `accepted N`, the event's number from 0, or `unparseable NUMBER NAME [i]` |
 /// | `seal INSTANT` | `sealed` |
 /// | `merge INSTANT LO HI` | `merged` |
-/// | `plan merge INSTANT LO HI` | `job N`, from 0 |
+/// | `publish INSTANT LO HI` | `published vN`, the version of the range |
+/// | `plan merge INSTANT LO HI`, `plan publish INSTANT LO HI` | `job N`, from 0 |
 /// | `commit N` | `committed` |
 /// | `pin` | `pin N`, from 0 |
 /// | `query JSON`, `at N JSON` | the text of the answer |
 /// | `audit JSON` | the text of the plain fold over the events |
+/// | `image INSTANT PLACE` | the image of a sealed range of the chunk, from 0, in lower-case hexadecimal |
 /// | `stats` | `processed P unparseable U thrownAway T` |
 ///
 /// INSTANT names the chunk in which it lies. Queries are answered on one thread whatever the number of workers (1 to 16)
@@ -46,7 +48,7 @@ use std::mem::forget;
 /// and where a write failed, a beginning of such a text. A line of 0 `NoMemory` leaves the state as it was, and the lines
 /// behind it are answered over that state. A count of failures or of reads stands still at 2^64-1.
 ///
-/// Whatever the lines seal and merge, and however late, often or in whatever order jobs are committed: each line `query` or
+/// Whatever the lines seal, merge and publish, and however late, often or in whatever order jobs are committed: each line `query` or
 /// `at` whose query matches is answered, byte for byte, by the answer over the raw events of those `+` lines before it, or
 /// before its `pin` line, that were answered `accepted`.
 ///

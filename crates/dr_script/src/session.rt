@@ -1,13 +1,13 @@
 ghost use Rattle.std.specs.Prelude.{◌≡◌, IfOk, OnErr};
-ghost use Rattle.dr_answers.specs.Answer.{answer};
 ghost use Rattle.dr_ask.specs.Asked.{asked};
 ghost use Rattle.dr_ask.specs.MadeFor.{MadeFor};
 ghost use Rattle.dr_base.specs.Reading.{GivesUnless, passed};
 ghost use Rattle.dr_cuts.specs.RawAnswer.{raw_answer};
-ghost use Rattle.dr_cuts.specs.Segments.{pinned, rows_of};
+ghost use Rattle.dr_cuts.specs.Segments.{pinned};
+ghost use Rattle.dr_core.specs.Asking.{answer_over};
 ghost use Rattle.dr_script.specs.declared.script_error.ScriptError.TheVariants.{Answer, Query as BadQuery};
 ghost use Rattle.dr_timeline.specs.CoreState.{empty_core};
-ghost use Rattle.dr_script.specs.Commands.{add_event, ask_at, ask_now, audit_now as audited_now, carried_out, check_purpose, chunk_named, commit_job, is_memory, join_ranges, pin_snapshot, plan_ranges, seal_chunk, tell_stats, grouping_of};
+ghost use Rattle.dr_script.specs.Commands.{add_event, ask_at, ask_now, audit_now as audited_now, carried_out, chunk_named, commit_job, image_at, is_memory, join_ranges, pin_snapshot, plan_ranges, seal_chunk, tell_stats, grouping_of};
 ghost use Rattle.dr_script.specs.Replies.{seen};
 ghost use Rattle.dr_requests.specs.Seen.{seen_request};
 
@@ -16,7 +16,7 @@ use crate::script_error::ScriptError;
 use crate::wording::{stats_line, unparseable_line};
 use dr_ask::{Query, QueryError};
 use dr_base::Text;
-use dr_core::{Core, CoreError};
+use dr_core::{Core, CoreError, ask};
 use dr_events::{EventReader, Unparseable};
 use dr_merge::Purpose;
 use dr_requests::{CommandError, Request, instant_in};
@@ -79,7 +79,7 @@ impl Session {
             Request::Query(text) => self.query(alloc, text),
             Request::At(number, text) => self.at(alloc, number, text),
             Request::Audit(text) => self.audit(alloc, text),
-            Request::Image(_, _) => Err(ScriptError::Command(CommandError::BadCommand)),
+            Request::Image(instant, place) => self.image(instant, place),
             Request::Stats => self.stats(alloc),
         }
     }
@@ -122,7 +122,6 @@ impl Session {
         ensures step { GivesUnless is_memory (λ reply. (seen reply, self.new)) result (join_ranges purpose instant.now lo hi self.old) }
         ensures err { OnErr result (self.new ≡ self.old) }
     {
-        check_purpose(purpose)?;
         let chunk = self.chunk_named(instant)?;
         let version = self
             .core
@@ -140,7 +139,6 @@ impl Session {
         ensures step { GivesUnless is_memory (λ reply. (seen reply, self.new)) result (plan_ranges purpose instant.now lo hi self.old) }
         ensures err { OnErr result (self.new ≡ self.old) }
     {
-        check_purpose(purpose)?;
         let chunk = self.chunk_named(instant)?;
         let number = self.core.plan(chunk, lo as usize, hi as usize, purpose)?;
         Ok(Reply::Job(number))
@@ -166,7 +164,7 @@ impl Session {
         ensures step { GivesUnless is_memory (λ reply. (seen reply, self.new)) result (ask_now text.now self.old) }
         ensures same { self.new ≡ self.old }
     {
-        let query = self.grouping(alloc, text)?;
+        let query = Query::parse(alloc, text, self.core.spec().schema())?;
         Ok(Reply::Said(answer_now(&mut self.core, &query)?))
     }
 
@@ -176,8 +174,8 @@ impl Session {
         let Some(snapshot) = self.core.snapshot(number as usize) else {
             return Err(ScriptError::Core(CoreError::NoSuch));
         };
-        let query = self.grouping(alloc, text)?;
-        Ok(Reply::Said(snapshot.answer_one(&query)?))
+        let query = Query::parse(alloc, text, self.core.spec().schema())?;
+        Ok(Reply::Said(ask(snapshot, &query)?))
     }
 
     fn audit(&mut self, alloc: Global, text: &[u8]) -> Result<Reply, ScriptError>
@@ -188,13 +186,21 @@ impl Session {
         Ok(Reply::Said(audit_now(&mut self.core, &query)?))
     }
 
+    fn image(&self, instant: &[u8], place: u64) -> Result<Reply, ScriptError>
+        ensures { GivesUnless is_memory (λ reply. (seen reply, self.now)) result (image_at instant.now place self.now) }
+    {
+        let chunk = self.chunk_named(instant)?;
+        let bytes = self.core.image(chunk, place as usize)?;
+        Ok(Reply::Hexadecimal(bytes))
+    }
+
     fn stats(&self, alloc: Global) -> Result<Reply, ScriptError>
         ensures { GivesUnless is_memory (λ reply. (seen reply, self.now)) result (tell_stats self.now) }
     {
         Ok(Reply::Said(stats_line(alloc, self.core.stats())?))
     }
 
-    // The query of a text, which is no scan.
+    // The query of a text that can be audited, which a scan can't.
     fn grouping(&self, alloc: Global, text: &[u8]) -> Result<Query, ScriptError>
         ensures value { GivesUnless is_memory asked result (passed BadQuery (grouping_of self.now.timeline.schema text.now)) }
         ensures made { IfOk result (λ q. MadeFor self.now.timeline.schema (asked q)) }
@@ -217,24 +223,14 @@ impl Session {
     }
 }
 
-// Publications aren't carried out yet: a line that asks for one is refused as one that fits no command.
-fn check_purpose(purpose: Purpose) -> Result<(), ScriptError>
-    ensures { GivesUnless is_memory (λ checked. checked) result (check_purpose purpose) }
-{
-    match purpose {
-        Purpose::Merge => Ok(()),
-        Purpose::Publish => Err(ScriptError::Command(CommandError::BadCommand)),
-    }
-}
-
-// The answer over the rows as they are. The core stays as it was.
+// The answer over the ranges as they are. The core stays as it was.
 fn answer_now(core: &mut Core, query: &Query) -> Result<Vec<u8>, ScriptError>
     requires { MadeFor core.old.timeline.schema (asked query.now) }
-    ensures answer { GivesUnless is_memory (λ text. text.items) result (passed Answer (answer (asked query.now) (rows_of (pinned core.old.timeline)))) }
+    ensures answer { GivesUnless is_memory (λ text. text.items) result (passed Answer (answer_over (asked query.now) (pinned core.old.timeline))) }
     ensures same { core.new ≡ core.old }
 {
     let snapshot = core.snapshot_now()?;
-    Ok(snapshot.answer_one(query)?)
+    Ok(ask(&snapshot, query)?)
 }
 
 // The answer over the accepted events, one by one. The core stays as it was.

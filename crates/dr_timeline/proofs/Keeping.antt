@@ -19,7 +19,8 @@ use Rattle.dr_cuts.specs.AtKey.{at_key}
 use Rattle.dr_cuts.specs.State.{State, Cut, Range, open_from, open_events, sealed_in, at_chunk, open_cut}
 use Rattle.dr_timeline.specs.Steps.{with_seal, open_in, with_event, sealed_at, accepted}
 use Rattle.dr_chunks.specs.Held.{range_of, ranges_of, cut_of, index_of, Holds, HasFewRows, open_count, no_chunk, with_one, with_open_sealed, is_full, seals_of, sealed_if_full, grown, at_start, chunk_at, has_open, IsFirst, chunk_in}
-use Rattle.dr_timeline.specs.Kept.{Keeps, HasTexts}
+use Rattle.dr_timeline.specs.Kept.{Keeps, HasTexts, IsNumbered}
+use Rattle.dr_timeline.proofs.Numbering.{numbered-chunk_at, numbered-sealed, numbered-grown}
 use Rattle.dr_cuts.proofs.Parts.{has, part-none, values_onto-push, rising-values, Covers-values_onto, int_eq-itself, is_eq-true}
 use Rattle.dr_chunks.proofs.Places.{chunk_at-none}
 use Rattle.dr_cuts.proofs.Each.{All-push, All-same}
@@ -121,6 +122,7 @@ keeps-sealed schema es cs seals commits k i serial kept lt before here test =
       starts = starts-here schema cs k i (with_open_sealed serial) (λ c. refl) lt before here ∙ kept.starts;
       each = All-at_start schema (Holds schema es) (Holds schema es) cs k (with_open_sealed serial) (λ c e h. h) (holds-sealed schema es serial (chunk_at schema k cs) some held.0) kept.each rising;
       few = All-at_start schema (HasFewRows schema) (HasFewRows schema) cs k (with_open_sealed serial) (λ c e h. h) kept.formed.limits.some_rows kept.few rising;
+      numbered = All-at_start schema (IsNumbered commits) (IsNumbered commits) cs k (with_open_sealed serial) (λ c e h. h) (numbered-sealed serial commits (chunk_at schema k cs) (numbered-chunk_at schema cs k commits kept.numbered rising)) kept.numbered rising;
       seals = omega arith;
       commits = kept.commits;
     }
@@ -190,6 +192,7 @@ keeps-grown schema es cs seals commits e serial kept fits texts room =
           ∙ ap (with_value k) kept.starts ∙ sym (values_onto-push (chunk schema) [] es e);
       each = All-at_start schema (Holds schema es) (Holds schema (es ++ e ∷ [])) cs k change (λ d other h. holds-other schema es e d other h) (grown-holds schema es e serial (full_after schema e cs) c held.0 held.1) kept.each rising;
       few = All-at_start schema (HasFewRows schema) (HasFewRows schema) cs k change (λ d other h. h) (grown-few schema (es ++ e ∷ []) serial row kept.formed (holds-own schema es e c own held.0)) kept.few rising;
+      numbered = All-at_start schema (IsNumbered commits) (IsNumbered commits) cs k change (λ d other h. h) (numbered-grown serial commits e c (numbered-chunk_at schema cs k commits kept.numbered rising)) kept.numbered rising;
       seals = omega arith;
       commits = kept.commits;
     }

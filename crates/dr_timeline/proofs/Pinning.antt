@@ -1,5 +1,5 @@
 -- What is pinned of the chunks of a timeline.
-use Rattle.std.proofs.Common.{◌≡◌, ◌∙◌, sym, refl, ap, subst, ℕ, ℤ, ◌-◌, Bool, true, false, List, [], ◌∷◌, ◌++◌, length, map, drop, take, cond, nat_lt, Bor, Option, Some, None, ◌<◌, ◌+◌, slice_get, arith}
+use Rattle.std.proofs.Common.{◌≡◌, ◌∙◌, sym, refl, ap, subst, ℕ, ℤ, ◌-◌, Bool, true, false, List, [], ◌∷◌, ◌++◌, length, map, drop, take, cond, nat_lt, Option, Some, None, ◌<◌, ◌+◌, slice_get, arith}
 use Rattle.std.specs.List.{flat_map, fold, AllByRecursion}
 use Rattle.dr_answers.specs.Span.{wider, span}
 use Rattle.std.proofs.lemmas.Option.{get_or_from_slice_get}

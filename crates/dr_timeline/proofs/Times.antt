@@ -1,5 +1,5 @@
 -- The times of the rows over cuts of events: each is a time, and their span is that of the events.
-use Rattle.std.proofs.Common.{◌≡◌, ◌∙◌, sym, refl, ap, ℤ, ◌≤ℤ◌, Bool, true, false, not, List, [], ◌∷◌, map, fold, Option, Some, None, IfSome, ◌||◌, ◌&&◌, arith}
+use Rattle.std.proofs.Common.{◌≡◌, ◌∙◌, refl, ℤ, ◌≤ℤ◌, Bool, true, false, not, List, [], ◌∷◌, map, fold, Option, Some, None, IfSome, ◌&&◌, arith}
 use Rattle.std.specs.Prelude.{int_le}
 use Rattle.std.specs.List.{list_any, AllByRecursion}
 use Rattle.std.proofs.lemmas.Bool.{or_parts, or_from}
@@ -79,7 +79,7 @@ least a b p q = (omega (arith, ints, clamps, p.0, q.0), omega (arith, ints, clam
 greatest : (a b : ℤ) → IsInstant a → IsInstant b → IsInstant (int_max a b)
 greatest a b p q = (omega (arith, ints, clamps, p.0, q.0), omega (arith, ints, clamps, p.1, q.1))
 
-wider-ends : (s : Option (ℤ × ℤ)) (t : ℤ) → EndsAtInstants s → IsInstant t → EndsAtInstants (wider s (Some (t, t)))
+pub wider-ends : (s : Option (ℤ × ℤ)) (t : ℤ) → EndsAtInstants s → IsInstant t → EndsAtInstants (wider s (Some (t, t)))
 wider-ends None t h p = (p, p)
 wider-ends (Some s) t h p = (least s.0 t h.0 p, greatest s.1 t h.1 p)
 

@@ -1,5 +1,5 @@
 -- What the work of a job gives is what its inputs are joined to.
-use Rattle.std.proofs.Common.{◌≡◌, refl, Bool, true, false, Ok, Err, length}
+use Rattle.std.proofs.Common.{◌≡◌, true, false, Ok, Err, length}
 use Rattle.std.specs.Prelude.{nat_le, if◌then◌else◌}
 use Rattle.dr_image.specs.Image.{image}
 use Rattle.dr_schema.specs.declared.schema.Schema.{Schema}

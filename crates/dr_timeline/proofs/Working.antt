@@ -1,5 +1,5 @@
 -- A job that is planned can be worked on: its inputs are adjacent ranges of its chunk, and each has an image.
-use Rattle.std.proofs.Common.{◌≡◌, ◌∙◌, sym, refl, ap, subst, ℕ, zero, suc, ℤ, pos, ◌+◌, ◌-◌, ◌^◌, ◌<◌, ◌≤◌, ◌≤ℤ◌, Bool, true, false, cond, List, [], ◌∷◌, ◌++◌, length, map, take, drop, filter, FitsSigned, arith}
+use Rattle.std.proofs.Common.{◌≡◌, ◌∙◌, sym, refl, ap, subst, ℕ, ℤ, ◌-◌, ◌^◌, ◌<◌, ◌≤◌, ◌≤ℤ◌, true, false, cond, List, [], ◌∷◌, length, map, take, drop, FitsSigned, arith}
 use Rattle.std.specs.Int.{w64}
 use Rattle.std.specs.Str.{IsUtf8}
 use Rattle.std.specs.List.{AllByRecursion}
@@ -9,8 +9,7 @@ use Rattle.std.proofs.lemmas.Bool.Decides.{Decides-int_eq}
 use Rattle.std.proofs.lemmas.List.{length-map, length-take, length-drop, take-append-drop}
 use Rattle.std.proofs.lemmas.List.Elements.{All-from_recursion, recursion_from_All}
 use Rattle.dr_base.specs.declared.event.Event.{Event}
-use Rattle.dr_base.specs.declared.row.Row.{Row}
-use Rattle.dr_time.specs.Instant.{IsInstant, first_instant}
+use Rattle.dr_time.specs.Instant.{IsInstant}
 use Rattle.dr_gran.specs.Truncation.{truncation}
 use Rattle.dr_gran.proofs.TruncationLemmas.{truncation_bounds}
 use Rattle.dr_gran.proofs.NestingLemmas.{truncation-nested}
@@ -22,22 +21,21 @@ use Rattle.dr_schema.specs.Fits.{FitsSchema}
 use Rattle.dr_schema.specs.WellFormed.{IsWellFormed}
 use Rattle.dr_schema.specs.declared.schema.Schema.{Schema}
 use Rattle.dr_schema.specs.declared.metric.Metric.{Metric}
-use Rattle.dr_rollup.specs.Unrolled.{contribution, contributions, unrolled, rolled_up}
+use Rattle.dr_rollup.specs.Unrolled.{contribution, contributions, unrolled}
 use Rattle.dr_rollup.proofs.Contributing.{length-contributions}
 use Rattle.dr_image.specs.Sealed.{HasImage, IsRowOf}
-use Rattle.dr_fragment.specs.declared.fragment.Fragment.{Fragment}
 use Rattle.dr_merge.specs.declared.purpose.Purpose.{Purpose}
 use Rattle.dr_merge.specs.Joined.{IsJobOf, AreAdjacent, sealed_fragment}
 use Rattle.dr_merge.proofs.Rolled.{frame, IsFramed, rollup_has_image}
-use Rattle.dr_cuts.specs.Chunks.{chunk, chunk_list, chunks}
-use Rattle.dr_cuts.specs.State.{State, Range, Tile, events_of, sealed_in}
+use Rattle.dr_cuts.specs.Chunks.{chunk, chunk_list}
+use Rattle.dr_cuts.specs.State.{Range, Tile, events_of, sealed_in}
 use Rattle.dr_cuts.proofs.Tiles.{end_from, tile-right, tile-left, tile-end, tile-start}
 use Rattle.dr_chunks.specs.declared.chunk.Chunk.{Chunk}
-use Rattle.dr_chunks.specs.Held.{Holds, chunk_at, cut_of, ranges_of}
+use Rattle.dr_chunks.specs.Held.{chunk_at, cut_of}
 use Rattle.dr_chunks.specs.Ranges.{fragment_of}
 use Rattle.dr_chunks.proofs.Changes.{sealed_in-cuts}
 use Rattle.dr_timeline.specs.Kept.{Keeps, HasTexts}
-use Rattle.dr_timeline.specs.Steps.{ranges_at, job_of}
+use Rattle.dr_timeline.specs.Steps.{job_of}
 use Rattle.dr_timeline.proofs.Keeping.{holds-chunk_at, length-filter}
 use Rattle.dr_timeline.proofs.Standing.{seen, All-part}
 

@@ -16,6 +16,11 @@ use Rattle.dr_chunks.specs.Held.{Holds, HasFewRows, total_open}
 abbrev pub HasTexts : Event → Type 0
 HasTexts e = AllByRecursion IsUtf8 e.dims
 
+-- a chunk has no more publications than there were commits, and no range of it has a version over these
+pub record IsNumbered (commit_count : ℕ) (c : Chunk) : Type 0 where
+  pub publications : c.publications ≤ commit_count
+  pub versions : AllByRecursion (λ s. s.version ≤ c.publications) c.sealed
+
 -- the chunks are those of the events, which fit the schema; a seal takes at least one event
 pub record Keeps (schema : Schema) (es : List Event) (cs : List Chunk) (seal_count commit_count : ℕ) : Type 0 where
   pub formed : IsWellFormed schema
@@ -24,6 +29,7 @@ pub record Keeps (schema : Schema) (es : List Event) (cs : List Chunk) (seal_cou
   pub starts : map (λ c. c.start) cs ≡ chunks schema es
   pub each : AllByRecursion (Holds schema es) cs
   pub few : AllByRecursion (HasFewRows schema) cs
+  pub numbered : AllByRecursion (IsNumbered commit_count) cs
   pub retained : length es ≤ schema.limits.max_retained
   pub seals : seal_count + total_open cs ≤ length es
   pub commits : commit_count ≤ schema.limits.max_commits

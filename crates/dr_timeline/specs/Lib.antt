@@ -3,8 +3,11 @@ pub mod Steps
 pub mod Standing
 pub mod Stepping
 pub mod Noted
+pub mod Imaging
 pub mod Answering
 pub mod Shown
+pub mod Scanning
+pub mod Numbered
 pub mod Kept
 pub mod CoreState
 pub mod Order

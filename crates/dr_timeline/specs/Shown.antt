@@ -10,8 +10,6 @@ use Rattle.dr_cuts.specs.declared.range_info.RangeInfo.{RangeInfo}
 use Rattle.dr_rollup.specs.Unrolled.{rolled_up}
 use Rattle.dr_cuts.specs.Segments.{infos, events_in}
 use Rattle.dr_cuts.specs.State.{Cut, AreCuts}
-use Rattle.dr_timeline.specs.declared.range_rows.Place.{Place}
-use Rattle.dr_timeline.specs.declared.range_rows.Place.TheVariants.{Lent, Own}
 
 -- the ranges are those of some cuts of the events, and the rows that are held of each are the rollup of its events
 pub record Shows (schema : Schema) (es : List Event) (held : List (List Row)) (ranges : List RangeInfo) : Type 0 where
@@ -21,8 +19,3 @@ pub record Shows (schema : Schema) (es : List Event) (held : List (List Row)) (r
   pub are_cuts : AreCuts schema es cuts
   pub ranges_are : ranges ≡ infos schema es cuts
   pub rows : held ≡ map (λ range. rolled_up schema (events_in schema es range)) ranges
-
--- the rows of a range, as a slice
-abbrev pub rows_placed : Place → List Row
-rows_placed (Lent rows) = rows.now
-rows_placed (Own rows) = rows.items

@@ -1,9 +1,12 @@
 -- The steps that change a timeline: accepting an event, sealing an open range, and replacing sealed ranges by the one that
 -- they join to (Apache Druid documentation, ingestion: persists, merges, segment replacement).
 use Rattle.std.specs.Prelude.{◌≡◌, ℕ, ℤ, ◌+◌, ◌-◌, ◌<◌, ◌≤◌, min, nat_le, List, [], ◌∷◌, ◌++◌, length, map, take, drop, fold, if◌then◌else◌}
+use Rattle.std.specs.List.{AllByRecursion}
+use Rattle.std.specs.Ordering.{int_cmp, match_ordering}
 use Rattle.dr_base.specs.declared.event.Event.{Event}
 use Rattle.dr_merge.specs.declared.job.Job.{Job}
 use Rattle.dr_merge.specs.declared.purpose.Purpose.{Purpose}
+use Rattle.dr_merge.specs.declared.purpose.Purpose.TheVariants.{Merge, Publish}
 use Rattle.dr_rollup.specs.Unrolled.{rolled_up}
 use Rattle.dr_cuts.specs.Chunks.{chunk, chunk_list}
 use Rattle.dr_cuts.specs.State.{Range, Cut, State, open_from, open_events, sealed_in, at_chunk}
@@ -62,22 +65,46 @@ abbrev pub least_version : List Range → ℕ
 least_version [] = 0
 least_version (r ∷ rs) = fold (λ least range. min least range.version) r.version rs
 
--- a range in the place of so many ranges from a place on
-abbrev pub replaced : ℕ → ℕ → Range → Cut → Cut
-replaced place count range c = record { chunk = c.chunk; sealed = take place c.sealed ++ (range ∷ drop (place + count) c.sealed); publications = c.publications }
+-- how many publications there were of a chunk
+abbrev pub publications_in : ℤ → List Cut → ℕ
+publications_in k [] = 0
+publications_in k (c ∷ cs) = match_ordering (int_cmp k c.chunk) 0 c.publications (publications_in k cs)
 
--- the ranges of the job, which stand at that place, become one, with the next serial; merging keeps their least version
+-- how many there are once ranges became one for that purpose
+abbrev pub publications_after : Purpose → ℕ → ℕ
+publications_after Merge publications = publications
+publications_after Publish publications = publications + 1
+
+-- the version of the range that some ranges become, where there are so many publications then: publishing gives it that number,
+-- merging keeps the least version of the ranges
+abbrev pub version_for : Purpose → ℕ → List Range → ℕ
+version_for Merge publications ranges = least_version ranges
+version_for Publish publications ranges = publications
+
+-- no range of a chunk has a version over the number of its publications
+abbrev pub HasVersions : Cut → Type 0
+HasVersions cut = AllByRecursion (λ range. range.version ≤ cut.publications) cut.sealed
+
+-- a range in the place of so many ranges from a place on, for that purpose
+abbrev pub replaced : ℕ → ℕ → Purpose → Range → Cut → Cut
+replaced place count purpose range c = record {
+  chunk = c.chunk;
+  sealed = take place c.sealed ++ (range ∷ drop (place + count) c.sealed);
+  publications = publications_after purpose c.publications;
+}
+
+-- the ranges of the job, which stand at that place, become one, with the next serial
 abbrev pub joined_range : State → Job → ℕ → Range
 joined_range s job place = record {
   from = (joined_fragment s.schema job).from;
   to = (joined_fragment s.schema job).to;
   serial = s.serials;
-  version = least_version (ranges_at s job.chunk place (length job.inputs));
+  version = version_for job.purpose (publications_after job.purpose (publications_in job.chunk s.cuts)) (ranges_at s job.chunk place (length job.inputs));
 }
 
 abbrev pub committed : State → Job → ℕ → State
 committed s job place = record s {
-  cuts = at_chunk job.chunk (replaced place (length job.inputs) (joined_range s job place)) s.cuts;
+  cuts = at_chunk job.chunk (replaced place (length job.inputs) job.purpose (joined_range s job place)) s.cuts;
   serials = s.serials + 1;
   commits = s.commits + 1;
 }

@@ -4,15 +4,17 @@
 
 mod answering;
 mod chunk_of;
+mod imaging;
 mod known_texts;
 mod outcome;
 mod planned;
-mod range_rows;
+mod scanning;
 mod snapshot;
 mod span;
 mod stats;
 mod timeline;
 mod timeline_error;
+mod versioning;
 
 pub use dr_answers::AnswerError;
 pub use dr_ask::{Query, QueryError};

@@ -11,17 +11,16 @@ ghost use Rattle.dr_cuts.specs.Segments.{rows_of};
 ghost use Rattle.dr_cuts.specs.RawAnswer.{raw_answer};
 
 use crate::answering::answer;
-use crate::range_rows::RangeRows;
 use crate::span::span_of;
 use dr_answers::AnswerError;
 use dr_ask::Query;
-use dr_base::{Event, Row};
+use dr_base::Event;
 use dr_chunks::Stream;
 use dr_cuts::RangeInfo;
-use dr_fragment::{PinnedFragment, PinnedFragments};
+use dr_fragment::PinnedFragments;
 use dr_partial::Partial;
 use dr_schema::Schema;
-use std::alloc::{AllocError, Global};
+use dr_workers::scatter_one;
 use std::marker::Model;
 
 /// The events that were accepted before a pin, in order, and the ranges that their chunks were cut into. No later step
@@ -74,7 +73,7 @@ impl Snapshot {
     }
 
     /// From the least to the greatest truncated time of the events, both included, in milliseconds since the epoch; none
-    /// where there is no event. It takes time by the events, and no memory.
+    /// where there is no event. It takes constant time, and no memory.
     pub fn span(&self) -> Option<(i64, i64)>
         ensures { result ≡ span (map (unrolled self.now.schema) self.now.stream) }
     {
@@ -94,8 +93,8 @@ impl Snapshot {
     ///
     /// Where the query matches, it is byte for byte the answer over the raw events, truncated, filtered, grouped and
     /// folded one by one, whatever the ranges. Refusals: 81 `ResultTooLarge` where there are over 100000 groups. It takes
-    /// expected time by the rows and the bytes of their dimension values, by the events for their span, and what sorting
-    /// the groups takes; and memory by the groups and the rows of open ranges and of images.
+    /// expected time by the rows and the bytes of their dimension values, and what sorting the groups takes; and memory by the
+    /// groups, and what a query takes over each image. No row is copied.
     pub fn answer_one(&self, query: &Query) -> Result<Vec<u8>, AnswerError>
         requires { MadeFor self.now.schema (asked query.now) }
         ensures own_rows { Answers (λ text. text.items) result (answer (asked query.now) (rows_of self.now)) }
@@ -103,9 +102,7 @@ impl Snapshot {
             → Answers (λ text. text.items) result (raw_answer self.now.schema (asked query.now) self.now.stream) }
     {
         let alloc = self.stream.allocator();
-        let rows = rows_of_all(alloc, self.fragments.as_slice())?;
-        let pieces = slices(alloc, &rows)?;
-        let partial = Partial::of_rows(alloc, query, &pieces)?;
+        let partial = scatter_one(alloc, query, self.fragments.as_slice())?;
         answer(alloc, query, partial, self.span())
     }
 
@@ -121,29 +118,6 @@ impl Snapshot {
         let partial = Partial::of_events(alloc, query, &self.schema, &pieces)?;
         answer(alloc, query, partial, self.span())
     }
-}
-
-fn rows_of_all(
-    alloc: Global,
-    fragments: &[PinnedFragment],
-) -> Result<Vec<RangeRows<'_>>, AllocError>
-    ensures { IfOk result (λ rows. rows.items ≡ map (λ f. f.rows) fragments.now) }
-{
-    let mut rows = Vec::with_capacity(alloc, fragments.len())?;
-    for fragment in fragments {
-        rows.push(RangeRows::of(alloc, fragment)?)?;
-    }
-    Ok(rows)
-}
-
-fn slices<'a>(alloc: Global, ranges: &'a [RangeRows<'a>]) -> Result<Vec<&'a [Row]>, AllocError>
-    ensures { IfOk result (λ slices. map (λ s. s.now) slices.items ≡ ranges.now) }
-{
-    let mut slices = Vec::with_capacity(alloc, ranges.len())?;
-    for rows in ranges {
-        slices.push(rows.as_slice())?;
-    }
-    Ok(slices)
 }
 
 fn begins_with(events: &Stream, first: &Stream) -> bool

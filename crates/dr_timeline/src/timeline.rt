@@ -1,11 +1,13 @@
 ghost use Rattle.std.specs.Prelude.{◌≡◌, ◌<◌, ◌≤◌, ◌↔◌, ◌⊎◌, ℕ, true, [], length, map, OnOk, OnErr, IfOk, IfErr, IsErrOf};
 ghost use Rattle.dr_timeline.specs.declared.timeline_error.TimelineError.TheVariants.{NoMemory, StreamFull, NothingToSeal, NoSuchRange, Stale, CommitsFull};
 ghost use Rattle.dr_cuts.specs.State.{State, AreCuts, empty_state, sealed_in};
-ghost use Rattle.dr_timeline.specs.Steps.{accepted, sealed_at, open_in, job_of, StandsAt, Commits};
+ghost use Rattle.std.specs.List.{AllByRecursion};
+ghost use Rattle.dr_timeline.specs.Steps.{accepted, sealed_at, open_in, job_of, StandsAt, Commits, HasVersions};
 ghost use Rattle.dr_timeline.specs.Stepping.{accept, seal, plan, commit};
 ghost use Rattle.dr_timeline.specs.Refusal.{is_memory};
 ghost use Rattle.dr_base.specs.Reading.{GivesUnless};
 ghost use Rattle.dr_timeline.specs.Noted.{noted, stats};
+ghost use Rattle.dr_timeline.specs.Imaging.{image_at};
 ghost use Rattle.dr_timeline.specs.Order.{HaveFewRows};
 ghost use Rattle.dr_merge.specs.Joined.{joined_fragment, IsJobOf};
 ghost use Rattle.dr_cuts.specs.Segments.{pinned};
@@ -13,12 +15,14 @@ ghost use Rattle.dr_schema.specs.Fits.{FitsSchema};
 ghost use Rattle.dr_schema.specs.WellFormed.{IsWellFormed};
 
 use crate::chunk_of::chunk_start;
+use crate::imaging::image_of;
 use crate::known_texts::known_texts;
 use crate::outcome::Outcome;
-use crate::planned::{job_over, least_version, place_of_job};
+use crate::planned::{job_over, place_of_job};
 use crate::snapshot::Snapshot;
 use crate::stats::Stats;
 use crate::timeline_error::TimelineError;
+use crate::versioning::{publications_after, version_for};
 use dr_base::Event;
 use dr_chunks::{Chunks, SealedRange, Stream};
 use dr_fragment::{Fragment, PinnedFragments, SharedFragment};
@@ -197,7 +201,8 @@ impl Timeline {
     }
 
     /// Puts the fragment that the inputs of a job are joined to in the place of their ranges, wherever these stand by now,
-    /// and answers its version. An error leaves the timeline as it was. Refusals: 93 `Stale` exactly where the job's ranges
+    /// and answers its version: a job to publish raises the number of the chunk's publications by one, which is the version, and a
+    /// job to merge gives the least version of the ranges, 0 where one of them isn't published. An error leaves the timeline as it was. Refusals: 93 `Stale` exactly where the job's ranges
     /// don't stand next to each other any more, with its serials and rows; then 95 `CommitsFull` exactly where there were
     /// as many commits as the spec's `maxCommits`.
     pub fn commit(&mut self, job: &Job, fragment: Fragment) -> Result<u64, TimelineError>
@@ -222,15 +227,44 @@ impl Timeline {
             return Err(TimelineError::CommitsFull);
         }
         let count = job.inputs.len();
-        let version = least_version(&sealed[place..place + count]);
+        let publications = publications_after(job.purpose, there.publications);
+        let version = version_for(job.purpose, publications, &sealed[place..place + count]);
         let range = SealedRange {
             serial: self.seals + self.commits,
             version,
             fragment: SharedFragment::new(alloc, fragment)?,
         };
-        self.chunks.replace(job.chunk, place, count, range);
+        self.chunks
+            .replace(job.chunk, place, count, publications, range);
         self.commits += 1;
         Ok(version)
+    }
+
+    /// The image of the sealed range of a chunk at a place, from 0, in the order in which the ranges stand now: the bytes of a
+    /// segment, as `SegmentView` of `dr_image` reads them. The chunk is named by its start in milliseconds since the epoch. A range
+    /// that was merged or published is an image, whose bytes are copied; of one that was only sealed the image is written, which
+    /// takes what `encode` of `dr_segment` says. Refusals: 92 `NoSuchRange` exactly where the chunk has no sealed range at that place,
+    /// and then 59 `ImageTooLarge` exactly where the image has more bytes than the spec's `maxImageBytes`.
+    pub fn image(&self, chunk: i64, place: usize) -> Result<Vec<u8>, TimelineError>
+        ensures { GivesUnless is_memory (λ bytes. bytes.items) result (image_at self.now chunk place) }
+    {
+        let Some(there) = self.chunks.get(chunk) else {
+            return Err(TimelineError::NoSuchRange);
+        };
+        let Some(range) = there.sealed.as_slice().get(place) else {
+            return Err(TimelineError::NoSuchRange);
+        };
+        let alloc = self.stream.allocator();
+        image_of(alloc, self.spec.schema(), range.fragment.fragment())
+    }
+
+    /// What holds of each timeline, whatever steps made it: no range has a version over the number of its chunk's publications. It
+    /// does nothing.
+    pub fn versions_are_publications(&self)
+        ensures { AllByRecursion HasVersions self.now.cuts }
+    {
+        // The type says so of what it keeps.
+        let _commits = self.commits;
     }
 
     /// A snapshot of what was accepted so far, and of the ranges as they are now, which no later step changes. The timeline

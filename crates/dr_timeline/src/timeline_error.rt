@@ -11,6 +11,9 @@ pub enum TimelineError {
     /// 0: memory ran out.
     #[error("out of memory")]
     NoMemory,
+    /// 59: the image of the range has more bytes than the spec allows.
+    #[error("an image that is too large")]
+    ImageTooLarge,
     /// 90: as many events are retained as the spec allows.
     #[error("the stream is full")]
     StreamFull,
@@ -29,12 +32,13 @@ pub enum TimelineError {
 }
 
 impl TimelineError {
-    /// The number of the refusal: 0, 90 to 93 or 95.
+    /// The number of the refusal: 0, 59, 90 to 93 or 95.
     pub fn number(&self) -> u16
         ensures { result ≡ number_of self.now }
     {
         match self {
             TimelineError::NoMemory => 0,
+            TimelineError::ImageTooLarge => 59,
             TimelineError::StreamFull => 90,
             TimelineError::NothingToSeal => 91,
             TimelineError::NoSuchRange => 92,
@@ -49,6 +53,7 @@ impl TimelineError {
     {
         match self {
             TimelineError::NoMemory => "NoMemory",
+            TimelineError::ImageTooLarge => "ImageTooLarge",
             TimelineError::StreamFull => "StreamFull",
             TimelineError::NothingToSeal => "NothingToSeal",
             TimelineError::NoSuchRange => "NoSuchRange",

@@ -35,6 +35,10 @@ const ADDED: &str =
 const ROWS: &str =
     r#"{"queryType":"timeseries","dataSource":"w","intervals":["2024-01-01/2024-01-02"],"granularity":"all","aggregations":[{"type":"count","name":"cnt"}]}"#;
 
+/// The pages with what was added, row by row.
+const PAGES: &str =
+    r#"{"queryType":"scan","dataSource":"w","intervals":["2024-01-01/2024-01-02"],"columns":["page","added"],"resultFormat":"compactedList"}"#;
+
 /// Steps that may be taken over a spec. A contract sees the spec.
 #[derive(Drop)]
 struct Steps {
@@ -229,6 +233,26 @@ fn asks_and_refusals(alloc: Global, steps: &mut Steps) -> Result<(), Fail> {
     steps.seal()?;
     steps.commit(2)?;
     steps.ask(alloc, 2, ADDED)
+}
+
+/// Scans of both pins, and an audit of one, which there isn't.
+fn scans(alloc: Global, steps: &mut Steps) -> Result<(), Fail> {
+    steps.ask(alloc, 0, PAGES)?;
+    steps.ask(alloc, 1, PAGES)?;
+    steps.audit(alloc, 1, PAGES)?;
+    steps.ask(alloc, 2, PAGES)
+}
+
+#[test]
+fn scans_are_those_of_the_snapshots(rt: HostRuntime) -> Result<(), Fail> {
+    let mut steps = Steps::new(rt.alloc())?;
+    merge_before_two_pins(rt.alloc(), &mut steps)?;
+    scans(rt.alloc(), &mut steps)?;
+    let told = replies_of(rt.alloc(), &steps.run(rt.alloc())?)?;
+    let wanted =
+        r#"a0; sealed; a1; pin 0; sealed; job 0; job 1; v0; pin 1; [{"columns":["page","added"],"events":[["A",5]],"segmentId":"w_2024-01-01T00:00:00.000Z_2024-01-02T00:00:00.000Z_r"},{"columns":["page","added"],"events":[["A",7]],"segmentId":"w_2024-01-01T00:00:00.000Z_2024-01-02T00:00:00.000Z_r_1"}]; [{"columns":["page","added"],"events":[["A",12]],"segmentId":"w_2024-01-01T00:00:00.000Z_2024-01-02T00:00:00.000Z_r"}]; no such; no such; "#;
+    assert_eq!(rt; told.as_str(), wanted);
+    Ok(())
 }
 
 #[test]

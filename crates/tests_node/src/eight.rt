@@ -1,6 +1,6 @@
-ghost use Rattle.std.specs.Prelude.{◌≡◌, ◌<◌};
+ghost use Rattle.std.specs.Prelude.{◌≡◌, ◌<◌, ◌≤◌, ◌+◌};
 
-use crate::events::{FIRST, accept, blanks, copy_of, new_spec};
+use crate::events::{FIRST, accept, copy_of, new_spec};
 use dr_node::{Books, Closed, Joined, Node, NodeError, NodeLedger, OneSeat, Seat};
 use dr_spec::IngestSpec;
 use std::alloc::Global;
@@ -8,14 +8,7 @@ use std::marker::Brand;
 use std::sync::Wait;
 use std::sync::ledger::{Blank, Ledger};
 
-type Two<A, B, C, D> = Joined<OneSeat<A, B>, OneSeat<C, D>>;
-
-type Four<A, B, C, D, E, F, G, H> = Joined<Two<A, B, C, D>, Two<E, F, G, H>>;
-
-type Eight<A, B, C, D, E, F, G, H, I, J, K, L, M, N, O, P> =
-    Joined<Four<A, B, C, D, E, F, G, H>, Four<I, J, K, L, M, N, O, P>>;
-
-type TwoBlanks = ((Blank, Blank), (Blank, Blank));
+type Answer = Option<Result<Closed, NodeError>>;
 
 /// Accepts an event by each seat, and closes the node.
 fn fill<B: Books, R: Wait>(
@@ -24,7 +17,7 @@ fn fill<B: Books, R: Wait>(
     spec: &IngestSpec,
     node: Node<B>,
     seats: Vec<Seat<B>>,
-) -> Option<Result<Closed, NodeError>>
+) -> Answer
     requires { spec.now ≡ B.schema }
 {
     let mut seats = seats;
@@ -34,45 +27,188 @@ fn fill<B: Books, R: Wait>(
     Some(node.close(seats))
 }
 
-/// What closing a node of eight seats shows, each of which accepted one event.
-fn eight<
-    A: NodeLedger, B: Ledger, C: NodeLedger, D: Ledger, E: NodeLedger, F: Ledger, G: NodeLedger, H: Ledger, I: NodeLedger, J: Ledger, K: NodeLedger, L: Ledger, M: NodeLedger, N: Ledger, O: NodeLedger, P: Ledger,
+/// What closing a node shows, each of whose seats accepted one event.
+fn closed<B: Books, R: Wait>(rt: &R, alloc: Global, spec: IngestSpec, blanks: B::Blanks) -> Answer
+    requires schema { spec ≡ B.schema }
+    requires blanks { B.are_blank blanks }
+    requires seats { B.seats ≤ 8 }
+{
+    let copy = copy_of(&spec)?;
+    let (node, seats) = Node::<B>::new(alloc, spec, blanks).ok()?;
+    fill(rt, alloc, &copy, node, seats)
+}
+
+/// The same of two books joined.
+fn of_two<S: Books, T: Books, R: Wait>(
+    rt: &R,
+    alloc: Global,
+    spec: IngestSpec,
+    blanks: (S::Blanks, T::Blanks),
+) -> Answer
+    requires schema { spec ≡ S.schema }
+    requires blanks { S.are_blank blanks.0 × T.are_blank blanks.1 }
+    requires seats { S.seats + T.seats ≤ 8 }
+{
+    closed::<Joined<S, T>, R>(rt, alloc, spec, blanks)
+}
+
+/// Of four.
+fn of_four<S: Books, T: Books, U: Books, V: Books, R: Wait>(
+    rt: &R,
+    alloc: Global,
+    spec: IngestSpec,
+    first: (S::Blanks, T::Blanks),
+    second: (U::Blanks, V::Blanks),
+) -> Answer
+    requires schema { spec ≡ S.schema }
+    requires first { S.are_blank first.0 × T.are_blank first.1 }
+    requires second { U.are_blank second.0 × V.are_blank second.1 }
+    requires seats { (S.seats + T.seats) + (U.seats + V.seats) ≤ 8 }
+{
+    of_two::<Joined<S, T>, Joined<U, V>, R>(rt, alloc, spec, (first, second))
+}
+
+/// Of eight, by pairs.
+fn of_pairs<
+    S: Books,
+    T: Books,
+    U: Books,
+    V: Books,
+    W: Books,
+    X: Books,
+    Y: Books,
+    Z: Books,
     R: Wait,
 >(
     rt: &R,
     alloc: Global,
     spec: IngestSpec,
-    blanks: ((TwoBlanks, TwoBlanks), (TwoBlanks, TwoBlanks)),
-) -> Option<Result<Closed, NodeError>>
-    requires schema { spec ≡ A.schema }
-    requires seat_0 { (blanks.0.0.0.0.name ≡ A.name) × (blanks.0.0.0.0.parts ≡ A.parts) × (0 < A.parts) × (blanks.0.0.0.1.name ≡ B.name) × (blanks.0.0.0.1.parts ≡ B.parts) × (0 < B.parts) }
-    requires seat_1 { (blanks.0.0.1.0.name ≡ C.name) × (blanks.0.0.1.0.parts ≡ C.parts) × (0 < C.parts) × (blanks.0.0.1.1.name ≡ D.name) × (blanks.0.0.1.1.parts ≡ D.parts) × (0 < D.parts) }
-    requires seat_2 { (blanks.0.1.0.0.name ≡ E.name) × (blanks.0.1.0.0.parts ≡ E.parts) × (0 < E.parts) × (blanks.0.1.0.1.name ≡ F.name) × (blanks.0.1.0.1.parts ≡ F.parts) × (0 < F.parts) }
-    requires seat_3 { (blanks.0.1.1.0.name ≡ G.name) × (blanks.0.1.1.0.parts ≡ G.parts) × (0 < G.parts) × (blanks.0.1.1.1.name ≡ H.name) × (blanks.0.1.1.1.parts ≡ H.parts) × (0 < H.parts) }
-    requires seat_4 { (blanks.1.0.0.0.name ≡ I.name) × (blanks.1.0.0.0.parts ≡ I.parts) × (0 < I.parts) × (blanks.1.0.0.1.name ≡ J.name) × (blanks.1.0.0.1.parts ≡ J.parts) × (0 < J.parts) }
-    requires seat_5 { (blanks.1.0.1.0.name ≡ K.name) × (blanks.1.0.1.0.parts ≡ K.parts) × (0 < K.parts) × (blanks.1.0.1.1.name ≡ L.name) × (blanks.1.0.1.1.parts ≡ L.parts) × (0 < L.parts) }
-    requires seat_6 { (blanks.1.1.0.0.name ≡ M.name) × (blanks.1.1.0.0.parts ≡ M.parts) × (0 < M.parts) × (blanks.1.1.0.1.name ≡ N.name) × (blanks.1.1.0.1.parts ≡ N.parts) × (0 < N.parts) }
-    requires seat_7 { (blanks.1.1.1.0.name ≡ O.name) × (blanks.1.1.1.0.parts ≡ O.parts) × (0 < O.parts) × (blanks.1.1.1.1.name ≡ P.name) × (blanks.1.1.1.1.parts ≡ P.parts) × (0 < P.parts) }
+    first: (S::Blanks, T::Blanks),
+    second: (U::Blanks, V::Blanks),
+    third: (W::Blanks, X::Blanks),
+    fourth: (Y::Blanks, Z::Blanks),
+) -> Answer
+    requires schema { spec ≡ S.schema }
+    requires first { S.are_blank first.0 × T.are_blank first.1 }
+    requires second { U.are_blank second.0 × V.are_blank second.1 }
+    requires third { W.are_blank third.0 × X.are_blank third.1 }
+    requires fourth { Y.are_blank fourth.0 × Z.are_blank fourth.1 }
+    requires seats { ((S.seats + T.seats) + (U.seats + V.seats)) + ((W.seats + X.seats) + (Y.seats + Z.seats)) ≤ 8 }
 {
-    let copy = copy_of(&spec)?;
-    let (node, seats) = Node::<Eight<A, B, C, D, E, F, G, H, I, J, K, L, M, N, O, P>>::new(alloc, spec, blanks).ok()?;
-    fill(rt, alloc, &copy, node, seats)
-}
-
-fn told<R: Wait>(rt: &R, alloc: Global) -> Option<Result<Closed, NodeError>> {
-    let spec = new_spec(alloc)?;
-    eight::<Brand, Brand, Brand, Brand, Brand, Brand, Brand, Brand, Brand, Brand, Brand, Brand, Brand, Brand, Brand, Brand, R>(
+    of_four::<Joined<S, T>, Joined<U, V>, Joined<W, X>, Joined<Y, Z>, R>(
         rt,
         alloc,
         spec,
-        ((blanks(), blanks()), (blanks(), blanks())),
+        (first, second),
+        (third, fourth),
+    )
+}
+
+/// Of the seats of eight pairs of ledgers.
+fn of_eight<
+    A: NodeLedger,
+    B: Ledger,
+    C: NodeLedger,
+    D: Ledger,
+    E: NodeLedger,
+    F: Ledger,
+    G: NodeLedger,
+    H: Ledger,
+    I: NodeLedger,
+    J: Ledger,
+    K: NodeLedger,
+    L: Ledger,
+    M: NodeLedger,
+    N: Ledger,
+    O: NodeLedger,
+    P: Ledger,
+    R: Wait,
+>(
+    rt: &R,
+    alloc: Global,
+    spec: IngestSpec,
+    seat_0: (Blank, Blank),
+    seat_1: (Blank, Blank),
+    seat_2: (Blank, Blank),
+    seat_3: (Blank, Blank),
+    seat_4: (Blank, Blank),
+    seat_5: (Blank, Blank),
+    seat_6: (Blank, Blank),
+    seat_7: (Blank, Blank),
+) -> Answer
+    requires schema { spec ≡ A.schema }
+    requires seat_0 { (seat_0.0.name ≡ A.name) × (seat_0.0.parts ≡ A.parts) × (0 < A.parts) × (seat_0.1.name ≡ B.name) × (seat_0.1.parts ≡ B.parts) × (0 < B.parts) }
+    requires seat_1 { (seat_1.0.name ≡ C.name) × (seat_1.0.parts ≡ C.parts) × (0 < C.parts) × (seat_1.1.name ≡ D.name) × (seat_1.1.parts ≡ D.parts) × (0 < D.parts) }
+    requires seat_2 { (seat_2.0.name ≡ E.name) × (seat_2.0.parts ≡ E.parts) × (0 < E.parts) × (seat_2.1.name ≡ F.name) × (seat_2.1.parts ≡ F.parts) × (0 < F.parts) }
+    requires seat_3 { (seat_3.0.name ≡ G.name) × (seat_3.0.parts ≡ G.parts) × (0 < G.parts) × (seat_3.1.name ≡ H.name) × (seat_3.1.parts ≡ H.parts) × (0 < H.parts) }
+    requires seat_4 { (seat_4.0.name ≡ I.name) × (seat_4.0.parts ≡ I.parts) × (0 < I.parts) × (seat_4.1.name ≡ J.name) × (seat_4.1.parts ≡ J.parts) × (0 < J.parts) }
+    requires seat_5 { (seat_5.0.name ≡ K.name) × (seat_5.0.parts ≡ K.parts) × (0 < K.parts) × (seat_5.1.name ≡ L.name) × (seat_5.1.parts ≡ L.parts) × (0 < L.parts) }
+    requires seat_6 { (seat_6.0.name ≡ M.name) × (seat_6.0.parts ≡ M.parts) × (0 < M.parts) × (seat_6.1.name ≡ N.name) × (seat_6.1.parts ≡ N.parts) × (0 < N.parts) }
+    requires seat_7 { (seat_7.0.name ≡ O.name) × (seat_7.0.parts ≡ O.parts) × (0 < O.parts) × (seat_7.1.name ≡ P.name) × (seat_7.1.parts ≡ P.parts) × (0 < P.parts) }
+{
+    of_pairs::<
+        OneSeat<A, B>,
+        OneSeat<C, D>,
+        OneSeat<E, F>,
+        OneSeat<G, H>,
+        OneSeat<I, J>,
+        OneSeat<K, L>,
+        OneSeat<M, N>,
+        OneSeat<O, P>,
+        R,
+    >(
+        rt,
+        alloc,
+        spec,
+        (seat_0, seat_1),
+        (seat_2, seat_3),
+        (seat_4, seat_5),
+        (seat_6, seat_7),
+    )
+}
+
+fn told<R: Wait>(rt: &R, alloc: Global) -> Answer {
+    let spec = new_spec(alloc)?;
+    of_eight::<
+        Brand,
+        Brand,
+        Brand,
+        Brand,
+        Brand,
+        Brand,
+        Brand,
+        Brand,
+        Brand,
+        Brand,
+        Brand,
+        Brand,
+        Brand,
+        Brand,
+        Brand,
+        Brand,
+        R,
+    >(
+        rt,
+        alloc,
+        spec,
+        (Blank::new(1), Blank::new(1)),
+        (Blank::new(1), Blank::new(1)),
+        (Blank::new(1), Blank::new(1)),
+        (Blank::new(1), Blank::new(1)),
+        (Blank::new(1), Blank::new(1)),
+        (Blank::new(1), Blank::new(1)),
+        (Blank::new(1), Blank::new(1)),
+        (Blank::new(1), Blank::new(1)),
     )
 }
 
 #[test]
 fn eight_seats_are_closed_together(rt: HostRuntime) {
-    let Some(Ok(closed)) = told(&rt, rt.alloc()) else {
+    let Some(answer) = told(&rt, rt.alloc()) else {
         panic!(rt; "no answer");
+    };
+    let Ok(closed) = answer else {
+        panic!(rt; "a refusal");
     };
     assert!(rt; closed.stream.len() == 8);
     assert!(rt; closed.mine.as_slice() == [1; 8].as_slice());

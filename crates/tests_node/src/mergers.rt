@@ -3,7 +3,7 @@ ghost use Rattle.std.specs.Prelude.{◌≡◌, ◌<◌};
 use crate::acts::{join, seal};
 use crate::events::{FIRST, SECOND, THIRD, accept, blanks, copy_of, new_spec};
 use crate::turns::{Once, wait_for};
-use dr_node::{Books, Joined, MergerReport, Node, NodeLedger, OneSeat, Seat, Stop};
+use dr_node::{Books, Joined, MergerReport, Node, NodeLedger, OneSeat, Seat};
 use dr_spec::IngestSpec;
 use dr_timeline::{Purpose, RangeInfo};
 use std::alloc::Global;
@@ -66,7 +66,7 @@ fn beside_merger<B: Books, R: Wait>(
     node: &Node<B>,
     spec: &IngestSpec,
     seat: &mut Seat<B>,
-    policy: &Once<'_>,
+    policy: &Once,
     beside: Beside,
 ) -> Option<u64>
     requires { spec.now ≡ B.schema }
@@ -108,14 +108,13 @@ fn merged<
     let mut second = seats.pop()?;
     let first = seats.pop()?;
     two_ranges(rt, alloc, &node, &copy, &mut second)?;
-    let stop = Stop::new();
-    let policy = Once::new(&stop, while_asked);
-    let (shared, spec, held, ended) = (&node, &copy, &policy, &stop);
+    let policy = Once::new(while_asked);
+    let (shared, spec, held) = (&node, &copy, &policy);
     let (report, other) = thread::join(
         rt,
         move || -> Option<MergerReport> {
             let mut seat = first;
-            shared.merger(rt, &mut seat, held, ended).ok()
+            shared.merger(rt, &mut seat, held, &held.stop).ok()
         },
         move || -> Option<Seat<Two<A, B, C, D>>>
             requires { spec.now ≡ A.schema }

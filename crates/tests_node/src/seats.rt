@@ -125,16 +125,19 @@ fn told<R: Threads + Wait + Sync>(
 
 #[test]
 fn a_pin_shows_the_events_of_its_seat_and_closing_those_of_both(rt: HostRuntime) {
-    let Some((own, Ok(closed))) = told(&rt, rt.alloc(), true) else {
+    let Some((own, answer)) = told(&rt, rt.alloc(), true) else {
         panic!(rt; "no answer");
+    };
+    let Ok(closed) = answer else {
+        panic!(rt; "a refusal");
     };
     assert!(rt; own.as_slice() == [1_704_067_800_000, 1_704_070_200_000].as_slice());
     assert!(rt; closed.stream.len() == 3);
     assert!(rt; closed.mine.as_slice() == [2, 1].as_slice());
-    let (Some(first), Some(second)) = (
-        times_of(rt.alloc(), &closed.stream, 0),
-        times_of(rt.alloc(), &closed.stream, 1),
-    ) else {
+    let Some(first) = times_of(rt.alloc(), &closed.stream, 0) else {
+        panic!(rt; "no memory");
+    };
+    let Some(second) = times_of(rt.alloc(), &closed.stream, 1) else {
         panic!(rt; "no memory");
     };
     assert!(rt; first.as_slice() == [1_704_067_800_000, 1_704_070_200_000].as_slice());
@@ -143,7 +146,10 @@ fn a_pin_shows_the_events_of_its_seat_and_closing_those_of_both(rt: HostRuntime)
 
 #[test]
 fn closing_without_a_seat_is_refused(rt: HostRuntime) {
-    let Some((_, Err(error))) = told(&rt, rt.alloc(), false) else {
+    let Some((_own, answer)) = told(&rt, rt.alloc(), false) else {
+        panic!(rt; "no answer");
+    };
+    let Err(error) = answer else {
         panic!(rt; "no refusal");
     };
     assert!(rt; error == NodeError::HistoryMismatch);

@@ -18,8 +18,9 @@ pub fn wait_for(flag: &AtomicBool) -> bool {
 /// A policy that names the first two ranges once, and stops its merger at its next turn. It is held until another thread has
 /// answered, while it is asked or once the job is planned.
 #[derive(Drop)]
-pub struct Once<'a> {
-    stop: &'a Stop,
+pub struct Once {
+    /// What its merger is stopped by.
+    pub stop: Stop,
     while_asked: bool,
     asked: AtomicBool,
     /// Whether it is held, or was.
@@ -30,10 +31,10 @@ pub struct Once<'a> {
     pub late: AtomicBool,
 }
 
-impl<'a> Once<'a> {
-    pub fn new(stop: &'a Stop, while_asked: bool) -> Once<'a> {
+impl Once {
+    pub fn new(while_asked: bool) -> Once {
         Once {
-            stop,
+            stop: Stop::new(),
             while_asked,
             asked: AtomicBool::new(false),
             entered: AtomicBool::new(false),
@@ -49,7 +50,7 @@ impl<'a> Once<'a> {
     }
 }
 
-impl<'a> Policy for Once<'a> {
+impl Policy for Once {
     fn next(&self, _ranges: &[RangeInfo]) -> Option<(i64, usize, usize, Purpose)> {
         if self.asked.swap(true, Ordering::SeqCst) {
             self.stop.stop();

@@ -1,7 +1,7 @@
 use dr_ask::Query;
 use dr_base::{Key, Numbers, Row, Text, Texts};
-use dr_image::SegmentView;
-use dr_scan::{ScanEntry, Segment, SegmentRows, scan, scan_text};
+use dr_fragment::{Fragment, PinnedFragment, SharedFragment};
+use dr_scan::{ScanEntry, Segment, scan, scan_text};
 use dr_spec::IngestSpec;
 use std::alloc::{AllocError, Global};
 use std::test::Fail;
@@ -58,23 +58,25 @@ fn two_rows(alloc: Global) -> Result<Vec<Row>, AllocError> {
     Ok(rows)
 }
 
-// Whether a scan over these rows gives this text.
-fn scans(alloc: Global, rows: SegmentRows<'_>, query: &[u8], expected: &[u8]) -> Option<bool> {
+// The image as a snapshot holds it.
+fn pinned_image(alloc: Global) -> Option<PinnedFragment> {
+    let bytes = hex::decode(alloc, IMAGE).ok()?;
+    let fragment = Fragment::of_image(bytes).ok()?;
+    let shared = SharedFragment::new(alloc, fragment).ok()?;
+    Some(PinnedFragment::sealed(shared))
+}
+
+// Whether a scan over the image gives this text.
+fn scans_image(alloc: Global, query: &[u8], expected: &[u8]) -> Option<bool> {
     let query = query_of(alloc, query)?;
     let identifier = Text::from_str(alloc, "s").ok()?;
-    let text = scan(alloc, &query, &[Segment { identifier, rows }]).ok()?;
+    let fragment = pinned_image(alloc)?;
+    let segment = Segment {
+        identifier,
+        fragment: &fragment,
+    };
+    let text = scan(alloc, &query, &[segment]).ok()?;
     Some(text.as_slice() == expected)
-}
-
-fn scans_rows(alloc: Global, query: &[u8], expected: &[u8]) -> Option<bool> {
-    let rows = two_rows(alloc).ok()?;
-    scans(alloc, SegmentRows::of_rows(&rows), query, expected)
-}
-
-fn scans_image(alloc: Global, query: &[u8], expected: &[u8]) -> Option<bool> {
-    let bytes = hex::decode(alloc, IMAGE).ok()?;
-    let view = SegmentView::open(&bytes).ok()?;
-    scans(alloc, SegmentRows::of_image(view), query, expected)
 }
 
 // Whether the text of an entry of two rows is this one.
@@ -87,21 +89,12 @@ fn writes(alloc: Global, query: &[u8], expected: &[u8]) -> Option<bool> {
 }
 
 #[test]
-fn rows_are_scanned(rt: HostRuntime) -> Result<(), Fail> {
-    let alloc = rt.alloc();
-    assert!(rt; scans_rows(alloc, LISTS, LISTS_OF_TWO) == Some(true));
-    assert!(rt; scans_rows(alloc, OF_PAGE_B, B_ALONE) == Some(true));
-    assert!(rt; scans_rows(alloc, LAST_FIRST, THE_LAST) == Some(true));
-    assert!(rt; scans_rows(alloc, TIMESERIES, b"[]") == Some(true));
-    Ok(())
-}
-
-#[test]
 fn an_image_is_scanned(rt: HostRuntime) -> Result<(), Fail> {
     let alloc = rt.alloc();
     assert!(rt; scans_image(alloc, LISTS, LISTS_OF_TWO) == Some(true));
     assert!(rt; scans_image(alloc, OF_PAGE_B, B_ALONE) == Some(true));
     assert!(rt; scans_image(alloc, LAST_FIRST, THE_LAST) == Some(true));
+    assert!(rt; scans_image(alloc, TIMESERIES, b"[]") == Some(true));
     Ok(())
 }
 

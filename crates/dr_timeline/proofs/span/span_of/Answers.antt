@@ -1,19 +1,31 @@
-use Rattle.std.proofs.Common.{◌≡◌, ◌∙◌, sym, Some, rules, FitsSigned, w64, ◌<◌, length, arith}
+use Rattle.std.proofs.Common.{◌≡◌, ◌∙◌, sym, ap, subst, map, rules, ℤ, w64, FitsSigned, Option, Some, None}
 use Rattle.std.proofs.lemmas.Int.{to_z-of_z}
-use Rattle.dr_answers.specs.Span.{wider}
-use Rattle.dr_timeline.proofs.Pinning.{span-more, lies-in}
+use Rattle.dr_timeline.proofs.Times.{EndsAtInstants}
+use Rattle.dr_timeline.proofs.Spans.{ends-times, span-times, span_truncated}
 use Rattle.dr_timeline.proofs.span.span_of.Goals as goal
 
 pub row_time-requires : goal.row_time-requires
 row_time-requires c =
-    let lt : c.loop-place.place < length c.args.events.now.items = omega (arith, c.loop-place-test.true, c.len-place-end.ensures) in
-    (lies-in c.args.schema.now c.args.events.now.items c.loop-place.place c.at.result.now lt c.at.ensures c.requires).time
+    let ends : EndsAtInstants (Some (c.in-Some.least, c.in-Some.greatest)) = subst EndsAtInstants (sym c.times.ensures ∙ c.in-Some.is) (ends-times c.args.schema.now c.args.events.now.items c.requires) in
+    let fits : FitsSigned w64 c.in-Some.least = search rules in
+    rw (to_z-of_z w64 c.in-Some.least fits) ends.0
 
-pub loop-place-preserved : goal.loop-place-preserved
-loop-place-preserved c =
-    let fits : FitsSigned w64 c.row_time.result = search rules in
-    let lt : c.loop-place.place < length c.args.events.now.items = omega (arith, c.loop-place-test.true, c.len-place-end.ensures) in
-    let time = c.row_time.ensures in
-    let wide = rw (to_z-of_z w64 c.row_time.result fits) at c.wider-span.ensures in
-    wide ∙ (λ i. wider (c.loop-place.invariant i) (Some (time i, time i)))
-    ∙ sym (span-more c.args.schema.now c.args.events.now.items c.loop-place.place c.at.result.now lt c.at.ensures)
+pub row_time-requires-in-Some : goal.row_time-requires-in-Some
+row_time-requires-in-Some c =
+    let ends : EndsAtInstants (Some (c.in-Some.least, c.in-Some.greatest)) = subst EndsAtInstants (sym c.times.ensures ∙ c.in-Some.is) (ends-times c.args.schema.now c.args.events.now.items c.requires) in
+    let fits : FitsSigned w64 c.in-Some.greatest = search rules in
+    rw (to_z-of_z w64 c.in-Some.greatest fits) ends.1
+
+pub returns-in-None : goal.returns-in-None
+returns-in-None c = sym (span-times c.args.schema.now c.args.events.now.items c.requires ∙ ap (span_truncated c.args.schema.now.query_granularity) (sym c.times.ensures ∙ c.in-None.is))
+
+pub returns-in-Some : goal.returns-in-Some
+returns-in-Some c =
+    let least : FitsSigned w64 c.in-Some.least = search rules in
+    let greatest : FitsSigned w64 c.in-Some.greatest = search rules in
+    let first : FitsSigned w64 c.row_time.result = search rules in
+    let second : FitsSigned w64 c.row_time-in-Some.result = search rules in
+    let from = rw (to_z-of_z w64 c.in-Some.least least) at c.row_time.ensures in
+    let to = rw (to_z-of_z w64 c.in-Some.greatest greatest) at c.row_time-in-Some.ensures in
+    rw (to_z-of_z w64 c.row_time.result first, to_z-of_z w64 c.row_time-in-Some.result second)
+    ((λ i. Some (from i, to i)) ∙ sym (span-times c.args.schema.now c.args.events.now.items c.requires ∙ ap (span_truncated c.args.schema.now.query_granularity) (sym c.times.ensures ∙ c.in-Some.is)))

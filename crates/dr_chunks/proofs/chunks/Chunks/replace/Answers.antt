@@ -27,7 +27,7 @@ invariant_of-self c =
     let k = c.args.start in
     let es = c.self.inside.0.entries in
     let x = c.unwrap-chunk.result.now in
-    let n = record x { sealed = c.replace.new.self } in
+    let n = record x { sealed = c.replace.new.self; publications = c.args.publications } in
     let there = sym (rw (to_z-of_z w64 k c.ranges.start, c.unwrap-chunk.ensures) at c.get_mut.ensures.value) in
     let written = rw (to_z-of_z w64 k c.ranges.start) at (c.get_mut.follows.holds n).0 in
     subst (λ l. AllByRecursion (λ e. e.1.start ≡ e.0) l) (sym written) (keyed-written k es n c.self.invariant (kept-start k es x n c.self.invariant there refl))
@@ -37,10 +37,10 @@ returns c = λ schema.
     let k = c.args.start in
     let es = c.self.inside.0.entries in
     let x = c.unwrap-chunk.result.now in
-    let n = record x { sealed = c.replace.new.self } in
-    let change = with_range c.args.place c.args.count c.args.range in
+    let n = record x { sealed = c.replace.new.self; publications = c.args.publications } in
+    let change = with_range c.args.place c.args.count c.args.publications c.args.range in
     let there = sym (rw (to_z-of_z w64 k c.ranges.start, c.unwrap-chunk.ensures) at c.get_mut.ensures.value) in
     let written = rw (to_z-of_z w64 k c.ranges.start) at (c.get_mut.follows.holds n).0 in
     ap values_of written
-    ∙ written-over k schema es change x n c.self.invariant c.get_mut.ensures.ordered there (ap (λ (ss : List SealedRange). record x { sealed = ss }) c.replace.ensures)
+    ∙ written-over k schema es change x n c.self.invariant c.get_mut.ensures.ordered there (ap (λ (ss : List SealedRange). record x { sealed = ss; publications = c.args.publications }) c.replace.ensures)
     ∙ ap (at_start schema change k) c.self.view_is

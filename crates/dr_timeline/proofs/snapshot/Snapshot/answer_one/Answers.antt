@@ -8,18 +8,16 @@ use Rattle.dr_partial.specs.Partial.{partial}
 use Rattle.dr_fragment.specs.declared.fragment.Fragment.{Fragment}
 use Rattle.dr_cuts.specs.RawAnswer.{raw_answer}
 use Rattle.dr_cuts.specs.Segments.{Pinned, rows_of}
+use Rattle.dr_workers.specs.Shared as shared
 use Rattle.dr_timeline.specs.Answering.{answer_from}
-use Rattle.dr_timeline.proofs.PartialAnswers.{answer-partial}
-use Rattle.dr_timeline.proofs.Pinning.{held-rows}
-use Rattle.dr_timeline.proofs.ShownRows.{times-shown, span-shown, answer-shown}
+use Rattle.dr_timeline.proofs.ShownRows.{times-shown, answer-own, answer-raw}
 use Rattle.dr_timeline.proofs.Times.{AtInstants, EndsAtInstants, ends-unrolled}
 use Rattle.dr_timeline.proofs.snapshot.Snapshot.answer_one.Goals as goal
 
-pub of_rows-requires : goal.of_rows-requires
-of_rows-requires c =
+pub scatter_one-requires : goal.scatter_one-requires
+scatter_one-requires c =
     let s = c.self.inside in
-    let lent = ap all_rows (ap (map (λ p. p.now)) c.deref-2.ensures.value ∙ c.in_ok-pieces.ensures ∙ c.deref.ensures.value ∙ c.in_ok-rows.ensures ∙ ap (map (λ (f : Fragment). f.rows)) c.as_slice.ensures) in
-    subst AtInstants (sym lent) (times-shown s.schema s.stream.items (map (λ (f : Fragment). f.rows) s.fragments) s.ranges.items c.self.invariant)
+    subst AtInstants (ap shared.rows_of (sym c.as_slice.ensures)) (times-shown s.schema s.stream.items (map (λ (f : Fragment). f.rows) s.fragments) s.ranges.items c.self.invariant)
 
 pub answer-requires-clause-span : goal.answer-requires-clause-span
 answer-requires-clause-span c =
@@ -29,26 +27,20 @@ pub returns-clause-own_rows : goal.returns-clause-own_rows
 returns-clause-own_rows c =
     let s = c.self.inside in
     let q : Asked = asked c.args.query.now in
-    let lent = ap all_rows (ap (map (λ p. p.now)) c.deref-2.ensures.value ∙ c.in_ok-pieces.ensures ∙ c.deref.ensures.value ∙ c.in_ok-rows.ensures ∙ ap (map (λ (f : Fragment). f.rows)) c.as_slice.ensures) in
-    let own : all_rows (map (λ (f : Fragment). f.rows) s.fragments) ≡ rows_of c.args.self.now = held-rows s.schema s.stream.items (map (λ (f : Fragment). f.rows) s.fragments) s.ranges.items c.self.invariant.rows ∙ ap rows_of c.self.view_is in
-    let made : c.in_ok-partial.partial ≡ partial q (all_rows (map (λ (f : Fragment). f.rows) s.fragments)) = c.in_ok-partial.ensures.value ∙ ap (partial q) lent in
-    let spans : c.span.result ≡ span (all_rows (map (λ (f : Fragment). f.rows) s.fragments)) =
-    c.span.ensures ∙ sym (ap (λ (p : Pinned). span (map (unrolled p.schema) p.stream)) c.self.view_is) ∙ sym (span-shown s.schema s.stream.items (map (λ (f : Fragment). f.rows) s.fragments) s.ranges.items c.self.invariant) in
+    let spans = c.span.ensures ∙ sym (ap (λ (p : Pinned). span (map (unrolled p.schema) p.stream)) c.self.view_is) in
+    let made = c.in_ok-partial.ensures.value ∙ ap (λ fs. partial q (shared.rows_of fs)) c.as_slice.ensures in
     let from : answer_from q c.span.result c.in_ok-partial.partial ≡ answer q (rows_of c.args.self.now) =
-    (λ i. answer_from q (spans i) (made i)) ∙ sym (answer-partial q (all_rows (map (λ (f : Fragment). f.rows) s.fragments))) ∙ ap (answer q) own in
+    answer-own s.schema s.stream.items (map (λ (f : Fragment). f.rows) s.fragments) s.ranges.items c.self.invariant q c.span.result c.in_ok-partial.partial spans made ∙ ap (λ (p : Pinned). answer q (rows_of p)) c.self.view_is in
     rw (← from) c.answer.ensures
 
 pub returns-clause-raw_where_matching : goal.returns-clause-raw_where_matching
 returns-clause-raw_where_matching c = λ matches.
     let s = c.self.inside in
     let q : Asked = asked c.args.query.now in
-    let lent = ap all_rows (ap (map (λ p. p.now)) c.deref-2.ensures.value ∙ c.in_ok-pieces.ensures ∙ c.deref.ensures.value ∙ c.in_ok-rows.ensures ∙ ap (map (λ (f : Fragment). f.rows)) c.as_slice.ensures) in
     let for_schema = rw (← c.self.view_is) at c.requires in
-    let made : c.in_ok-partial.partial ≡ partial q (all_rows (map (λ (f : Fragment). f.rows) s.fragments)) = c.in_ok-partial.ensures.value ∙ ap (partial q) lent in
-    let spans : c.span.result ≡ span (all_rows (map (λ (f : Fragment). f.rows) s.fragments)) =
-    c.span.ensures ∙ sym (ap (λ (p : Pinned). span (map (unrolled p.schema) p.stream)) c.self.view_is) ∙ sym (span-shown s.schema s.stream.items (map (λ (f : Fragment). f.rows) s.fragments) s.ranges.items c.self.invariant) in
+    let spans = c.span.ensures ∙ sym (ap (λ (p : Pinned). span (map (unrolled p.schema) p.stream)) c.self.view_is) in
+    let made = c.in_ok-partial.ensures.value ∙ ap (λ fs. partial q (shared.rows_of fs)) c.as_slice.ensures in
     let from : answer_from q c.span.result c.in_ok-partial.partial ≡ raw_answer c.args.self.now.schema q c.args.self.now.stream =
-    (λ i. answer_from q (spans i) (made i)) ∙ sym (answer-partial q (all_rows (map (λ (f : Fragment). f.rows) s.fragments)))
-    ∙ answer-shown s.schema s.stream.items (map (λ (f : Fragment). f.rows) s.fragments) s.ranges.items c.self.invariant q for_schema matches
+    answer-raw s.schema s.stream.items (map (λ (f : Fragment). f.rows) s.fragments) s.ranges.items c.self.invariant q c.span.result c.in_ok-partial.partial spans made for_schema matches
     ∙ ap (λ (p : Pinned). raw_answer p.schema q p.stream) c.self.view_is in
     rw (← from) c.answer.ensures

@@ -6,16 +6,18 @@ use Rattle.dr_schema.specs.declared.limits.Limits.{Limits}
 use Rattle.dr_chunks.specs.declared.chunk.Chunk.{Chunk}
 use Rattle.dr_chunks.specs.declared.sealed_range.SealedRange.{SealedRange}
 use Rattle.dr_cuts.specs.State.{State, sealed_in}
-use Rattle.dr_timeline.specs.Steps.{StandsAt, least_version, joined_range, committed}
+use Rattle.dr_timeline.specs.Steps.{StandsAt, publications_after, version_for, joined_range, committed}
 use Rattle.dr_merge.specs.Joined.{joined_fragment}
 use Rattle.dr_chunks.specs.Held.{chunk_at, chunk_in, at_start, with_range, range_of, ranges_of}
-use Rattle.dr_timeline.specs.Kept.{StandsIn}
+use Rattle.dr_timeline.specs.Kept.{StandsIn, IsNumbered}
+use Rattle.dr_timeline.proofs.Numbering.{numbered-chunk_at}
+use Rattle.dr_timeline.proofs.Keeping.{rising-starts}
 use Rattle.dr_chunks.proofs.Places.{chunk_at-in, chunk_at-none, place-found}
 use Rattle.dr_chunks.proofs.Changes.{sealed_in-cuts}
-use Rattle.dr_timeline.proofs.Standing.{seen, stands-at, stands-in, keeps-merged, state-merged, shown-part}
+use Rattle.dr_timeline.proofs.Standing.{seen, stands-at, stands-in, keeps-merged, state-merged, shown-part, shown-publications}
 use Rattle.dr_timeline.proofs.Placing.{commit-stale, commit-full, commit-ok}
 use Rattle.dr_timeline.proofs.timeline.Timeline.commit.Goals as goal
-use Rattle.dr_timeline.proofs.timeline.Timeline.commit.Goals.{After-as_slice-sealed, In-Some-place_of_job, After-replace}
+use Rattle.dr_timeline.proofs.timeline.Timeline.commit.Goals.{After-as_slice-sealed, In-Some-place_of_job, After-version_for-version, After-replace}
 
 -- ---- there is no such chunk
 
@@ -125,17 +127,40 @@ room c =
     let most : c.limits-limits.result.max_commits ≡ c.self.inside.spec.limits.max_commits = ap (λ (l : Limits). l.max_commits) c.limits-limits.ensures ∙ ap (λ (x : Schema). x.limits.max_commits) c.schema.ensures.value in
     omega (arith, most, c.if-self-limits.false)
 
+-- the chunk has fewer publications than a counter takes
+pub publications_after-publications-requires : goal.publications_after-publications-requires
+publications_after-publications-requires c =
+    let t = c.self.inside in
+    let k = c.self.invariant in
+    let numbered = subst (IsNumbered t.commits) (there_now (goal.at.publications_after-publications-requires c).In-Some-place_of_job) (numbered-chunk_at t.spec t.chunks c.args.job.now.chunk t.commits k.numbered (rising-starts t.spec t.stream.items t.chunks k.starts)) in
+    let few = numbered.publications in
+    let commits = k.commits in
+    let most = k.formed.limits.few_commits in
+    omega arith
+
+-- how many publications there are then, and the version
+after : (c : After-version_for-version) → c.publications_after-publications.result ≡ publications_after c.args.job.now.purpose c.in-Some.there.now.publications
+after c = c.publications_after-publications.ensures
+
+numbered_so : (c : After-version_for-version) → c.version_for-version.result ≡ version_for c.args.job.now.purpose (publications_after c.args.job.now.purpose c.in-Some.there.now.publications) (map range_of (take (length c.args.job.now.inputs) (drop c.in-Some-place_of_job.place c.in-Some.there.now.sealed)))
+numbered_so c =
+    let sealed : c.as_slice-sealed.result.now ≡ c.in-Some.there.now.sealed = c.as_slice-sealed.ensures in
+    let len = c.len-count.ensures in
+    let taken : c.in-Some-place_of_job.place + c.len-count.result - c.in-Some-place_of_job.place ≡ length c.args.job.now.inputs = omega arith in
+    let publications = after c in
+    c.version_for-version.ensures ∙ (λ i. version_for c.args.job.now.purpose (publications i) (map range_of (take (taken i) (drop c.in-Some-place_of_job.place (sealed i)))))
+
 -- the new range
 abbrev joined_there : After-replace → SealedRange
-joined_there c = record { serial = c.self.inside.seals + c.self.inside.commits; version = c.least_version-version.result; fragment = c.in_ok-new.field-0 }
+joined_there c = record { serial = c.self.inside.seals + c.self.inside.commits; version = c.version_for-version.result; fragment = c.in_ok-new.field-0 }
 
 is_joined : (c : After-replace) → c.in_ok-new.field-0 ≡ joined_fragment c.self.inside.spec c.args.job.now
 is_joined c = c.in_ok-new.ensures.ok ∙ c.requires ∙ ap (λ (s : State). joined_fragment s.schema c.args.job.now) (sym c.self.view_is)
 
-changed : (c : After-replace) → c.replace.new.self ≡ at_start c.self.inside.spec (with_range c.in-Some-place_of_job.place (length c.args.job.now.inputs) (joined_there c)) c.args.job.now.chunk c.self.inside.chunks
+changed : (c : After-replace) → c.replace.new.self ≡ at_start c.self.inside.spec (with_range c.in-Some-place_of_job.place (length c.args.job.now.inputs) (publications_after c.args.job.now.purpose c.in-Some.there.now.publications) (joined_there c)) c.args.job.now.chunk c.self.inside.chunks
 changed c =
     let fits : FitsSigned w64 c.args.job.now.chunk = search rules in
-    rw (to_z-of_z w64 c.args.job.now.chunk fits, c.len-count.ensures) at (c.replace.ensures c.self.inside.spec)
+    rw (to_z-of_z w64 c.args.job.now.chunk fits, c.len-count.ensures, c.publications_after-publications.ensures) at (c.replace.ensures c.self.inside.spec)
 
 pub invariant_of-self : goal.invariant_of-self
 invariant_of-self c =
@@ -145,7 +170,7 @@ invariant_of-self c =
     let at = place-found t.chunks c.args.job.now.chunk c.in-Some.there.now (found at_chunk) in
     rw (changed new)
     (keeps-merged t.spec t.stream.items t.chunks t.seals t.commits c.args.job.now c.in-Some.there.now at.0 c.in-Some-place_of_job.place (joined_there new) c.self.invariant (there at_chunk) at.1 at.2 at.3
-    (stands_in (goal.at.invariant_of-self c).In-Some-place_of_job) (is_joined new) (room new))
+    (stands_in (goal.at.invariant_of-self c).In-Some-place_of_job) (is_joined new) (numbered_so (goal.at.invariant_of-self c).After-version_for-version) (room new))
 
 pub returns-clause-ok : goal.returns-clause-ok
 returns-clause-ok c =
@@ -155,12 +180,10 @@ returns-clause-ok c =
     let made = (goal.at.returns-clause-ok c).After-replace in
     let x : Chunk = c.in-Some.there.now in
     let before : State = seen t.spec t.stream.items t.chunks (t.seals + t.commits) t.commits t.unparseable t.thrown_away in
-    let sealed : c.as_slice-sealed.result.now ≡ x.sealed = c.as_slice-sealed.ensures in
-    let len = c.len-count.ensures in
-    let taken : c.in-Some-place_of_job.place + c.len-count.result - c.in-Some-place_of_job.place ≡ length c.args.job.now.inputs = omega arith in
-    let version : c.least_version-version.result ≡ (joined_range before c.args.job.now c.in-Some-place_of_job.place).version =
-    c.least_version-version.ensures ∙ (λ i. least_version (map range_of (take (taken i) (drop c.in-Some-place_of_job.place (sealed i)))))
-    ∙ ap least_version (sym (shown-part t.spec t.stream.items t.chunks (t.seals + t.commits) t.commits t.unparseable t.thrown_away c.args.job.now.chunk x c.in-Some-place_of_job.place (length c.args.job.now.inputs) (there at_chunk))) in
+    let publications = sym (shown-publications t.spec t.chunks c.args.job.now.chunk x (there at_chunk)) in
+    let ranges = sym (shown-part t.spec t.stream.items t.chunks (t.seals + t.commits) t.commits t.unparseable t.thrown_away c.args.job.now.chunk x c.in-Some-place_of_job.place (length c.args.job.now.inputs) (there at_chunk)) in
+    let version : c.version_for-version.result ≡ (joined_range before c.args.job.now c.in-Some-place_of_job.place).version =
+    numbered_so (goal.at.returns-clause-ok c).After-version_for-version ∙ (λ i. version_for c.args.job.now.purpose (publications_after c.args.job.now.purpose (publications i)) (ranges i)) in
     let is = is_joined made in
     let range : range_of (joined_there made) ≡ joined_range before c.args.job.now c.in-Some-place_of_job.place = λ i. record { from = (is i).from; to = (is i).to; serial = t.seals + t.commits; version = version i } in
     let shown : seen t.spec t.stream.items c.replace.new.self (t.seals + (t.commits + 1)) (t.commits + 1) t.unparseable t.thrown_away ≡ committed before c.args.job.now c.in-Some-place_of_job.place =
@@ -176,5 +199,5 @@ returns-clause-ok c =
 
 pub returns-clause-step : goal.returns-clause-step
 returns-clause-step c =
-    commit-ok c.args.self.now _ c.args.job.now c.least_version-version.result (returns-clause-ok c)
+    commit-ok c.args.self.now _ c.args.job.now c.version_for-version.result (returns-clause-ok c)
     (subst (λ (s : State). s.commits < s.schema.limits.max_commits) c.self.view_is (room (goal.at.returns-clause-step c).After-replace))

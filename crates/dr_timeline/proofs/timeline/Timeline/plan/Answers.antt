@@ -1,4 +1,4 @@
-use Rattle.std.proofs.Common.{◌≡◌, ◌∙◌, sym, ap, subst, refl, ◌≤◌, Ok, map, take, drop, w64, arith, length, get_or, ◌-◌, ◌+◌, List}
+use Rattle.std.proofs.Common.{◌≡◌, ◌∙◌, sym, ap, subst, refl, ◌≤◌, Ok, map, take, drop, w64, arith, length, ◌-◌, ◌+◌, List}
 use Rattle.std.proofs.lemmas.Int.{to_z-of_z}
 use Rattle.std.proofs.lemmas.Result.{err_from_is_err_and}
 use Rattle.dr_chunks.specs.declared.chunk.Chunk.{Chunk}

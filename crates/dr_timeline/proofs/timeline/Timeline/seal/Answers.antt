@@ -1,7 +1,6 @@
-use Rattle.std.proofs.Common.{◌≡◌, ◌∙◌, sym, ap, refl, true, Some, is_some, Ok, [], w64, rules, get_or, ◌+◌, List}
+use Rattle.std.proofs.Common.{◌≡◌, ◌∙◌, sym, ap, refl, true, Some, Ok, [], w64, rules, ◌+◌}
 use Rattle.std.proofs.lemmas.Int.{to_z-of_z}
 use Rattle.std.proofs.lemmas.Result.{err_from_is_err_and}
-use Rattle.dr_chunks.specs.declared.chunk.Chunk.{Chunk}
 use Rattle.dr_cuts.specs.State.{State}
 use Rattle.dr_timeline.specs.Steps.{sealed_at, open_in}
 use Rattle.dr_chunks.specs.Held.{chunk_at, chunk_in, has_open, at_start, with_open_sealed}

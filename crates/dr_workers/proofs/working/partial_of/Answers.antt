@@ -1,0 +1,28 @@
+use Rattle.std.proofs.Common.{◌∙◌, ap, subst, take}
+use Rattle.std.proofs.lemmas.List.{take_all}
+use Rattle.dr_base.specs.declared.row.Row.{Row}
+use Rattle.dr_time.specs.Instant.{IsInstant}
+use Rattle.dr_ask.specs.Asked.{asked}
+use Rattle.dr_partial.specs.Partial.{partial}
+use Rattle.dr_workers.specs.Shared.{rows_of, IsFoldOf}
+use Rattle.dr_workers.proofs.Rows.{rows-more, in-range}
+use Rattle.dr_workers.proofs.working.partial_of.Goals as goal
+
+pub of_fragment-requires : goal.of_fragment-requires
+of_fragment-requires g c =
+    in-range (λ (r : Row). IsInstant r.key.time) c.args.fragments.now c.loop-i.i c.index-fragments-i.result c.loop-i-test.true c.index-fragments-i.is c.requires
+
+pub merge-requires-clause-own : goal.merge-requires-clause-own
+merge-requires-clause-own g c = (rows_of (take c.loop-i.i c.args.fragments.now), c.loop-i.invariant.0)
+
+pub loop-i-preserved : goal.loop-i-preserved
+loop-i-preserved g c =
+    let before = rows_of (take c.loop-i.i c.args.fragments.now) in
+    let rows = c.index-fragments-i.result.rows in (
+      c.in_ok-groups-2.ensures.value before rows c.loop-i.invariant.0 c.in_ok-more.ensures.value
+      ∙ ap (partial (asked c.args.query.now)) (rows-more c.args.fragments.now c.loop-i.i c.index-fragments-i.result c.loop-i-test.true c.index-fragments-i.is),
+      λ starts. c.in_ok-groups-2.ensures.printable (c.loop-i.invariant.1 starts) (c.in_ok-more.ensures.printable starts),
+    )
+
+pub returns : goal.returns
+returns g c = subst (λ fs. IsFoldOf c.args.query.now (rows_of fs) c.loop-i.groups) (take_all c.loop-i.i c.args.fragments.now c.loop-i-test.false) c.loop-i.invariant

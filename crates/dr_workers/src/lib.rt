@@ -1,0 +1,13 @@
+//! The partial result of a timeseries or groupBy over the ranges of a snapshot: that of each range in turn, merged from the first to
+//! the last. A gate is entered before each.
+#![tactic(auto)]
+
+mod gate;
+mod one;
+mod open_gate;
+mod working;
+
+pub use gate::Gate;
+pub use one::{scatter_here, scatter_one};
+pub use open_gate::OpenGate;
+pub use working::partial_of;

@@ -1,0 +1,45 @@
+ghost use Rattle.std.specs.Prelude.{◌≡◌, IfOk};
+ghost use Rattle.std.specs.List.{All, AllByRecursion};
+ghost use Rattle.dr_ask.specs.Asked.{asked};
+ghost use Rattle.dr_intervals.specs.Printable.{StartsPrintable};
+ghost use Rattle.dr_partial.specs.Partial.{partial};
+ghost use Rattle.dr_time.specs.Instant.{IsInstant};
+ghost use Rattle.dr_time.specs.Printed.{IsPrintable};
+ghost use Rattle.dr_workers.specs.Shared.{rows_of};
+
+use crate::gate::Gate;
+use crate::open_gate::OpenGate;
+use crate::working::partial_of;
+use dr_ask::Query;
+use dr_fragment::PinnedFragment;
+use dr_partial::Partial;
+use std::alloc::{AllocError, Global};
+
+/// The groups of a timeseries or groupBy over the rows of all ranges, whose times lie from 0001-01-01 to 9999-12-31, by this
+/// thread alone: those of each range in turn, merged from the first to the last. The only error is that memory ran out. It
+/// takes the expected time that [`Partial::of_fragment`] takes for each range, and that merging takes; and memory by the groups.
+pub fn scatter_one(
+    alloc: Global,
+    query: &Query,
+    fragments: &[PinnedFragment],
+) -> Result<Partial, AllocError>
+    requires { AllByRecursion (λ r. IsInstant r.key.time) (rows_of fragments.now) }
+    ensures value { IfOk result (λ p. p ≡ partial (asked query.now) (rows_of fragments.now)) }
+    ensures printable { All StartsPrintable query.now.intervals → IfOk result (λ p. AllByRecursion (λ g. IsPrintable g.key.time) p) }
+{
+    scatter_here(alloc, query, fragments, &OpenGate)
+}
+
+/// What [`scatter_one`] gives, with the gate entered before each range.
+pub fn scatter_here<G: Gate>(
+    alloc: Global,
+    query: &Query,
+    fragments: &[PinnedFragment],
+    gate: &G,
+) -> Result<Partial, AllocError>
+    requires { AllByRecursion (λ r. IsInstant r.key.time) (rows_of fragments.now) }
+    ensures value { IfOk result (λ p. p ≡ partial (asked query.now) (rows_of fragments.now)) }
+    ensures printable { All StartsPrintable query.now.intervals → IfOk result (λ p. AllByRecursion (λ g. IsPrintable g.key.time) p) }
+{
+    partial_of(alloc, query, 0, fragments, gate)
+}

@@ -1,0 +1,32 @@
+ghost use Rattle.std.specs.Prelude.{IfOk};
+ghost use Rattle.std.specs.List.{AllByRecursion};
+ghost use Rattle.dr_time.specs.Instant.{IsInstant};
+ghost use Rattle.dr_workers.specs.Shared.{rows_of, IsFoldOf};
+
+use crate::gate::Gate;
+use dr_ask::Query;
+use dr_fragment::PinnedFragment;
+use dr_partial::Partial;
+use std::alloc::{AllocError, Global};
+
+/// The groups of the rows of ranges that stand next to each other, of which the first has that number among all of them: those
+/// of each range in turn, before which the gate is entered, merged from the first to the last. The only error is that memory
+/// ran out.
+pub fn partial_of<G: Gate>(
+    alloc: Global,
+    query: &Query,
+    first: usize,
+    fragments: &[PinnedFragment],
+    gate: &G,
+) -> Result<Partial, AllocError>
+    requires { AllByRecursion (λ r. IsInstant r.key.time) (rows_of fragments.now) }
+    ensures { IfOk result (IsFoldOf query.now (rows_of fragments.now)) }
+{
+    let mut groups = Partial::of_rows(alloc, query, &[])?;
+    for i in 0..fragments.len() {
+        gate.enter(first.saturating_add(i));
+        let more = Partial::of_fragment(alloc, query, &fragments[i])?;
+        groups = groups.merge(query, more)?;
+    }
+    Ok(groups)
+}
