@@ -1,6 +1,7 @@
 -- What an act leaves as it was.
 use Rattle.std.proofs.Common.{◌≡◌, ◌∙◌, sym, ap, refl, subst, ℕ, ℤ, ◌<◌, ◌≤◌, List, All, Bool, true, false, cond, length, nat_le, Result, Ok, Err, inl, inr}
 use Rattle.std.specs.Prelude.{nat_eq, ◌⊎◌, Option, Some, None}
+use Rattle.std.specs.List.{AllByRecursion}
 use Rattle.dr_schema.specs.declared.schema_fields.SchemaFields.{SchemaFields}
 use Rattle.dr_schema.specs.declared.schema.Schema.{Schema}
 use Rattle.dr_base.specs.declared.event.Event.{Event}
@@ -15,7 +16,7 @@ use Rattle.dr_timeline.specs.declared.timeline_error.TimelineError.TheVariants.{
 use Rattle.dr_timeline.specs.Order.{HaveFewRows}
 use Rattle.dr_timeline.specs.Standing.{place_of}
 use Rattle.dr_timeline.specs.Stepping.{seal, commit, commit_at}
-use Rattle.dr_timeline.specs.Steps.{sealed_at, committed, open_in, joined_range}
+use Rattle.dr_timeline.specs.Steps.{HasVersions, sealed_at, committed, open_in, joined_range}
 use Rattle.dr_node.specs.Acting.{IsAtMostOneStep, AnswerAlike}
 use Rattle.dr_node.specs.Kept.{Held, IsKept, SerialsDiffer}
 use Rattle.dr_node.specs.Seats.{marked}
@@ -58,14 +59,15 @@ leaves old new step = elim step [
 ]
 
 -- what lies behind the lock is kept by an act
-pub kept-acted : (schema : SchemaFields) (seats : ℕ) (h : Held) (t : State) → IsKept schema seats h → IsAtMostOneStep h.timeline t → AreCuts t.schema t.stream t.cuts → HaveFewRows t.schema t.stream t.cuts
+pub kept-acted : (schema : SchemaFields) (seats : ℕ) (h : Held) (t : State) → IsKept schema seats h → IsAtMostOneStep h.timeline t → AreCuts t.schema t.stream t.cuts → HaveFewRows t.schema t.stream t.cuts → AllByRecursion HasVersions t.cuts
     → IsKept schema seats (record { timeline = t; mine = h.mine; floor = h.floor })
-kept-acted schema seats h t kept step cuts few =
+kept-acted schema seats h t kept step cuts few versions =
     let left : Leaves h.timeline t = leaves h.timeline t step in
     record {
       schema_is = left.schema ∙ kept.schema_is;
       cuts = cuts;
       few = few;
+      versions = versions;
       serials = left.serials kept.serials;
       marks = subst (λ (es : List Event). All (λ e. e.seat < seats) es) (sym left.stream) kept.marks;
       mine = λ k n at. subst (λ (es : List Event). length (marked k es) ≡ n) (sym left.stream) (kept.mine k n at);

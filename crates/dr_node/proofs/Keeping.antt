@@ -1,6 +1,7 @@
 -- What lies behind the lock stays as it should be, step by step.
 use Rattle.std.proofs.Common.{◌≡◌, ◌≢◌, ◌∙◌, sym, ap, refl, subst, ℕ, zero, suc, ◌+◌, ◌<◌, ◌≤◌, List, [], ◌∷◌, ◌++◌, length, true, false, Bool, cond, Some, arith, inl, inr, All, length-append}
 use Rattle.std.specs.Prelude.{nat_eq, ◌⊎◌, slice_get, set, replicate}
+use Rattle.std.specs.List.{AllByRecursion}
 use Rattle.std.proofs.lemmas.Bool.Decides.{nat_tests}
 use Rattle.std.proofs.lemmas.List.Elements.{All-append, All-cons, All-nil, filter-append}
 use Rattle.dr_base.specs.declared.event.Event.{Event}
@@ -8,7 +9,7 @@ use Rattle.dr_schema.specs.declared.schema_fields.SchemaFields.{SchemaFields}
 use Rattle.dr_cuts.specs.Chunks.{values_onto}
 use Rattle.dr_cuts.specs.State.{State, AreCuts, empty_state}
 use Rattle.dr_timeline.specs.Order.{HaveFewRows}
-use Rattle.dr_timeline.specs.Steps.{accepted, with_event}
+use Rattle.dr_timeline.specs.Steps.{accepted, with_event, HasVersions}
 use Rattle.dr_node.specs.Kept.{Held, IsKept, SerialsDiffer}
 use Rattle.dr_node.proofs.Serials.{differ-accepted}
 use Rattle.dr_node.specs.Seats.{marked}
@@ -56,6 +57,7 @@ empty-kept schema seats = record {
   cuts = record { chunks = refl; tiled = tt };
   few = tt;
   serials = record { once = λ n. omega arith; given = λ n le. refl };
+  versions = tt;
   marks = All-nil (λ (e : Event). e.seat < seats);
   mine = λ k n at. sym (get-zeros seats k n at);
   floor = λ k n at. let none = get-zeros seats k n at in omega arith;
@@ -73,6 +75,7 @@ kept-seen schema seats h p m f d kept own was most = record {
   cuts = kept.cuts;
   few = kept.few;
   serials = kept.serials;
+  versions = kept.versions;
   marks = kept.marks;
   mine = λ k n at. elim (set-get h.mine p (m + 0) k n at) [
     | inl here ↦ let marked-is = kept.mine p m own in let same = here.1 in rw here.0 (omega arith)
@@ -83,9 +86,9 @@ kept-seen schema seats h p m f d kept own was most = record {
 
 -- an event of a seat was accepted, and the seat has seen the stream up to it
 pub kept-accepted : (schema : SchemaFields) (seats : ℕ) (h : Held) (t : State) (e : Event) (p m f d : ℕ) → IsKept schema seats h → slice_get h.mine p ≡ Some m → slice_get h.floor p ≡ Some f
-    → t ≡ accepted h.timeline e → AreCuts t.schema t.stream t.cuts → HaveFewRows t.schema t.stream t.cuts → p ≡ e.seat → p < seats → f + d ≤ length h.timeline.stream + 1
+    → t ≡ accepted h.timeline e → AreCuts t.schema t.stream t.cuts → HaveFewRows t.schema t.stream t.cuts → AllByRecursion HasVersions t.cuts → p ≡ e.seat → p < seats → f + d ≤ length h.timeline.stream + 1
     → IsKept schema seats (record { timeline = t; mine = set h.mine p (m + 1); floor = set h.floor p (f + d) })
-kept-accepted schema seats h t e p m f d kept own was accepted-is cuts few mark-is within most =
+kept-accepted schema seats h t e p m f d kept own was accepted-is cuts few versions mark-is within most =
     let schema-is : t.schema ≡ h.timeline.schema = ap (λ (s : State). s.schema) accepted-is ∙ accepted-schema h.timeline e in
     let stream-is : t.stream ≡ h.timeline.stream ++ e ∷ [] = ap (λ (s : State). s.stream) accepted-is ∙ accepted-stream h.timeline e in
     let M : Event → Type 0 = λ x. x.seat < seats in
@@ -95,6 +98,7 @@ kept-accepted schema seats h t e p m f d kept own was accepted-is cuts few mark-
       schema_is = schema-is ∙ kept.schema_is;
       cuts = cuts;
       few = few;
+      versions = versions;
       serials = subst (λ (s : State). SerialsDiffer s.cuts s.serials) (sym accepted-is) (differ-accepted h.timeline e kept.serials);
       marks = subst (All M) (sym stream-is) (All-append M es (e ∷ []) kept.marks (All-cons M e [] (subst (λ n. n < seats) mark-is within) (All-nil M)));
       mine = λ k n at. subst (λ xs. length (marked k xs) ≡ n) (sym stream-is) (marked-push k es e ∙ elim (set-get h.mine p (m + 1) k n at) [

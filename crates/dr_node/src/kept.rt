@@ -64,6 +64,7 @@ impl<B: Books> Kept<B> {
         self.books.add(share, 0, 0);
         self.timeline.accept(event)?;
         self.timeline.in_order();
+        self.timeline.versions_are_publications();
         let count = self.timeline.stats().processed;
         self.books.add(share, 1, count - floor);
         Ok(count)
@@ -97,6 +98,7 @@ impl<B: Books> Kept<B> {
     {
         let answer = act.act(&mut self.timeline);
         self.timeline.in_order();
+        self.timeline.versions_are_publications();
         answers_over_cuts();
         answer
     }

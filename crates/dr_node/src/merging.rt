@@ -67,12 +67,7 @@ impl<B: Books> Node<B> {
     }
 
     // Plans a job, joins its fragments and commits it.
-    fn merge<R: Wait, P: Policy>(
-        &self,
-        rt: &R,
-        policy: &P,
-        plan: PlanAct,
-    ) -> Result<u64, NodeError>
+    fn merge<R: Wait, P: Policy>(&self, rt: &R, policy: &P, plan: PlanAct) -> Result<u64, NodeError>
         ensures { IfErr result (λ e. (e ≡ error.Timeline NoMemory) ⊎ (e ≡ error.Timeline NoSuchRange) ⊎ (e ≡ error.Merge merge.NoMemory) ⊎ (e ≡ error.Merge merge.ImageTooLarge) ⊎ (e ≡ error.Timeline Stale) ⊎ (e ≡ error.Timeline CommitsFull)) }
     {
         let job = self.apply(rt, plan)?;

@@ -122,8 +122,8 @@ impl<B: Books> Node<B> {
     }
 
     /// Makes an act on the node's timeline, and gives its answer. Before it and after it the ranges tile the list of each chunk,
-    /// open ranges have fewer rows than the spec's `maxRowsInMemory`, serials differ, each event has the mark of a seat, and the
-    /// counts of the seats are those of the stream. It changes no answer to a matching query. It may wait for the lock, and takes
+    /// open ranges have fewer rows than the spec's `maxRowsInMemory`, serials differ, no version is over the number of its chunk's
+    /// publications, each event has the mark of a seat, and the counts of the seats are those of the stream. It changes no answer to a matching query. It may wait for the lock, and takes
     /// what the act takes.
     pub fn apply<R: Wait, T: Act>(&self, rt: &R, act: T) -> T::Answer
         requires { T.needs act B.schema }

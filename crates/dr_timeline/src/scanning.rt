@@ -67,12 +67,6 @@ fn next_place(last: Option<(i64, u64)>, chunk: i64) -> u64
 {
     match last {
         None => 0,
-        Some((before, place)) => {
-            if before == chunk {
-                place + 1
-            } else {
-                0
-            }
-        }
+        Some((before, place)) => { if before == chunk { place + 1 } else { 0 } }
     }
 }

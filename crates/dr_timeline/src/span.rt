@@ -18,9 +18,7 @@ pub fn span_of(schema: &Schema, events: &Stream) -> Option<(i64, i64)>
 {
     match events.times() {
         None => None,
-        Some((least, greatest)) => {
-            Some((row_time(schema, least), row_time(schema, greatest)))
-        }
+        Some((least, greatest)) => { Some((row_time(schema, least), row_time(schema, greatest))) }
     }
 }
 

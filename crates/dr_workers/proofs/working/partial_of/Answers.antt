@@ -20,7 +20,7 @@ loop-i-preserved g c =
     let before = rows_of (take c.loop-i.i c.args.fragments.now) in
     let rows = c.index-fragments-i.result.rows in (
       c.in_ok-groups-2.ensures.value before rows c.loop-i.invariant.0 c.in_ok-more.ensures.value
-      ∙ ap (partial (asked c.args.query.now)) (rows-more c.args.fragments.now c.loop-i.i c.index-fragments-i.result c.loop-i-test.true c.index-fragments-i.is),
+          ∙ ap (partial (asked c.args.query.now)) (rows-more c.args.fragments.now c.loop-i.i c.index-fragments-i.result c.loop-i-test.true c.index-fragments-i.is),
       λ starts. c.in_ok-groups-2.ensures.printable (c.loop-i.invariant.1 starts) (c.in_ok-more.ensures.printable starts),
     )
 

@@ -28,5 +28,5 @@ invariant_of-self-2 g c =
     let floor = c.requires.floor in
     let same = c.add.ensures.own_floor in
     let most : f1 + (c.stats-count.result.processed - c.args.floor) ≤ length t.stream + 1 = omega arith in
-    let k2 = kept-accepted g.B.Books.schema g.B.Books.seats (record { timeline = t; mine = g.B.Books.mine c.add.new.self; floor = g.B.Books.floor c.add.new.self }) t1 c.args.event q m1 f1 (c.stats-count.result.processed - c.args.floor) k1 c.add-2.ensures.mine_was c.add-2.ensures.floor_was c.in_ok-accept.ensures.ok c.in_order.ensures.cuts c.in_order.ensures.few (c.add.ensures.place ∙ c.requires.place) within most in
+    let k2 = kept-accepted g.B.Books.schema g.B.Books.seats (record { timeline = t; mine = g.B.Books.mine c.add.new.self; floor = g.B.Books.floor c.add.new.self }) t1 c.args.event q m1 f1 (c.stats-count.result.processed - c.args.floor) k1 c.add-2.ensures.mine_was c.add-2.ensures.floor_was c.in_ok-accept.ensures.ok c.in_order.ensures.cuts c.in_order.ensures.few c.versions_are_publications.ensures (c.add.ensures.place ∙ c.requires.place) within most in
     rw (c.add-2.ensures.mine, c.add-2.ensures.floor) k2

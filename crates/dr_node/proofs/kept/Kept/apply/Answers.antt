@@ -8,7 +8,7 @@ pub invariant_of-self : goal.invariant_of-self
 invariant_of-self g c =
     let books = c.self.inside.books in
     let old : Held = record { timeline = c.self.inside.timeline; mine = g.B.Books.mine books; floor = g.B.Books.floor books } in
-    kept-acted g.B.Books.schema g.B.Books.seats old c.act-answer.new.timeline c.self.invariant c.act-answer.ensures.step c.in_order.ensures.cuts c.in_order.ensures.few
+    kept-acted g.B.Books.schema g.B.Books.seats old c.act-answer.new.timeline c.self.invariant c.act-answer.ensures.step c.in_order.ensures.cuts c.in_order.ensures.few c.versions_are_publications.ensures
 
 pub returns : goal.returns
 returns g c =

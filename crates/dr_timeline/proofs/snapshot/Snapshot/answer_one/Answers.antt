@@ -1,5 +1,4 @@
 use Rattle.std.proofs.Common.{◌≡◌, ◌∙◌, sym, ap, subst, map}
-use Rattle.dr_agg.specs.Rollup.{all_rows}
 use Rattle.dr_rollup.specs.Unrolled.{unrolled}
 use Rattle.dr_ask.specs.Asked.{Asked, asked}
 use Rattle.dr_answers.specs.Answer.{answer}

@@ -1,0 +1,4 @@
+pub mod Begins
+pub mod Folded
+pub mod Kept
+pub mod Crossing
