@@ -27,11 +27,11 @@ asked_of spec query = do
 -- the line of the counts
 abbrev pub counts_line : ℕ → ℕ → ℕ → List ℕ
 counts_line processed unparseable thrown_away =
-    ((codes "processed " ++ decimal processed) ++ (codes " unparseable " ++ decimal unparseable)) ++ ((codes " thrownAway " ++ decimal thrown_away) ++ codes "\n")
+    ((codes "processed " ++ decimal processed) ++ (codes " unparseable " ++ decimal unparseable)) ++ (codes " thrownAway " ++ decimal thrown_away)
 
--- that, and the line of the answer
+-- that line, and the line of the answer
 abbrev pub told : ℕ → ℕ → ℕ → List ℕ → List ℕ
-told processed unparseable thrown_away answer = counts_line processed unparseable thrown_away ++ (answer ++ codes "\n")
+told processed unparseable thrown_away answer = ((counts_line processed unparseable thrown_away ++ codes "\n") ++ answer) ++ codes "\n"
 
 -- the text of the raw answer over some events, behind their counts
 abbrev pub TellsRaw : Schema → Asked → List ℕ → Type 0

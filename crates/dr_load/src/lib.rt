@@ -2,12 +2,16 @@
 //! merger and a query thread share the node, and the answer over all events comes after they have ended.
 #![tactic(auto)]
 
+mod answering;
 mod asking;
+mod eight;
 mod ingested;
 mod ingesting;
 mod load;
 mod load_error;
 mod loading;
+mod node_load;
+mod order;
 mod progress;
 mod publish_all;
 mod watch;

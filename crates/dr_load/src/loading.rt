@@ -1,4 +1,4 @@
-ghost use Rattle.std.specs.Prelude.{◌≡◌, ◌≤◌, length};
+ghost use Rattle.std.specs.Prelude.{◌≡◌, ◌+◌, ◌≤◌, length};
 ghost use Rattle.dr_ask.specs.Asked.{asked};
 ghost use Rattle.dr_ask.specs.MadeFor.{MadeFor};
 
@@ -20,17 +20,10 @@ use std::thread;
 use std::thread::{JoinHandle, Scope, Threads};
 use std::time::Clock;
 
-/// What a load was asked for.
-#[derive(Clone, Copy)]
-pub(crate) struct Order<'a> {
-    pub(crate) spec: &'a IngestSpec,
-    pub(crate) query: &'a Query,
-}
-
 /// Ingests each file in a thread of its own, through a seat of its own, while a merger and a query thread share the node, and
 /// tells what became of each file, in their order. The last two seats are those of the merger and of the query thread.
 pub(crate) fn ingest_all<
-    B: Books + Send,
+    B: Books,
     R: Read + Send + Drop,
     T: Threads + Wait + Clock + Sync,
     W: Watch + Sync,
@@ -39,14 +32,13 @@ pub(crate) fn ingest_all<
     alloc: Global,
     node: &Node<B>,
     seats: &mut [Seat<B>],
-    order: &Order<'_>,
+    spec: &IngestSpec,
+    query: &Query,
     files: Vec<R>,
     watch: &W,
 ) -> Result<Vec<Ingested>, LoadError>
-where
-    B::Share: Send,
-    requires spec { order.now.spec.now ≡ B.schema }
-    requires query { MadeFor B.schema (asked order.now.query.now) }
+    requires spec { spec.now ≡ B.schema }
+    requires query { MadeFor B.schema (asked query.now) }
     requires seats { length files.items + 2 ≤ length seats.old }
 {
     let stop = Stop::new();
@@ -63,15 +55,8 @@ where
         rt,
         |scope| -> Result<Vec<Ingested>, LoadError> {
             let merger = scope.spawn(move || node.merger(rt, merging, policy, stop).is_ok());
-            let asker = scope.spawn(move || ask(
-                rt,
-                node,
-                asking,
-                order.query,
-                stop,
-                watch,
-            ).is_ok());
-            let told = ingest_each(rt, alloc, scope, node, ingesting, order.spec, files);
+            let asker = scope.spawn(move || ask(rt, node, asking, query, stop, watch).is_ok());
+            let told = ingest_each(rt, alloc, scope, node, ingesting, spec, files);
             stop.stop();
             if let Ok(merger) = merger {
                 merger.join(rt);
@@ -85,13 +70,7 @@ where
 }
 
 // Ingests each file in a thread of its own.
-fn ingest_each<
-    's,
-    E: 's,
-    B: Books + Send + 's,
-    R: Read + Send + Drop + 's,
-    T: Threads + Wait + Sync + 's,
->(
+fn ingest_each<'s, E: 's, B: Books + 's, R: Read + Send + Drop + 's, T: Threads + Wait + Sync + 's>(
     rt: &'s T,
     alloc: Global,
     scope: &Scope<'s, E>,
@@ -100,8 +79,7 @@ fn ingest_each<
     spec: &'s IngestSpec,
     files: Vec<R>,
 ) -> Result<Vec<Ingested>, LoadError>
-where
-    B::Share: Send,
+    requires { spec.now ≡ B.schema }
 {
     let mut running = Vec::with_capacity(alloc, files.len())?;
     let mut told = Vec::with_capacity(alloc, files.len())?;

@@ -1,4 +1,4 @@
-ghost use Rattle.std.specs.Prelude.{◌≡◌};
+ghost use Rattle.std.specs.Prelude.{◌≡◌, ◌≤◌, length};
 ghost use Rattle.dr_load.specs.Policy.{crowded, leading};
 
 use dr_node::Policy;
@@ -56,10 +56,11 @@ fn crowded(ranges: &[RangeInfo]) -> Option<(i64, usize)>
 
 /// How many sealed ranges of a chunk stand first.
 fn leading(chunk: i64, ranges: &[RangeInfo]) -> usize
-    ensures { result ≡ leading chunk ranges.now }
+    ensures value { result ≡ leading chunk ranges.now }
+    ensures bound { result ≤ length ranges.now }
 {
     let mut count = 0;
-    'ranges: while count < ranges.len() && ranges[count].chunk == chunk && ranges[count].sealed {
+    'counted: while count < ranges.len() && ranges[count].chunk == chunk && ranges[count].sealed {
         count += 1;
     }
     count

@@ -2,8 +2,8 @@ use Rattle.std.proofs.Common.{◌≡◌, ◌+◌, ◌-◌, ◌≤◌, drop, leng
 use Rattle.dr_load.specs.Policy.{leading}
 use Rattle.dr_load.proofs.publish_all.leading.Given as goal
 
-abbrev pub invariant-ranges : goal.invariant-ranges
-invariant-ranges l = (l.count ≤ length l.ranges) × (l.count + leading l.chunk (drop l.count l.ranges) ≡ leading l.chunk l.ranges)
+abbrev pub invariant-counted : goal.invariant-counted
+invariant-counted l = (l.count ≤ length l.ranges) × (l.count + leading l.chunk (drop l.count l.ranges) ≡ leading l.chunk l.ranges)
 
-abbrev pub decreases-ranges : goal.decreases-ranges
-decreases-ranges l = length l.ranges - l.count
+abbrev pub decreases-counted : goal.decreases-counted
+decreases-counted l = length l.ranges - l.count
