@@ -43,8 +43,16 @@ pub(crate) fn load_into<
     requires seats { length files.items + 2 ≤ length seats.items }
     ensures { IfOk result (λ text. TellsRaw B.schema (asked query.now) text.items) }
 {
-    let order = Order { spec, query };
-    let told = ingest_all(rt, alloc, &node, seats.as_mut_slice(), &order, files, watch)?;
+    let told = ingest_all(
+        rt,
+        alloc,
+        &node,
+        seats.as_mut_slice(),
+        spec,
+        query,
+        files,
+        watch,
+    )?;
     let counts = counts_of(told)?;
     let snapshot = node.pin(rt, &mut seats[0])?;
     let closed = node.close(seats)?;
