@@ -1,4 +1,5 @@
 mod Pieces
+mod ImageRows
 mod RowMembers
 mod Windows
 mod RowsInTurn

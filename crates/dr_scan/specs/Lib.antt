@@ -6,3 +6,4 @@ pub mod ScanText
 pub mod Window
 pub mod Written
 pub mod Places
+pub mod Told

@@ -6,7 +6,7 @@ ghost use Rattle.dr_ask.specs.Asked.{asked};
 ghost use Rattle.dr_scan.specs.Places.{places_cmp, places_in, places_over};
 
 use crate::row_place::RowPlace;
-use crate::selecting::is_selected;
+use crate::selecting::{is_selected, rows_told};
 use dr_ask::{Query, TimeOrder};
 use dr_base::Text;
 use dr_fragment::OrderedRows;
@@ -24,13 +24,14 @@ pub(crate) fn selected_places(
     let mut places = Vec::new(alloc);
     let mut dims = Vec::new(alloc);
     for (i, rows) in segments.iter().enumerate() {
-        add_places(&mut places, &mut dims, query, rows, i)?;
+        add_places(alloc, &mut places, &mut dims, query, rows, i)?;
     }
     Ok(places)
 }
 
 /// Adds those of a segment. `dims` is memory to use again.
 fn add_places(
+    alloc: Global,
     places: &mut Vec<RowPlace>,
     dims: &mut Vec<Text>,
     query: &Query,
@@ -39,12 +40,12 @@ fn add_places(
 ) -> Result<(), AllocError>
     ensures { OnOk result (places.new.items ≡ places.old.items ++ places_in (asked query.now) segment 0 rows.now) }
 {
+    let told = rows_told(alloc, query, rows)?;
     for row in 0..rows.len() {
-        let lying = rows.row(row);
-        if !is_selected(query, &lying, dims)? {
+        if !is_selected(query, &told, rows, row, dims)? {
             continue;
         }
-        let time = lying.time();
+        let time = rows.row(row).time();
         places.push(RowPlace { time, segment, row })?;
     }
     Ok(())

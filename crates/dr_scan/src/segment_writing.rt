@@ -9,7 +9,7 @@ ghost use Rattle.std.specs.Prelude.{OnOk};
 use crate::entry_writing::{begin_entry, end_entry};
 use crate::row_writing::write_row;
 use crate::segment::Segment;
-use crate::selecting::is_selected;
+use crate::selecting::{is_selected, rows_told};
 use crate::window::Window;
 use dr_ask::{Query, Scan, ScanColumn};
 use dr_base::Text;
@@ -50,18 +50,18 @@ fn write_given(
     ensures tokens { Adds result out.old out.new (segment_tokens scan.now columns.now identifier.now 0 (given window.old (selected (asked query.now) rows.now))) }
     ensures window { OnOk result (window.new ≡ after window.old (length (selected (asked query.now) rows.now))) }
 {
+    let told = rows_told(alloc, query, rows)?;
     let mut dims = Vec::new(alloc);
     let mut count = 0;
     for i in 0..rows.len() {
-        let row = rows.row(i);
-        if !is_selected(query, &row, &mut dims)? {
+        if !is_selected(query, &told, rows, i, &mut dims)? {
             continue;
         }
         if !window.takes() {
             continue;
         }
         write_before_row(out, scan, identifier, count)?;
-        write_row(out, scan.result_format, columns, &row)?;
+        write_row(out, scan.result_format, columns, &rows.row(i))?;
         count = count_with(scan.batch_size, count);
     }
     write_at_end(out, identifier, count)

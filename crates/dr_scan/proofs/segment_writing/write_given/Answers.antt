@@ -1,7 +1,7 @@
 use Rattle.std.proofs.Common.{◌≡◌, ◌∙◌, ◌+◌, ◌<◌, ◌≤◌, ap, sym, subst, ℕ, List, [], ◌++◌, true, false, drop, length, arith}
 use Rattle.std.proofs.lemmas.List.{drop_all}
 use Rattle.std.proofs.lemmas.Result.{on_ok_weaker}
-use Rattle.dr_answers.specs.Selection.{selected, selects}
+use Rattle.dr_answers.specs.Selection.{selected}
 use Rattle.dr_ask.specs.Asked.{asked}
 use Rattle.dr_base.specs.declared.row.Row.{Row}
 use Rattle.dr_scan.specs.Window.{given}
@@ -15,8 +15,7 @@ loop-i-preserved-then-not-branch c =
     let q = asked c.args.query.now in
     let rows = c.args.rows.now in
     let less = subst (λ n. c.loop-i.i < n) c.len-i-end.ensures c.loop-i-test.true in
-    let found = row_in-found c.args.rows.now c.loop-i.i c.row-row.result c.row-row.ensures in
-    let is = ap (λ (r : Row). selects q r.key) found ∙ sym c.in_ok-is_selected.ensures ∙ c.if-not-branch.true in
+    let is = sym c.in_ok-is_selected.ensures ∙ c.if-not-branch.true in
     let left = λ (rs : List Row). c.loop-i.out.tokens ++ segment_tokens c.args.scan.now c.args.columns.now c.args.identifier.now c.loop-i.count rs in
     record {
       before = c.loop-i.invariant.before;
@@ -30,8 +29,7 @@ loop-i-preserved-then-not-takes c =
     let q = asked c.args.query.now in
     let rows = c.args.rows.now in
     let less = subst (λ n. c.loop-i.i < n) c.len-i-end.ensures c.loop-i-test.true in
-    let found = row_in-found c.args.rows.now c.loop-i.i c.row-row.result c.row-row.ensures in
-    let is = ap (λ (r : Row). selects q r.key) found ∙ sym c.in_ok-is_selected.ensures ∙ c.if-not-branch.false in
+    let is = sym c.in_ok-is_selected.ensures ∙ c.if-not-branch.false in
     let left = λ (rs : List Row). c.loop-i.out.tokens ++ segment_tokens c.args.scan.now c.args.columns.now c.args.identifier.now c.loop-i.count rs in
     record {
       before = c.loop-i.invariant.before;
@@ -45,10 +43,10 @@ loop-i-preserved c =
     let q = asked c.args.query.now in
     let rows = c.args.rows.now in
     let less = subst (λ n. c.loop-i.i < n) c.len-i-end.ensures c.loop-i-test.true in
-    let found = row_in-found c.args.rows.now c.loop-i.i c.row-row.result c.row-row.ensures in
-    let is = ap (λ (r : Row). selects q r.key) found ∙ sym c.in_ok-is_selected.ensures ∙ c.if-not-branch.false in
+    let is = sym c.in_ok-is_selected.ensures ∙ c.if-not-branch.false in
     let left = λ (rs : List Row). c.loop-i.out.tokens ++ segment_tokens c.args.scan.now c.args.columns.now c.args.identifier.now c.loop-i.count rs in
     let whole = ap left (sym (given-next q rows c.loop-i.i less c.loop-i.window c.takes.new.self true is (sym c.takes.ensures.value ∙ c.if-not-takes.false) c.takes.ensures.moved)) ∙ c.loop-i.invariant.tokens in
+    let found = row_in-found c.args.rows.now c.loop-i.i c.row.result c.row.ensures in
     let written = c.in_ok-write_row.ensures.1 ∙ ap (λ (r : Row). c.write_before_row.new.out.tokens ++ row_tokens c.args.scan.now.result_format c.args.columns.now r) (sym found) in
     let counted = λ (n : ℕ). c.write_row.new.out.tokens ++ segment_tokens c.args.scan.now c.args.columns.now c.args.identifier.now n (given c.takes.new.self (selected q (drop (c.loop-i.i + 1) rows))) in
     record {
