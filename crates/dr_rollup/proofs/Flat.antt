@@ -104,6 +104,7 @@ replaced w (x ∷ ks) vs zero k new all at each =
   where
     none-of-none : (w : ℕ) → 0 * w ≡ 0
     none-of-none w = omega arith
+
     from-none : (n : ℕ) → 0 + n ≡ n
     from-none n = omega arith
 replaced w (x ∷ ks) vs (suc p) k new all at each =
@@ -112,17 +113,19 @@ replaced w (x ∷ ks) vs (suc p) k new all at each =
     let rest : List ℤ = drop w vs in
     let count : length first ≡ w = length-take w vs ∙ least w (length vs) le in
     let split : written (suc p * w) new vs ≡ first ++ written (p * w) new rest =
-        ap (λ n. take n vs ++ (new ++ drop (n + length new) vs)) (suc-mul p w ∙ turned (p * w) w)
-        ∙ (λ i. take-add w (p * w) vs i ++ (new ++ (ap (λ n. drop n vs) (grouped w (p * w) (length new)) ∙ sym (drop-drop (p * w + length new) w vs)) i))
-        ∙ append_assoc first (take (p * w) rest) (new ++ drop (p * w + length new) rest) in
+    ap (λ n. take n vs ++ (new ++ drop (n + length new) vs)) (suc-mul p w ∙ turned (p * w) w)
+    ∙ (λ i. take-add w (p * w) vs i ++ (new ++ (ap (λ n. drop n vs) (grouped w (p * w) (length new)) ∙ sym (drop-drop (p * w + length new) w vs)) i))
+    ∙ append_assoc first (take (p * w) rest) (new ++ drop (p * w + length new) rest) in
     ap (rows_from w (x ∷ ks)) split
     ∙ (λ i. record { key = x; metrics = take_at first (written (p * w) new rest) w count i } ∷ rows_from w ks (drop_at first (written (p * w) new rest) w count i))
     ∙ ap (λ l. record { key = x; metrics = first } ∷ l) (replaced w ks rest p k new (fewer w (length ks) vs all) at each)
   where
     turned : (m n : ℕ) → m + n ≡ n + m
     turned m n = omega arith
+
     grouped : (a b c : ℕ) → a + b + c ≡ a + (b + c)
     grouped a b c = omega arith
+
     least : (a b : ℕ) → a ≤ b → min a b ≡ a
     least a b le = omega (arith, le)
 

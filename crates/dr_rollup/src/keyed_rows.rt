@@ -95,12 +95,7 @@ impl KeyedRows {
     }
 
     /// Adds the row of a new key, with what an event adds to each column. An error leaves the rows as they were.
-    pub fn put(
-        &mut self,
-        key: Key,
-        metrics: &[Metric],
-        inputs: &[i64],
-    ) -> Result<(), AllocError>
+    pub fn put(&mut self, key: Key, metrics: &[Metric], inputs: &[i64]) -> Result<(), AllocError>
         requires new { NoneHas key self.old.rows }
         requires width { self.old.width ≡ length metrics.now }
         ensures width { self.new.width ≡ self.old.width }

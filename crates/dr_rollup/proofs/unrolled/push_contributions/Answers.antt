@@ -21,11 +21,10 @@ loop-i-preserved c =
     let put = rw c.unwrap.ensures at c.push.ensures.items in
     let room = c.push.ensures.capacity in
     let long : length c.push.new.self.items ≡ suc (length c.loop-i.values.items) = ap length put ∙ length_pushed c.loop-i.values.items _ in
-    let before = c.loop-i.invariant.1 in
-    (
+    let before = c.loop-i.invariant.1 in (
       ap (λ l. l ++ rest) (put ∙ ap (λ v. c.loop-i.values.items ++ v ∷ []) (to_z-of_z w64 c.contribution.result fits ∙ value))
-      ∙ append_assoc c.loop-i.values.items (contribution m.kind (get_or inputs c.loop-i.i (pos 0)) ∷ []) rest
-      ∙ ap (λ l. c.loop-i.values.items ++ l) (sym more)
-      ∙ c.loop-i.invariant.0,
+          ∙ append_assoc c.loop-i.values.items (contribution m.kind (get_or inputs c.loop-i.i (pos 0)) ∷ []) rest
+          ∙ ap (λ l. c.loop-i.values.items ++ l) (sym more)
+          ∙ c.loop-i.invariant.0,
       omega (arith, long, room, before),
     )

@@ -38,5 +38,5 @@ returns-clause-rows c =
     let le : p * w + length (more vs) ≤ length vs = subst (λ n. p * w + n ≤ length vs) (sym fits) (within (goal.at.returns-clause-rows c).After-as_mut_slice) in
     let long : length c.contribute_at.new.values ≡ s.values.len = ap length is ∙ length-written (p * w) (more vs) vs le ∙ sym s.values.ok.0 in
     rw (← c.self.view_is) (λ row at.
-      ap (rows_from w s.keys.keys) (lent vs c.contribute_at.new.values s.values.len long ∙ is)
-      ∙ combined-there kinds inputs w s.keys.keys vs p c.self.invariant (there (goal.at.returns-clause-rows c).After-as_mut_slice) count row at)
+    ap (rows_from w s.keys.keys) (lent vs c.contribute_at.new.values s.values.len long ∙ is)
+    ∙ combined-there kinds inputs w s.keys.keys vs p c.self.invariant (there (goal.at.returns-clause-rows c).After-as_mut_slice) count row at)
