@@ -5,7 +5,9 @@
 mod arrived;
 mod entries;
 mod key_of;
+mod keyed_rows;
 mod open_index;
+mod pieces;
 mod rollup_error;
 mod sorted_rows;
 mod unrolled;

@@ -51,7 +51,7 @@ impl OpenIndex {
         Ok(OpenIndex {
             schema: schema.copy()?,
             limit,
-            entries: Entries::new(alloc, schema.rollup()),
+            entries: Entries::new(alloc, schema.rollup(), schema.metrics().len()),
         })
     }
 
@@ -82,9 +82,7 @@ impl OpenIndex {
         if self.entries.len() >= self.limit {
             return Err(RollupError::IndexFull);
         }
-        let row = unrolled_row(self.entries.allocator(), &self.schema, event)?;
-        self.entries.reserve()?;
-        self.entries.put(row);
+        self.entries.put(&self.schema, event)?;
         Ok(())
     }
 
