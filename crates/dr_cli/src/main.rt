@@ -39,8 +39,7 @@ fn run(rt: &HostRuntime) -> Result<u8, CliError> {
         .map(|word| word.as_str())
         .collect(rt.alloc())?;
     match command_of(rt.alloc(), words.as_slice())? {
-        // Workers and `load` come later: until then they are bad usage.
-        Command::Run(_) if words.len() > 1 => Err(CliError::BadUsage),
+        // `load` comes later: until then it is bad usage.
         Command::Load(..) => Err(CliError::BadUsage),
         Command::Run(workers) => {
             let mut reader = Counted::new(rt.stdin());

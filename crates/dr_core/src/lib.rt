@@ -10,6 +10,7 @@ mod core_run;
 mod reply;
 mod step;
 mod timeline_core;
+mod worker_run;
 
 pub use asking::ask;
 pub use bytes::Bytes;
@@ -18,3 +19,4 @@ pub use core_run::run_core_one;
 pub use reply::Reply;
 pub use step::Step;
 pub use timeline_core::Core;
+pub use worker_run::run_core;

@@ -1,3 +1,4 @@
 pub mod DigitLemmas
 pub mod ScriptSteps
 pub mod RawScripts
+pub mod Asking

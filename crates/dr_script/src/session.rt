@@ -11,12 +11,13 @@ ghost use Rattle.dr_script.specs.Commands.{add_event, ask_at, ask_now, audit_now
 ghost use Rattle.dr_script.specs.Replies.{seen};
 ghost use Rattle.dr_requests.specs.Seen.{seen_request};
 
+use crate::asking::ask;
 use crate::reply::Reply;
 use crate::script_error::ScriptError;
 use crate::wording::{stats_line, unparseable_line};
 use dr_ask::{Query, QueryError};
 use dr_base::Text;
-use dr_core::{Core, CoreError, ask};
+use dr_core::{Core, CoreError};
 use dr_events::{EventReader, Unparseable};
 use dr_merge::Purpose;
 use dr_requests::{CommandError, Request, instant_in};
@@ -24,6 +25,8 @@ use dr_spec::IngestSpec;
 use dr_timeline::Outcome;
 use std::alloc::{AllocError, Global};
 use std::marker::Model;
+use std::sync::Wait;
+use std::thread::Threads;
 
 /// The seat whose mark the events of a script have.
 const SEAT: u8 = 0;
@@ -59,12 +62,14 @@ impl Session {
         })
     }
 
-    /// Does what a line asks for. An error leaves the session as it was. Refusals: those of the command's layer, and 101
+    /// Does what a line asks for; queries are answered by so many workers. An error leaves the session as it was. Refusals: those of the command's layer, and 101
     /// `BadCommand` where a job or a snapshot is named that there isn't.
-    pub fn carry_out(
+    pub fn carry_out<T: Threads + Wait + Sync>(
         &mut self,
+        rt: &T,
         alloc: Global,
         request: Request<&[u8]>,
+        workers: usize,
     ) -> Result<Reply, ScriptError>
         ensures step { GivesUnless is_memory (λ reply. (seen reply, self.new)) result (carried_out self.old (seen_request request.entry)) }
         ensures err { OnErr result (self.new ≡ self.old) }
@@ -76,8 +81,8 @@ impl Session {
             Request::Plan(purpose, instant, lo, hi) => self.plan(purpose, instant, lo, hi),
             Request::Commit(number) => self.commit(alloc, number),
             Request::Pin => self.pin(),
-            Request::Query(text) => self.query(alloc, text),
-            Request::At(number, text) => self.at(alloc, number, text),
+            Request::Query(text) => self.query(rt, alloc, text, workers),
+            Request::At(number, text) => self.at(rt, alloc, number, text, workers),
             Request::Audit(text) => self.audit(alloc, text),
             Request::Image(instant, place) => self.image(instant, place),
             Request::Stats => self.stats(alloc),
@@ -160,22 +165,35 @@ impl Session {
         Ok(Reply::Pinned(number))
     }
 
-    fn query(&mut self, alloc: Global, text: &[u8]) -> Result<Reply, ScriptError>
+    fn query<T: Threads + Wait + Sync>(
+        &mut self,
+        rt: &T,
+        alloc: Global,
+        text: &[u8],
+        workers: usize,
+    ) -> Result<Reply, ScriptError>
         ensures step { GivesUnless is_memory (λ reply. (seen reply, self.new)) result (ask_now text.now self.old) }
         ensures same { self.new ≡ self.old }
     {
         let query = Query::parse(alloc, text, self.core.spec().schema())?;
-        Ok(Reply::Said(answer_now(&mut self.core, &query)?))
+        Ok(Reply::Said(answer_now(rt, &mut self.core, &query, workers)?))
     }
 
-    fn at(&self, alloc: Global, number: u64, text: &[u8]) -> Result<Reply, ScriptError>
+    fn at<T: Threads + Wait + Sync>(
+        &self,
+        rt: &T,
+        alloc: Global,
+        number: u64,
+        text: &[u8],
+        workers: usize,
+    ) -> Result<Reply, ScriptError>
         ensures { GivesUnless is_memory (λ reply. (seen reply, self.now)) result (ask_at number text.now self.now) }
     {
         let Some(snapshot) = self.core.snapshot(number as usize) else {
             return Err(ScriptError::Core(CoreError::NoSuch));
         };
         let query = Query::parse(alloc, text, self.core.spec().schema())?;
-        Ok(Reply::Said(ask(snapshot, &query)?))
+        Ok(Reply::Said(ask(rt, snapshot, &query, workers)?))
     }
 
     fn audit(&mut self, alloc: Global, text: &[u8]) -> Result<Reply, ScriptError>
@@ -224,13 +242,18 @@ impl Session {
 }
 
 // The answer over the ranges as they are. The core stays as it was.
-fn answer_now(core: &mut Core, query: &Query) -> Result<Vec<u8>, ScriptError>
+fn answer_now<T: Threads + Wait + Sync>(
+    rt: &T,
+    core: &mut Core,
+    query: &Query,
+    workers: usize,
+) -> Result<Vec<u8>, ScriptError>
     requires { MadeFor core.old.timeline.schema (asked query.now) }
     ensures answer { GivesUnless is_memory (λ text. text.items) result (passed Answer (answer_over (asked query.now) (pinned core.old.timeline))) }
     ensures same { core.new ≡ core.old }
 {
     let snapshot = core.snapshot_now()?;
-    Ok(ask(&snapshot, query)?)
+    ask(rt, &snapshot, query, workers)
 }
 
 // The answer over the accepted events, one by one. The core stays as it was.
