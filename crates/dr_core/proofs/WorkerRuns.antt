@@ -7,12 +7,11 @@ use Rattle.dr_schema.specs.declared.schema.Schema.{Schema}
 use Rattle.dr_schema.specs.WellFormed.{IsWellFormed}
 use Rattle.dr_ask.specs.Asked.{asked}
 use Rattle.dr_ask.specs.declared.query.Query.{Query}
-use Rattle.dr_answers.specs.Answer.{answer}
 use Rattle.dr_answers.specs.AnswerRefusal as no_answer
 use Rattle.dr_answers.specs.declared.answer_error.AnswerError.{AnswerError}
 use Rattle.dr_answers.specs.declared.answer_error.AnswerError.TheVariants as answer_error
 use Rattle.dr_cuts.specs.Chunks.{values_onto}
-use Rattle.dr_cuts.specs.Segments.{Pinned, rows_of}
+use Rattle.dr_cuts.specs.Segments.{Pinned}
 use Rattle.dr_timeline.specs.AskRefusal.{number_of, AnswersUnless}
 use Rattle.dr_timeline.specs.declared.ask_error.AskError.{AskError}
 use Rattle.dr_timeline.specs.declared.ask_error.AskError.TheVariants as ask_error
@@ -24,6 +23,7 @@ use Rattle.dr_core.specs.declared.reply.Reply.TheVariants.{Answer, Refused}
 use Rattle.dr_core.specs.Headline.{accepted_by, pinned_by}
 use Rattle.dr_core.specs.Run.{FitsStep, Moves, reply_to, told}
 use Rattle.dr_core.specs.Steps.{given}
+use Rattle.dr_core.specs.Asking.{answer_over}
 use Rattle.dr_core.specs.WorkerRun.{LacksThread, MovesByWorkers, RunFromByWorkers, AnswersRawByWorkers, AnswersFromByWorkers, AnswersAreRawByWorkers}
 use Rattle.dr_core.proofs.Running.{moves-schema}
 use Rattle.dr_core.proofs.RawRuns.{IsRunSoFar, moves-run, step-raw}
@@ -112,7 +112,7 @@ abbrev pub AskedBy : {X : Type 0} → (X → List ℕ) → Result X AskError →
 AskedBy view r reply = MatchResult r (λ x. reply ≡ Answer (view x)) (λ e. reply ≡ Refused (number_of e))
 
 moved-by : {X : Type 0} (view : X → List ℕ) (old : CoreState) (n : ℕ) (q : Query) (r : Result X AskError) (reply : Reply) (reading : Result (List ℕ) AnswerError)
-    → (told (λ p. (reply_to (answer (asked q) (rows_of p)), old)) old (given (slice_get old.pins n))) ≡ (reply_to reading, old)
+    → (told (λ p. (reply_to (answer_over (asked q) p), old)) old (given (slice_get old.pins n))) ≡ (reply_to reading, old)
     → AnswersUnless view r reading → AskedBy view r reply → MovesByWorkers old (Ask n q) reply old
 moved-by view old n q (Ok x) reply reading at h is =
     inl (inl (is ∙ ap reply_to (sym (passed-back reading (Ok (view x)) h)) ∙ sym (ap (λ (t : Reply × CoreState). t.0) at), sym (ap (λ (t : Reply × CoreState). t.1) at)))
@@ -126,6 +126,6 @@ moved-by view old n q (Err (ask_error.Answer e)) reply reading at h is = refused
 
 -- on the snapshot of that number
 pub asked-by : {X : Type 0} (view : X → List ℕ) (old : CoreState) (n : ℕ) (q : Query) (p : Pinned) (r : Result X AskError) (reply : Reply) → slice_get old.pins n ≡ Some p
-    → AnswersUnless view r (answer (asked q) (rows_of p)) → AskedBy view r reply → MovesByWorkers old (Ask n q) reply old
+    → AnswersUnless view r (answer_over (asked q) p) → AskedBy view r reply → MovesByWorkers old (Ask n q) reply old
 asked-by view old n q p r reply there h is =
-    moved-by view old n q r reply (answer (asked q) (rows_of p)) (ap (λ o. told (λ p. (reply_to (answer (asked q) (rows_of p)), old)) old (given o)) there) h is
+    moved-by view old n q r reply (answer_over (asked q) p) (ap (λ o. told (λ p. (reply_to (answer_over (asked q) p), old)) old (given o)) there) h is

@@ -12,7 +12,7 @@ mod step;
 mod timeline_core;
 mod worker_run;
 
-pub use asking::ask;
+pub use asking::{ask, ask_by};
 pub use bytes::Bytes;
 pub use core_error::CoreError;
 pub use core_run::run_core_one;

@@ -8,6 +8,7 @@ ghost use Rattle.dr_core.specs.declared.reply.Reply.TheVariants.{Answer, Refused
 ghost use Rattle.dr_core.specs.declared.step.Step.TheVariants.{Ask};
 ghost use Rattle.dr_timeline.specs.AskRefusal as no_answer;
 
+use crate::asking::ask_by;
 use crate::bytes::Bytes;
 use crate::core_run::take_step;
 use crate::reply::Reply;
@@ -24,7 +25,7 @@ use std::thread::Threads;
 /// which enters the gate before it works on a range. A query to which the system refused a thread is refused with 80, and
 /// changes nothing. Each event must fit the schema of the spec, and each query have been made for it.
 ///
-/// Whatever the steps seal and merge, and however late, often or in whatever order jobs are committed, and whatever the number of
+/// Whatever the steps seal, merge and publish, and however late, often or in whatever order jobs are committed, and whatever the number of
 /// workers and the gate: each answer to a matching query on a snapshot is, byte for byte, the answer over the raw events
 /// that were accepted before its pin.
 pub fn run_core<R: Threads + Wait + Sync, G: Gate + Sync>(
@@ -91,7 +92,7 @@ fn ask<R: Threads + Wait + Sync, G: Gate + Sync>(
     ensures { MovesByWorkers core.now (Ask number query.now) result core.now }
 {
     match core.snapshot(number) {
-        Some(snapshot) => answered(snapshot.answer(rt, query, workers, gate)),
+        Some(snapshot) => answered(ask_by(rt, snapshot, query, workers, gate)),
         None => Reply::NoSuch,
     }
 }

@@ -2,3 +2,4 @@ pub mod DigitLemmas
 pub mod ScriptSteps
 pub mod RawScripts
 pub mod Asking
+pub mod Refusals

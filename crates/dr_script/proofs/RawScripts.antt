@@ -46,9 +46,9 @@ use Rattle.dr_requests.specs.declared.request.Request.TheVariants.{Add, Seal, Jo
 use Rattle.dr_requests.specs.Request.{instant_in, request_in}
 use Rattle.dr_script.specs.declared.script_error.ScriptError.{ScriptError}
 use Rattle.dr_script.specs.declared.script_error.ScriptError.TheVariants.{Command, Time, Core, Query as BadQuery, Answer, WorkerNotStarted}
-use Rattle.dr_script.specs.Commands.{IsLack, Answered, add_event, add_read, answered, ask_at, ask_now, audit_now, carried_out, chunk_named, commit_job, image_at, join_ranges, plan_ranges, refused_by, seal_chunk, tell_stats, told, grouping_of}
-use Rattle.dr_script.specs.Headline.{AnswersRaw, AnswersAreRaw, RawScript, IsRaw, RawFrom, accepted_for, asked_by, begins, event_asked, event_read, pin_asked, pinned_for, told_answer}
-use Rattle.dr_script.specs.Script.{GoesOn, Moves, Script, ScriptAfter, ScriptFrom, opened_by, settled, step}
+use Rattle.dr_script.specs.Commands.{IsLack, Answered, add_event, add_read, answered, not_started, ask_at, ask_now, audit_now, carried_out, chunk_named, commit_job, image_at, join_ranges, plan_ranges, refused_by, seal_chunk, tell_stats, told, grouping_of}
+use Rattle.dr_script.specs.Headline.{AnswersRaw, AnswersAreRaw, RawScript, IsRaw, RawFrom, accepted_for, begins, event_asked, event_read, pin_asked, pinned_for, told_answer}
+use Rattle.dr_script.specs.Script.{GoesOn, Moves, Script, ScriptAfter, ScriptFrom, asked_by, opened_by, settled, step}
 use Rattle.dr_ask.proofs.MadeQueries.{query_of-made}
 use Rattle.dr_ask.proofs.ReadSteps.{through}
 
@@ -287,7 +287,8 @@ module _ (schema : Schema) (es : List Event) (ess : List (List Event)) (c : Core
 
   moves_good : (line : List ℕ) (a : Answered) (new : CoreState) → Moves c line a new → Good (asked_by line) (a, new)
   moves_good line a new (inl is) = coe 0 1 (i. Good (asked_by line) ((sym is.0) i, (sym is.1) i)) (step_good line)
-  moves_good line a new (inr is) = subst (λ (x : CoreState). Good (asked_by line) (a, x)) (sym is.1) (lack_good (asked_by line) a is.0)
+  moves_good line a new (inr (inl is)) = coe 0 1 (i. Good (asked_by line) ((sym is.0) i, (sym is.1) i)) (lack_good (asked_by line) (refused_by NoMemory) (inl refl))
+  moves_good line a new (inr (inr is)) = coe 0 1 (i. Good (asked_by line) ((sym is.1) i, (sym is.2) i)) (lack_good (asked_by line) not_started (inr refl))
 
 -- ---- lines in turn
 

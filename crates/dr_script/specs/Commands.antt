@@ -78,19 +78,37 @@ told (BadQuery e) = refused (query.number_of e) (query.name_of e) (query.arg_of 
 told (Answer e) = refused (no_answer.number_of e) (no_answer.name_of e) None
 told WorkerNotStarted = not_started
 
--- memory ran out, or a thread was refused
+-- memory ran out
 abbrev pub is_memory : ScriptError → Bool
 is_memory (Command e) = command.is_memory e
 is_memory (Time e) = false
 is_memory (Core e) = core_refusal.is_memory e
 is_memory (BadQuery e) = query.is_memory e
 is_memory (Answer e) = no_answer.is_memory e
-is_memory WorkerNotStarted = true
+is_memory WorkerNotStarted = false
+
+-- memory ran out, or a thread was refused
+abbrev pub is_lack : ScriptError → Bool
+is_lack (Command e) = command.is_memory e
+is_lack (Time e) = false
+is_lack (Core e) = core_refusal.is_memory e
+is_lack (BadQuery e) = query.is_memory e
+is_lack (Answer e) = no_answer.is_memory e
+is_lack WorkerNotStarted = true
+
+-- a thread was refused, which is so only where this holds
+abbrev pub ThreadsIf : Type 0 → ScriptError → Type 0
+ThreadsIf asks (Command e) = Unit {0}
+ThreadsIf asks (Time e) = Unit {0}
+ThreadsIf asks (Core e) = Unit {0}
+ThreadsIf asks (BadQuery e) = Unit {0}
+ThreadsIf asks (Answer e) = Unit {0}
+ThreadsIf asks WorkerNotStarted = asks
 
 -- what several workers refused
-abbrev pub asked_by : AskError → ScriptError
-asked_by (by_workers.Answer e) = Answer e
-asked_by by_workers.WorkerNotStarted = WorkerNotStarted
+abbrev pub asking_error : AskError → ScriptError
+asking_error (by_workers.Answer e) = Answer e
+asking_error by_workers.WorkerNotStarted = WorkerNotStarted
 
 -- a line is refused for want of memory, or of a thread
 abbrev pub IsLack : Answered → Type 0
@@ -199,6 +217,16 @@ image_at instant place c = do
   k ← chunk_named c instant
   bytes ← passed Core (core.image k place c)
   Ok (answered (encode_lower bytes), c)
+
+-- a query is asked, of the ranges as they are or of a snapshot
+abbrev pub AsksQuery : Request (List ℕ) → Type 0
+AsksQuery (line.Query text) = Unit {0}
+AsksQuery (line.At number text) = Unit {0}
+AsksQuery request = ⊥
+
+abbrev pub AsksIn : Result (Request (List ℕ)) CommandError → Type 0
+AsksIn (Ok request) = AsksQuery request
+AsksIn (Err e) = ⊥
 
 -- what a line asks for is done
 abbrev pub carried_out : CoreState → Request (List ℕ) → Result (Answered × CoreState) ScriptError

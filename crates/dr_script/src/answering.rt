@@ -1,6 +1,8 @@
-ghost use Rattle.std.specs.Prelude.{◌≡◌, ◌≤◌, length, true, OnErr};
+ghost use Rattle.std.specs.Prelude.{◌≡◌, ◌≤◌, length, true, IfErr, OnErr};
+ghost use Rattle.dr_requests.specs.declared.command_error.CommandError.TheVariants.{NoMemory};
 ghost use Rattle.dr_base.specs.Reading.{GivesUnless};
-ghost use Rattle.dr_script.specs.Commands.{IsLack, is_memory, refused, told};
+ghost use Rattle.dr_requests.specs.Request.{request_in};
+ghost use Rattle.dr_script.specs.Commands.{AsksIn, ThreadsIf, is_lack, is_memory, refused, refused_by, told};
 ghost use Rattle.dr_lines.specs.Lines.{longest_line};
 ghost use Rattle.dr_script.specs.Replies.{IsAnswer, Opens, seen};
 ghost use Rattle.dr_script.specs.Script.{Moves, line_done};
@@ -55,7 +57,8 @@ fn carry_out<T: Threads + Wait + Sync>(
     line: &[u8],
     workers: usize,
 ) -> Result<Reply, ScriptError>
-    ensures step { GivesUnless is_memory (λ reply. (seen reply, session.new)) result (line_done session.old line.now) }
+    ensures step { GivesUnless is_lack (λ reply. (seen reply, session.new)) result (line_done session.old line.now) }
+    ensures threads { IfErr result (ThreadsIf (AsksIn (request_in line.now))) }
     ensures err { OnErr result (session.new ≡ session.old) }
 {
     let request = request_in(line)?;
@@ -65,7 +68,7 @@ fn carry_out<T: Threads + Wait + Sync>(
 // What is written where a command changed nothing.
 fn told(alloc: Global, error: ScriptError) -> Reply
     ensures told { IsAnswer (told error) (seen result) }
-    ensures memory { is_memory error ≡ true → IsLack (seen result) }
+    ensures memory { is_memory error ≡ true → seen result ≡ refused_by NoMemory }
 {
     match error {
         ScriptError::Command(error) => Reply::Fault(error),
