@@ -4,6 +4,7 @@
 #![tactic(auto)]
 
 mod asking;
+mod asking_by;
 mod bytes;
 mod core_error;
 mod core_run;
@@ -12,7 +13,8 @@ mod step;
 mod timeline_core;
 mod worker_run;
 
-pub use asking::{ask, ask_by};
+pub use asking::ask;
+pub use asking_by::ask_by;
 pub use bytes::Bytes;
 pub use core_error::CoreError;
 pub use core_run::run_core_one;

@@ -8,7 +8,7 @@ ghost use Rattle.dr_core.specs.declared.reply.Reply.TheVariants.{Answer, Refused
 ghost use Rattle.dr_core.specs.declared.step.Step.TheVariants.{Ask};
 ghost use Rattle.dr_timeline.specs.AskRefusal as no_answer;
 
-use crate::asking::ask_by;
+use crate::asking_by::ask_by;
 use crate::bytes::Bytes;
 use crate::core_run::take_step;
 use crate::reply::Reply;
