@@ -15,7 +15,7 @@ use Rattle.dr_timeline.proofs.Times.{AtInstants, EndsAtInstants, ends-unrolled}
 use Rattle.dr_timeline.proofs.snapshot.Snapshot.answer.Goals as goal
 
 pub partial_by-requires-after_bounds : goal.partial_by-requires-after_bounds
-partial_by-requires-after_bounds g c =
+partial_by-requires-after_bounds g c κs within =
     let s = c.self.inside in
     subst AtInstants (ap shared.rows_of (sym c.as_slice.ensures)) (times-shown s.schema s.stream.items (map (λ (f : Fragment). f.rows) s.fragments) s.ranges.items c.self.invariant)
 
