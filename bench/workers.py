@@ -4,8 +4,9 @@
 A day of made-up page edits (five dimensions, six metrics) is cut into 24 ranges of an hour, and again into 96 of a quarter of an hour;
 each range is sealed and published. Then two queries are asked, one at a time: a timeseries by hour with five aggregations, and a groupBy
 with a filter, ordered and limited. Of each the median of the times from the write of its line to the end of its answer is told, in
-milliseconds, with how many times faster than with one worker that is. The answers have to be the same. Last, what a thread costs: the same over ranges
-of one row each, where there is next to nothing to do, in microseconds for each worker more.
+milliseconds, with how many times faster than with one worker that is. The answers have to be the same. Then the same over 24 ranges of which
+the first has nine tenths of the events, since a worker's share is a share of the ranges and not of the rows. Last, what a thread costs: over
+ranges of one row each, where there is next to nothing to do, in microseconds for each worker.
 """
 import json
 import os
@@ -49,19 +50,27 @@ def spec_of(granularity):
     }
 
 
-def events(count):
+def second_of(i, count, uneven):
+    """The second of the day of an event; uneven: of the first nine tenths of them within the first hour."""
+    first = count * 9 // 10
+    if not uneven:
+        return i * 86400 // count
+    return i * 3600 // first if i < first else 3600 + (i - first) * 82800 // (count - first)
+
+
+def events(count, uneven):
     pick = random.Random(7)
     for i in range(count):
         yield {
-            "t": DAY + i * 86400 // count, "page": f"page {int(pick.paretovariate(0.9)) % 5000}", "lang": f"l{pick.randrange(30)}",
+            "t": DAY + second_of(i, count, uneven), "page": f"page {int(pick.paretovariate(0.9)) % 5000}", "lang": f"l{pick.randrange(30)}",
             "kind": pick.choice(("user", "user", "user", "bot")), "user": f"u{pick.randrange(200)}", "city": f"c{pick.randrange(8)}",
             "added": pick.randrange(2000), "removed": pick.randrange(500), "delta": pick.randrange(-500, 1500),
         }
 
 
-def script(granularity, seconds, count):
+def script(granularity, seconds, count, uneven):
     lines = [json.dumps(spec_of(granularity))]
-    lines += ["+ " + json.dumps(it, separators=(",", ":")) for it in events(count)]
+    lines += ["+ " + json.dumps(it, separators=(",", ":")) for it in events(count, uneven)]
     for at in range(DAY, DAY + 86400, seconds):
         text = time.strftime("%Y-%m-%dT%H:%M:%SZ", time.gmtime(at))
         lines += [f"seal {text}", f"publish {text} 0 1"]
@@ -96,9 +105,9 @@ class Program:
         self.it.wait()
 
 
-def measure(path, granularity, seconds, count, runs, workers):
+def measure(path, granularity, seconds, count, runs, workers, uneven=False):
     """For each query the median of the seconds by each number of workers."""
-    fed, replies = script(granularity, seconds, count)
+    fed, replies = script(granularity, seconds, count, uneven)
     programs = {it: Program(path, fed, replies, it) for it in workers}
     found = {}
     for name, query in QUERIES.items():
@@ -118,8 +127,9 @@ def measure(path, granularity, seconds, count, runs, workers):
 def main():
     path, count = sys.argv[1], int(sys.argv[2]) if len(sys.argv) > 2 else 1_000_000
     print(f"{count} events, {os.cpu_count()} processors, load {os.getloadavg()[0]:.1f}")
-    for ranges, granularity, seconds in ((24, "hour", 3600), (96, "fifteen_minute", 900)):
-        for name, took in measure(path, granularity, seconds, count, RUNS, WORKERS).items():
+    kinds = (("24", "hour", 3600, False), ("96", "fifteen_minute", 900, False), ("24 uneven", "hour", 3600, True))
+    for ranges, granularity, seconds, uneven in kinds:
+        for name, took in measure(path, granularity, seconds, count, RUNS, WORKERS, uneven).items():
             told = "  ".join(f"{it}: {took[it] * 1e3:.2f} ms ({took[1] / took[it]:.2f})" for it in WORKERS)
             print(f"{name} over {ranges} published ranges, by workers  {told}", flush=True)
     few = measure(path, "hour", 3600, 24, 301, (1, 2, 4, 8, 16))["timeseries"]
