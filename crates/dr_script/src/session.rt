@@ -62,8 +62,10 @@ impl Session {
         })
     }
 
-    /// Does what a line asks for; queries are answered by so many workers. An error leaves the session as it was. Refusals: those of the command's layer, and 101
-    /// `BadCommand` where a job or a snapshot is named that there isn't.
+    /// Does what a line asks for; queries are answered by so many workers. An error leaves the session as it was. Refusals: those
+    /// of the command's layer, 101 `BadCommand` where a job or a snapshot is named that there isn't, and for a query 80
+    /// `WorkerNotStarted` where the system refused a thread.
+    #[tactic(auto, using(crate::proofs::Refusals::any_threads))]
     pub fn carry_out<T: Threads + Wait + Sync>(
         &mut self,
         rt: &T,
