@@ -48,12 +48,13 @@ use std::thread::Threads;
 ///
 /// Each of these is the whole of what is written: where nothing failed, the text of the script of all lines, with its status;
 /// where a read failed, or 2^32 reads were made, the text of the lines that were read whole, and then `refused 99 ReadFault`;
-/// and where a write failed, a beginning of such a text. A line of 0 `NoMemory` or of 80
-/// `WorkerNotStarted` leaves the state as it was, and the lines behind it are answered over that state. A count of failures or of reads stands still at 2^64-1.
+/// and where a write failed, a beginning of such a text. A line of 0 `NoMemory`, or of 80 `WorkerNotStarted` to a `query` or an
+/// `at`, leaves the state as it was, and the lines behind it are answered over that state. A count of failures or of reads
+/// stands still at 2^64-1.
 ///
 /// Whatever the lines seal, merge and publish, and however late, often or in whatever order jobs are committed: each line `query` or
 /// `at` whose query matches is answered, byte for byte, by the answer over the raw events of those `+` lines before it, or
-/// before its `pin` line, that were answered `accepted`.
+/// before its `pin` line, that were answered `accepted`, whatever the number of workers.
 ///
 /// The cost of a line is that of its command, and reading and writing take a few operations a byte. At most 2^32 reads are made.
 /// What the script made stays in memory, which goes back to the system with the program: to let go of it piece by piece would

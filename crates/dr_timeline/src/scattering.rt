@@ -16,8 +16,8 @@ use std::alloc::Global;
 use std::sync::Wait;
 use std::thread::Threads;
 
-/// The groups of a query over the rows of all ranges, by as many workers as are asked for: by this thread alone where that is one,
-/// or where there are fewer than two ranges. Refusals are those of [`scatter`].
+/// The groups of a query over the rows of all ranges, by as many workers as are asked for: by this thread alone where that is
+/// one, or where there are fewer than two ranges. Refusals are those of [`scatter`].
 pub fn partial_by<R: Threads + Wait + Sync, G: Gate + Sync>(
     rt: &R,
     alloc: Global,

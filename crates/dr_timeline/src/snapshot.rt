@@ -111,13 +111,13 @@ impl Snapshot {
         answer(alloc, query, partial, self.span())
     }
 
-    /// What [`Snapshot::answer_one`] answers, by so many workers, 1 to 16, each of which enters the gate before it works on a range. With
-    /// one worker, or fewer than two ranges, no thread is started.
+    /// What [`Snapshot::answer_one`] answers, by so many workers, 1 to 16, each of which enters the gate before it works on a
+    /// range. There are no more workers than ranges; with one worker, or fewer than two ranges, no thread is started.
     ///
     /// Where the query matches, it is byte for byte the answer over the raw events, truncated, filtered, grouped and
     /// folded one by one, whatever the ranges, the workers and the gate. Refusals: 80 `WorkerNotStarted` where the system
     /// refused a thread, and 81 `ResultTooLarge` where there are over 100000 groups. It takes the time of the slowest worker,
-    /// of merging and of the rest of `answer_one`, and memory by the groups that each worker found.
+    /// of starting a thread for each, of merging and of the rest of `answer_one`, and memory by the groups that each worker found.
     #[tactic(auto, using(crate::proofs::Asking::lacking))]
     pub fn answer<R: Threads + Wait + Sync, G: Gate + Sync>(
         &self,
