@@ -22,6 +22,11 @@ abbrev pub is_lack : AskError → Bool
 is_lack (Answer e) = answer.is_memory e
 is_lack WorkerNotStarted = true
 
+-- no thread was refused
+abbrev pub HasThreads : AskError → Type 0
+HasThreads (Answer e) = Unit {0}
+HasThreads WorkerNotStarted = ⊥
+
 -- what workers refused
 abbrev pub scattered : ScatterError → AskError
 scattered scatter.NoMemory = Answer no_answer.NoMemory

@@ -1,4 +1,4 @@
-ghost use Rattle.std.specs.Prelude.{IfSome, List, Result, bytes_eq, ℕ};
+ghost use Rattle.std.specs.Prelude.{IfErr, IfSome, List, Result, bytes_eq, ℕ};
 ghost use Rattle.std.specs.List.{All, AllByRecursion, IsDistinct};
 ghost use Rattle.dr_answers.specs.AnswerRefusal.{Answers};
 ghost use Rattle.dr_answers.specs.declared.answer_error.AnswerError as one;
@@ -7,7 +7,7 @@ ghost use Rattle.dr_ask.specs.MadeFor.{outputs};
 ghost use Rattle.dr_intervals.specs.Printable.{StartsPrintable};
 ghost use Rattle.dr_time.specs.Instant.{IsInstant};
 ghost use Rattle.dr_time.specs.Printed.{IsPrintable};
-ghost use Rattle.dr_timeline.specs.AskRefusal.{AnswersUnless};
+ghost use Rattle.dr_timeline.specs.AskRefusal.{AnswersUnless, HasThreads};
 ghost use Rattle.dr_timeline.specs.Answering.{answer_from};
 
 use crate::ask_error::AskError;
@@ -38,7 +38,8 @@ pub fn answer(
 
 /// What one worker answered, as an answer by several.
 pub fn told(answer: Result<Vec<u8>, AnswerError>) -> Result<Vec<u8>, AskError>
-    ensures { (reading : Result (List ℕ) one.AnswerError) → Answers (λ text. text.items) answer reading → AnswersUnless (λ text. text.items) result reading }
+    ensures told { (reading : Result (List ℕ) one.AnswerError) → Answers (λ text. text.items) answer reading → AnswersUnless (λ text. text.items) result reading }
+    ensures threads { IfErr result HasThreads }
 {
     match answer {
         Ok(text) => Ok(text),

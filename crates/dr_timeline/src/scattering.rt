@@ -1,8 +1,9 @@
-ghost use Rattle.std.specs.Prelude.{◌≡◌, IfOk};
+ghost use Rattle.std.specs.Prelude.{◌≡◌, ◌<◌, IfErr, IfOk};
 ghost use Rattle.std.specs.List.{All, AllByRecursion};
 ghost use Rattle.dr_ask.specs.Asked.{asked};
 ghost use Rattle.dr_intervals.specs.Printable.{StartsPrintable};
 ghost use Rattle.dr_partial.specs.Partial.{partial};
+ghost use Rattle.dr_scatter.specs.declared.scatter_error.ScatterError.TheVariants.{NoMemory};
 ghost use Rattle.dr_time.specs.Instant.{IsInstant};
 ghost use Rattle.dr_time.specs.Printed.{IsPrintable};
 ghost use Rattle.dr_workers.specs.Shared.{rows_of};
@@ -29,6 +30,7 @@ pub fn partial_by<R: Threads + Wait + Sync, G: Gate + Sync>(
     requires { AllByRecursion (λ r. IsInstant r.key.time) (rows_of fragments.now) }
     ensures value { IfOk result (λ p. p ≡ partial (asked query.now) (rows_of fragments.now)) }
     ensures printable { All StartsPrintable query.now.intervals → IfOk result (λ p. AllByRecursion (λ g. IsPrintable g.key.time) p) }
+    ensures alone { workers < 2 → IfErr result (λ e. e ≡ NoMemory) }
 {
     if workers < 2 {
         return Ok(scatter_here(alloc, query, fragments, gate)?);

@@ -1,4 +1,4 @@
-ghost use Rattle.std.specs.Prelude.{◌≡◌, ◌↔◌, ◌++◌, IfOk, IsTrue, List, true, length, map, option_map, slice_get};
+ghost use Rattle.std.specs.Prelude.{◌≡◌, ◌<◌, ◌↔◌, ◌++◌, IfErr, IfOk, IsTrue, List, true, length, map, option_map, slice_get};
 ghost use Rattle.dr_base.specs.declared.event.Event.{Event};
 ghost use Rattle.dr_answers.specs.AnswerRefusal.{Answers};
 ghost use Rattle.dr_answers.specs.Answer.{answer};
@@ -9,7 +9,7 @@ ghost use Rattle.dr_ask.specs.MadeFor.{MadeFor};
 ghost use Rattle.dr_rollup.specs.Unrolled.{unrolled};
 ghost use Rattle.dr_cuts.specs.Segments.{rows_of};
 ghost use Rattle.dr_cuts.specs.RawAnswer.{raw_answer};
-ghost use Rattle.dr_timeline.specs.AskRefusal.{AnswersUnless};
+ghost use Rattle.dr_timeline.specs.AskRefusal.{AnswersUnless, HasThreads};
 
 use crate::answering::{answer, told};
 use crate::ask_error::AskError;
@@ -130,6 +130,7 @@ impl Snapshot {
         ensures own_rows { AnswersUnless (λ text. text.items) result (answer (asked query.now) (rows_of self.now)) }
         ensures raw_where_matching { is_matching (asked query.now) ≡ true
             → AnswersUnless (λ text. text.items) result (raw_answer self.now.schema (asked query.now) self.now.stream) }
+        ensures alone { workers < 2 → IfErr result HasThreads }
     {
         let alloc = self.stream.allocator();
         let groups = partial_by(rt, alloc, query, self.fragments.as_slice(), workers, gate)?;

@@ -31,7 +31,7 @@ returns-clause-own_rows g c =
     let made = c.in_ok-groups.ensures.value ∙ ap (λ fs. partial q (shared.rows_of fs)) c.as_slice.ensures in
     let from : answer_from q c.span.result c.in_ok-groups.groups ≡ answer q (rows_of c.args.self.now) =
     answer-own s.schema s.stream.items (map (λ (f : Fragment). f.rows) s.fragments) s.ranges.items c.self.invariant q c.span.result c.in_ok-groups.groups spans made ∙ ap (λ (p : Pinned). answer q (rows_of p)) c.self.view_is in
-    c.told.ensures (answer q (rows_of c.args.self.now)) (subst (Answers (λ text. text.items) c.answer.result) from c.answer.ensures)
+    c.told.ensures.told (answer q (rows_of c.args.self.now)) (subst (Answers (λ text. text.items) c.answer.result) from c.answer.ensures)
 
 pub returns-clause-raw_where_matching : goal.returns-clause-raw_where_matching
 returns-clause-raw_where_matching g c = λ matches.
@@ -43,4 +43,7 @@ returns-clause-raw_where_matching g c = λ matches.
     let from : answer_from q c.span.result c.in_ok-groups.groups ≡ raw_answer c.args.self.now.schema q c.args.self.now.stream =
     answer-raw s.schema s.stream.items (map (λ (f : Fragment). f.rows) s.fragments) s.ranges.items c.self.invariant q c.span.result c.in_ok-groups.groups spans made for_schema matches
     ∙ ap (λ (p : Pinned). raw_answer p.schema q p.stream) c.self.view_is in
-    c.told.ensures (raw_answer c.args.self.now.schema q c.args.self.now.stream) (subst (Answers (λ text. text.items) c.answer.result) from c.answer.ensures)
+    c.told.ensures.told (raw_answer c.args.self.now.schema q c.args.self.now.stream) (subst (Answers (λ text. text.items) c.answer.result) from c.answer.ensures)
+
+pub returns-clause-alone : goal.returns-clause-alone
+returns-clause-alone g c = λ few. c.told.ensures.threads
