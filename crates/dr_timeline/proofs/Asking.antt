@@ -1,6 +1,6 @@
 -- An answer by several workers, from that by one.
-use Rattle.std.proofs.Common.{◌≡◌, ap, Bool, true, false, Result, Ok, Err}
-use Rattle.std.proofs.Common.{true≢false, sym, ◌∙◌}
+use Rattle.std.proofs.Common.{◌≡◌, ap, Result, Ok}
+use Rattle.std.proofs.Common.{true≢false}
 use Rattle.dr_base.specs.Reading.{FailsUnless, passed}
 use Rattle.dr_answers.specs.AnswerRefusal.{is_memory}
 use Rattle.dr_answers.specs.declared.answer_error.AnswerError.{AnswerError}
