@@ -8,14 +8,13 @@ ghost use Rattle.dr_partial.specs.Partial.{kinds_in};
 ghost use Rattle.dr_partial.specs.Runs.{IsWithin, LiesIn};
 
 use crate::folds::add_folds;
-use crate::group_of::GroupOf;
 use crate::reading::value_read;
 use crate::rows::add_held;
 use crate::selecting::dimensions;
 use crate::window::Window;
 use dr_ask::{Aggregation, Query};
 use dr_base::{Key, Numbers, Text};
-use dr_rollup::Arrived;
+use dr_rollup::{Arrived, KeyOf};
 use indexmap::IndexMap;
 use std::alloc::{AllocError, Global};
 
@@ -112,7 +111,7 @@ fn add_whole_run(
 {
     let aggregations = query.aggregations.as_slice();
     let folds = folds_between(*groups.allocator(), aggregations, rows, from, to)?;
-    let group = GroupOf {
+    let group = KeyOf {
         time: bucket,
         dims: &[],
     };

@@ -6,11 +6,11 @@ ghost use Rattle.dr_rollup.specs.Entries.{row_of, HasKeyAt, NoneHas};
 ghost use Rattle.dr_partial.specs.Grouped.{folds_alone, IsSound, Adds, CombinesAt};
 ghost use Rattle.dr_partial.specs.Partial.{kinds_in};
 
-use crate::group_of::GroupOf;
 use crate::reading::{combine_reading, readings};
 use crate::selecting::are_values;
 use dr_ask::{Aggregation, Dimension};
 use dr_base::{Key, Numbers, Text, Texts};
+use dr_rollup::KeyOf;
 use indexmap::IndexMap;
 use std::alloc::{AllocError, Global};
 
@@ -18,7 +18,7 @@ use std::alloc::{AllocError, Global};
 pub fn add(
     groups: &mut IndexMap<Key, Numbers>,
     aggregations: &[Aggregation],
-    group: &GroupOf<'_>,
+    group: &KeyOf<'_>,
     metrics: &[i64],
 ) -> Result<usize, AllocError>
     requires { IsSound (kinds_in aggregations.now) (map row_of groups.old.entries) }
@@ -55,7 +55,7 @@ pub fn is_group_at(
 }
 
 // The key of a group. It shares the long texts.
-pub fn key_of(alloc: Global, group: &GroupOf<'_>) -> Result<Key, AllocError>
+pub fn key_of(alloc: Global, group: &KeyOf<'_>) -> Result<Key, AllocError>
     ensures { IfOk result (λ key. key ≡ record { time = group.now.time; dims = group.now.dims.now }) }
 {
     Ok(Key {
@@ -65,7 +65,7 @@ pub fn key_of(alloc: Global, group: &GroupOf<'_>) -> Result<Key, AllocError>
 }
 
 // The place of a group, where there is one.
-pub fn find(groups: &IndexMap<Key, Numbers>, group: &GroupOf<'_>) -> Option<usize>
+pub fn find(groups: &IndexMap<Key, Numbers>, group: &KeyOf<'_>) -> Option<usize>
     ensures found { IfSome result (HasKeyAt (record { time = group.now.time; dims = group.now.dims.now }) (map row_of groups.now.entries)) }
     ensures none { result ≡ None → NoneHas (record { time = group.now.time; dims = group.now.dims.now }) (map row_of groups.now.entries) }
 {

@@ -5,7 +5,6 @@
 mod arrived_runs;
 mod events;
 mod folds;
-mod group_of;
 mod grouping;
 mod index;
 mod known;

@@ -8,11 +8,11 @@ ghost use Rattle.dr_partial.specs.Grouped.{folds_alone, IsSound, Adds, AddsAll};
 ghost use Rattle.dr_partial.specs.Partial.{kinds_in};
 ghost use Rattle.dr_partial.specs.Runs.{LiesIn};
 
-use crate::group_of::GroupOf;
 use crate::grouping::{add, combine, is_group_at};
 use crate::selecting::{bucket_start, dimensions, is_selected, passes, read_group};
 use dr_ask::Query;
 use dr_base::{Key, Numbers, Row, Text};
+use dr_rollup::KeyOf;
 use indexmap::IndexMap;
 use std::alloc::AllocError;
 
@@ -99,7 +99,7 @@ pub fn add_selected(
 {
     let alloc = *group.allocator();
     read_group(alloc, dimensions(query), dims, group)?;
-    let key = GroupOf {
+    let key = KeyOf {
         time: bucket_start(query, time),
         dims: group.as_slice(),
     };
@@ -150,7 +150,7 @@ fn add_passed(
     }
     let alloc = *group.allocator();
     read_group(alloc, dimensions(query), dims, group)?;
-    let key = GroupOf {
+    let key = KeyOf {
         time: bucket,
         dims: group.as_slice(),
     };

@@ -13,6 +13,7 @@ mod sorted_rows;
 mod unrolled;
 
 pub use arrived::Arrived;
+pub use key_of::KeyOf;
 pub use open_index::OpenIndex;
 pub use rollup_error::RollupError;
-pub use unrolled::{columns_of, unrolled_row};
+pub use unrolled::{columns_of, push_contributions, unrolled_row};

@@ -65,7 +65,8 @@ fn contributions(alloc: Global, metrics: &[Metric], inputs: &[i64]) -> Result<Nu
     Ok(Numbers::from_vec(values))
 }
 
-/// Puts what an event adds to each column, by its inputs, behind other values, where there is room for them.
+/// Puts what an event adds to each column, by its inputs, behind other values: 1 to a count, its input to every other; where an
+/// input isn't there, it reads 0. There must be room for them. It takes time by the columns, and no memory.
 pub fn push_contributions(values: &mut Vec<i64>, metrics: &[Metric], inputs: &[i64])
     requires { length values.old.items + length metrics.now ≤ vec_capacity values.old }
     ensures { values.new.items ≡ values.old.items ++ contributions (map (λ m. m.kind) metrics.now) inputs.now }
