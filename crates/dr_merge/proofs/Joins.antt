@@ -48,7 +48,7 @@ unfolding end_of
 end_fits schema f [] has = has.0.to_fits
 end_fits schema f (g ∷ fs) has = end_fits schema g fs has.1
 
-all-append : {A : Type 0} (P : A → Type 0) (xs ys : List A) → AllByRecursion P xs → AllByRecursion P ys → AllByRecursion P (xs ++ ys)
+pub all-append : {A : Type 0} (P : A → Type 0) (xs ys : List A) → AllByRecursion P xs → AllByRecursion P ys → AllByRecursion P (xs ++ ys)
 all-append P [] ys px py = py
 all-append P (x ∷ xs) ys px py = (px.0, all-append P xs ys px.1 py)
 

@@ -1,9 +1,9 @@
-ghost use Rattle.std.specs.Prelude.{◌≡◌, ◌≤◌, IfOk, map, length};
+ghost use Rattle.std.specs.Prelude.{◌≡◌, ◌≤◌, ◌∷◌, [], IfOk, IfSome, map, length};
 ghost use Rattle.dr_base.specs.Reading.{GivesUnless};
 ghost use Rattle.dr_agg.specs.Rollup.{join};
 ghost use Rattle.dr_schema.specs.Columns.{kinds_of};
 ghost use Rattle.dr_segment.specs.Encoding.{sealed, encoded};
-ghost use Rattle.dr_merge.specs.Joined.{IsJobOf, worked, first_from, last_to};
+ghost use Rattle.dr_merge.specs.Joined.{IsJobOf, joined_fragment, sealed_fragment, worked, first_from, last_to};
 ghost use Rattle.dr_merge.specs.Refusal.{is_memory, not_written};
 ghost use Rattle.dr_base.specs.Reading.{passed};
 
@@ -12,7 +12,7 @@ use crate::inputs::{ordered_inputs, rows_of_all};
 use crate::job::Job;
 use crate::merge_error::MergeError;
 use dr_base::Row;
-use dr_fragment::{Fragment, SharedFragment, sort};
+use dr_fragment::{Form, Fragment, SharedFragment, sort};
 use dr_image::ImageError;
 use dr_rollup::columns_of;
 use dr_schema::Schema;
@@ -26,22 +26,44 @@ use std::alloc::{AllocError, Global};
 /// `max_image_bytes`.
 ///
 /// It takes time by the rows of the inputs and the logarithm of how many inputs there are, for they stand in order already,
-/// and what `encode` takes; memory for a reference to each input row, for the joined rows, and what `encode` takes.
+/// and what `encode` takes; memory for a reference to each input row, for the joined rows, and what `encode` takes. An only input
+/// that is a list of rows is encoded as it lies.
 pub fn work(alloc: Global, schema: &Schema, job: &Job) -> Result<Fragment, MergeError>
     requires { IsJobOf schema.now job.now }
     ensures { GivesUnless is_memory (λ fragment. fragment) result (worked schema.now job.now) }
 {
-    let inputs = job.inputs.as_slice();
-    let rows = joined_rows(alloc, schema, inputs)?;
-    let image = written(
-        alloc,
-        schema,
-        job.chunk,
-        first_from(inputs),
-        last_to(inputs),
-        &rows,
-    )?;
+    let image = joined_image(alloc, schema, job)?;
     Ok(Fragment::of_known_image(image))
+}
+
+// The image of what the inputs are joined to, or 59. The rows of an only input are joined already.
+fn joined_image(alloc: Global, schema: &Schema, job: &Job) -> Result<Vec<u8>, MergeError>
+    requires { IsJobOf schema.now job.now }
+    ensures gives { GivesUnless is_memory (λ bytes. bytes.items) result (passed not_written (encoded schema.now.limits.max_image_bytes (sealed_fragment schema.now (joined_fragment schema.now job.now)))) }
+    ensures small { schema.now.limits.max_image_bytes ≤ 1073741824 }
+{
+    let _ = schema.fields();
+    let inputs = job.inputs.as_slice();
+    let (from, to) = (first_from(inputs), last_to(inputs));
+    if let Some(rows) = rows_alone(inputs) {
+        return written(alloc, schema, job.chunk, from, to, rows);
+    }
+    let rows = joined_rows(alloc, schema, inputs)?;
+    written(alloc, schema, job.chunk, from, to, &rows)
+}
+
+// The rows of an only input, where they lie as a list.
+fn rows_alone(inputs: &[SharedFragment]) -> Option<&[Row]>
+    ensures { IfSome result (λ rows. map (λ f. f.rows) inputs.now ≡ rows.now ∷ []) }
+{
+    if inputs.len() != 1 {
+        return None;
+    }
+    match inputs[0].fragment().form() {
+        Form::Rows(rows) => Some(rows),
+        Form::Image(_) => None,
+        Form::Index(_) => None,
+    }
 }
 
 // The image of a range, or 59.
