@@ -20,9 +20,9 @@ pub(crate) fn ordered_inputs(
 }
 
 // References to all rows, one input after another.
-pub(crate) fn rows_of_all<'a, 'b>(
+pub(crate) fn rows_of_all<'a>(
     alloc: Global,
-    inputs: &'a [OrderedRows<'b>],
+    inputs: &'a [OrderedRows<'_>],
 ) -> Result<Vec<RowRef<'a>>, AllocError>
     ensures { IfOk result (λ rows. rows.items ≡ all_rows inputs.now) }
 {
@@ -33,10 +33,7 @@ pub(crate) fn rows_of_all<'a, 'b>(
     Ok(rows)
 }
 
-fn push_rows<'a, 'b>(
-    rows: &mut Vec<RowRef<'a>>,
-    input: &'a OrderedRows<'b>,
-) -> Result<(), AllocError>
+fn push_rows<'a>(rows: &mut Vec<RowRef<'a>>, input: &'a OrderedRows<'_>) -> Result<(), AllocError>
     ensures { OnOk result (rows.new.items ≡ rows.old.items ++ input.now) }
 {
     rows.reserve(input.len())?;
