@@ -34,7 +34,7 @@ use Rattle.dr_cuts.specs.Segments.{Pinned, pinned, infos, rows_over, rows_of}
 use Rattle.dr_timeline.specs.CoreState.{CoreState, empty_core, with_timeline, with_job, with_pin}
 use Rattle.dr_core.specs.Run.{FitsStep, Moves, told, taken, RunFrom, reply_to}
 use Rattle.dr_core.specs.Steps.{commit_job, given}
-use Rattle.dr_core.specs.Asking.{answer_over, audited}
+use Rattle.dr_core.specs.Asking.{answer_over}
 use Rattle.dr_timeline.specs.Scanning.{scan_over}
 use Rattle.dr_core.specs.Headline.{accepted_by, pinned_by, IsRaw, AnswersRaw, AnswersFrom, AnswersAreRaw}
 use Rattle.dr_core.proofs.CutSteps.{cuts-opened, cuts-after_seal, cuts-after_merge}

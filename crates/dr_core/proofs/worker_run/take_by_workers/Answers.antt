@@ -1,4 +1,4 @@
-use Rattle.std.proofs.Common.{◌∙◌, sym, subst, take}
+use Rattle.std.proofs.Common.{rules, ◌∙◌, sym, subst, take}
 use Rattle.std.proofs.lemmas.List.{take_more}
 use Rattle.dr_schema.specs.declared.schema.Schema.{Schema}
 use Rattle.dr_cuts.proofs.Each.{All-at}
@@ -10,7 +10,8 @@ pub step_by_workers-reply-requires : goal.step_by_workers-reply-requires
 step_by_workers-reply-requires g c =
     let fits : FitsStep c.args.core.now.timeline.schema c.step-item.result =
     subst (FitsStep c.args.core.now.timeline.schema) (sym c.step-item.is) (All-at (FitsStep c.args.core.now.timeline.schema) c.args.steps.now c.loop-step.step-index c.step-item.result c.loop-step-test.true c.requires) in
-    subst (λ (schema : Schema). FitsStep schema c.step-item.result) (sym c.loop-step.invariant.0) fits
+    let here : FitsStep c.loop-step.core.timeline.schema c.step-item.result = subst (λ (schema : Schema). FitsStep schema c.step-item.result) (sym c.loop-step.invariant.0) fits in
+    search rules
 
 pub loop-step-preserved : goal.loop-step-preserved
 loop-step-preserved g c = (
