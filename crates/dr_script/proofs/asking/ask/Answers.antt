@@ -1,6 +1,6 @@
 use Rattle.dr_ask.specs.Asked.{asked}
 use Rattle.dr_core.specs.Asking.{answer_over}
-use Rattle.dr_script.proofs.Asking.{given-so, refused-so}
+use Rattle.dr_script.proofs.AskingErrors.{given-so, refused-so}
 use Rattle.dr_script.proofs.asking.ask.Goals as goal
 
 pub returns-in-Ok : goal.returns-in-Ok

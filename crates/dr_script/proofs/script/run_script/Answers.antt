@@ -16,7 +16,7 @@ returns-in-Ok-clause-script g c =
     let refused = c.in-Ok.is_refused in
     let after = c.run_all.new in
     ran Script (seen_by g.R.Read.remaining c.args.reader.now) (seen_by g.R.Read.remaining after.reader) (seen_by g.W.Write.contents c.args.writer.now) (seen_by g.W.Write.contents after.writer)
-    refused _ (c.from.ensures ∙ status_byte refused) c.in-Ok.ensures.failures c.in-Ok.ensures.script
+    refused _ (c.from-in-Ok.ensures ∙ status_byte refused) c.in-Ok.ensures.failures c.in-Ok.ensures.script
 
 pub returns-in-Ok-clause-raw_where_matching : goal.returns-in-Ok-clause-raw_where_matching
 returns-in-Ok-clause-raw_where_matching g c =
@@ -26,7 +26,7 @@ returns-in-Ok-clause-raw_where_matching g c =
     let writer = seen_by g.W.Write.contents c.args.writer.now in
     let writer_after = seen_by g.W.Write.contents c.run_all.new.writer in
     runs_also Script RawScript reader reader_after writer writer_after _ raw_script
-    (ran Script reader reader_after writer writer_after refused _ (c.from.ensures ∙ status_byte refused) c.in-Ok.ensures.failures c.in-Ok.ensures.script)
+    (ran Script reader reader_after writer writer_after refused _ (c.from-in-Ok.ensures ∙ status_byte refused) c.in-Ok.ensures.failures c.in-Ok.ensures.script)
 
 pub returns-in-Err-clause-raw_where_matching : goal.returns-in-Err-clause-raw_where_matching
 returns-in-Err-clause-raw_where_matching g c =
