@@ -1,5 +1,5 @@
 -- What several workers answered, as what a command gives.
-use Rattle.std.proofs.Common.{◌≡◌, ◌∙◌, sym, refl, ap, Bool, true, false, true≢false, Result, Ok, Err}
+use Rattle.std.proofs.Common.{◌≡◌, ◌∙◌, sym, refl, ap, true≢false, Result, Ok, Err}
 use Rattle.dr_base.specs.Reading.{FailsUnless, passed}
 use Rattle.dr_answers.specs.declared.answer_error.AnswerError.{AnswerError}
 use Rattle.dr_timeline.specs.AskRefusal as by

@@ -14,7 +14,6 @@ use Rattle.dr_spec.proofs.WellFormedSchemas.{IsWellFormed-spec_of}
 use Rattle.dr_events.specs.EventOf.{event_of}
 use Rattle.dr_answers.specs.declared.answer_error.AnswerError.{AnswerError}
 use Rattle.dr_ask.specs.Asked.{Asked}
-use Rattle.dr_ask.specs.Matching.{is_matching}
 use Rattle.dr_ask.specs.declared.query_error.QueryError.{QueryError}
 use Rattle.dr_core.specs.Asking.{answer_over}
 use Rattle.dr_ask.specs.QueryOf.{query_of}

@@ -6,13 +6,11 @@ use Rattle.dr_base.specs.Reading.{FailsUnless}
 use Rattle.dr_lines.specs.Lines.{longest_line}
 use Rattle.dr_lines.specs.declared.line_error.LineError.TheVariants.{LineTooLong}
 use Rattle.dr_timeline.specs.CoreState.{CoreState}
-use Rattle.dr_requests.specs.declared.command_error.CommandError.{CommandError}
 use Rattle.dr_requests.specs.declared.command_error.CommandError.TheVariants.{NoMemory, Line}
-use Rattle.dr_requests.specs.declared.request.Request.{Request}
 use Rattle.dr_requests.specs.Request.{request_in}
 use Rattle.dr_script.specs.declared.script_error.ScriptError.{ScriptError}
 use Rattle.dr_script.specs.declared.script_error.ScriptError.TheVariants.{Command, Time, Core, Query, Answer, WorkerNotStarted}
-use Rattle.dr_script.specs.Commands.{Answered, AsksIn, AsksQuery, ThreadsIf, is_lack, is_memory, not_started, refused_by, told}
+use Rattle.dr_script.specs.Commands.{Answered, AsksIn, ThreadsIf, is_lack, is_memory, refused_by, told}
 use Rattle.dr_script.specs.Replies.{IsAnswer}
 use Rattle.dr_script.specs.Script.{Moves, answer_line, asked_by, line_done, settled, step}
 

@@ -148,8 +148,16 @@ fn run<T: Threads + Wait + Sync, R: Read, W: Write>(
         }
         Some(Ok(mut session)) => {
             Reply::SpecOk.put(output, writer)?;
-            let refuses =
-                answer_lines(rt, alloc, &mut session, lines, output, reader, writer, workers);
+            let refuses = answer_lines(
+                rt,
+                alloc,
+                &mut session,
+                lines,
+                output,
+                reader,
+                writer,
+                workers,
+            );
             // To let go of events and rows one by one takes longer than to answer some lines.
             forget(session);
             refuses

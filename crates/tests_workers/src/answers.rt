@@ -15,9 +15,9 @@ const SPEC: &str =
     r#"{"dataSchema":{"dataSource":"w","timestampSpec":{"column":"t","format":"iso"},"dimensionsSpec":{"dimensions":["page","lang"]},"metricsSpec":[{"type":"count","name":"n"},{"type":"longSum","name":"added","fieldName":"a"},{"type":"longMin","name":"lo","fieldName":"a"},{"type":"longMax","name":"hi","fieldName":"a"}],"granularitySpec":{"segmentGranularity":"day","queryGranularity":"hour"}}}"#;
 
 /// The start of the day of the events.
-pub const DAY: i64 = 1_704_067_200_000;
+const DAY: i64 = 1_704_067_200_000;
 
-/// Pages with what was added, each but the last four of which a seal follows.
+/// Pages with what was added.
 const PAGES: [&str; 7] = [
     r#"{"t":"2024-01-01","page":"A","a":3}"#,
     r#"{"t":"2024-01-01","page":"B","a":9}"#,
@@ -32,15 +32,20 @@ const PAGES: [&str; 7] = [
 const SECOND: &str =
     r#"{"queryType":"groupBy","dataSource":"w","intervals":["2024-01-01/2024-01-02"],"granularity":"all","dimensions":["page"],"aggregations":[{"type":"longSum","name":"added","fieldName":"added"}],"having":{"type":"greaterThan","aggregation":"added","value":0},"limitSpec":{"type":"default","limit":1,"offset":1,"columns":[{"dimension":"added","direction":"descending"}]}}"#;
 
-/// A snapshot of four ranges, and a query for it.
-fn pinned(alloc: Global) -> Result<(Snapshot, Query), Fail>
+/// A snapshot of events, of which so many are sealed, each in a range of its own, and a query for it.
+pub fn pinned(
+    alloc: Global,
+    events: &[&str],
+    sealed: usize,
+    query: &str,
+) -> Result<(Snapshot, Query), Fail>
     ensures { IfOk result (λ p. MadeFor p.0.schema (asked p.1)) }
 {
     let mut timeline = new_timeline(alloc)?;
-    let query = Query::parse(alloc, SECOND.as_bytes(), timeline.spec().schema())?;
-    for (i, page) in PAGES.iter().enumerate() {
-        accept(alloc, &mut timeline, page)?;
-        if i < 3 {
+    let query = Query::parse(alloc, query.as_bytes(), timeline.spec().schema())?;
+    for (i, event) in events.iter().enumerate() {
+        accept(alloc, &mut timeline, event)?;
+        if i < sealed {
             timeline.seal(DAY)?;
         }
     }
@@ -48,24 +53,24 @@ fn pinned(alloc: Global) -> Result<(Snapshot, Query), Fail>
 }
 
 /// A timeline without events.
-pub fn new_timeline(alloc: Global) -> Result<Timeline, Fail> {
+fn new_timeline(alloc: Global) -> Result<Timeline, Fail> {
     let spec = IngestSpec::parse(alloc, SPEC.as_bytes())?;
     Ok(Timeline::new(alloc, spec)?)
 }
 
 /// Accepts the event of a text, and tells its number.
-pub fn accept(alloc: Global, timeline: &mut Timeline, event: &str) -> Result<u64, Fail> {
+fn accept(alloc: Global, timeline: &mut Timeline, event: &str) -> Result<u64, Fail> {
     let event = read_event(alloc, timeline.spec(), 0, event.as_bytes())?;
     Ok(timeline.accept(event)?)
 }
 
-/// The answer by so many workers.
+/// The second page by so many workers, over four ranges.
 fn answer_by<R: Threads + Wait + Sync>(
     rt: &R,
     alloc: Global,
     workers: usize,
 ) -> Result<Vec<u8>, Fail> {
-    let (snapshot, query) = pinned(alloc)?;
+    let (snapshot, query) = pinned(alloc, &PAGES, 3, SECOND)?;
     Ok(snapshot.answer(rt, &query, workers, &OpenGate)?)
 }
 
