@@ -37,12 +37,12 @@ pub fn pinned(
     alloc: Global,
     events: &[&str],
     sealed: usize,
-    query: &str,
+    text: &str,
 ) -> Result<(Snapshot, Query), Fail>
     ensures { IfOk result (λ p. MadeFor p.0.schema (asked p.1)) }
 {
     let mut timeline = new_timeline(alloc)?;
-    let query = Query::parse(alloc, query.as_bytes(), timeline.spec().schema())?;
+    let query = Query::parse(alloc, text.as_bytes(), timeline.spec().schema())?;
     for (i, event) in events.iter().enumerate() {
         accept(alloc, &mut timeline, event)?;
         if i < sealed {
