@@ -42,13 +42,13 @@ pub fn pinned(
     ensures { IfOk result (λ p. MadeFor p.0.schema (asked p.1)) }
 {
     let mut timeline = new_timeline(alloc)?;
-    let query = Query::parse(alloc, text.as_bytes(), timeline.spec().schema())?;
     for (i, event) in events.iter().enumerate() {
         accept(alloc, &mut timeline, event)?;
         if i < sealed {
             timeline.seal(DAY)?;
         }
     }
+    let query = Query::parse(alloc, text.as_bytes(), timeline.spec().schema())?;
     Ok((timeline.pin()?, query))
 }
 
