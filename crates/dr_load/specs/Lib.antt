@@ -1,0 +1,3 @@
+pub mod Policy
+pub mod Refusal
+pub mod Load

@@ -1,0 +1,7 @@
+//! Tests of loads: files that lie in memory, ingested by threads.
+#![tactic(auto)]
+
+#[cfg(test)]
+mod loads;
+#[cfg(test)]
+mod meeting;
