@@ -1,5 +1,5 @@
 -- What is asked of a load before a file is read, and what it tells in the end.
-use Rattle.std.specs.Prelude.{◌≡◌, ◌⊎◌, ℕ, List, ◌++◌, length, true, Result, Ok, Err, codes, decimal, if◌then◌else◌}
+use Rattle.std.specs.Prelude.{◌≡◌, ◌⊎◌, ℕ, List, ◌++◌, length, true, Result, Ok, Err, codes, if◌then◌else◌}
 use Rattle.dr_base.specs.Reading.{◌>>=◌, passed}
 use Rattle.dr_base.specs.declared.event.Event.{Event}
 use Rattle.dr_schema.specs.declared.schema.Schema.{Schema}
@@ -8,6 +8,7 @@ use Rattle.dr_ask.specs.Asked.{Asked}
 use Rattle.dr_ask.specs.Matching.{is_matching}
 use Rattle.dr_ask.specs.QueryOf.{query_of}
 use Rattle.dr_cuts.specs.RawAnswer.{raw_answer}
+use Rattle.dr_counts.specs.CountsLine.{counts_line}
 use Rattle.dr_load.specs.Refusal.{is_memory}
 use Rattle.dr_load.specs.declared.load_error.LoadError.{LoadError}
 use Rattle.dr_load.specs.declared.load_error.LoadError.TheVariants.{Spec, Query, NotMatching}
@@ -24,12 +25,7 @@ asked_of spec query = do
   matching ← only_matching q
   Ok (schema, matching)
 
--- the line of the counts
-abbrev pub counts_line : ℕ → ℕ → ℕ → List ℕ
-counts_line processed unparseable thrown_away =
-    ((codes "processed " ++ decimal processed) ++ (codes " unparseable " ++ decimal unparseable)) ++ (codes " thrownAway " ++ decimal thrown_away)
-
--- that line, and the line of the answer
+-- the line of the counts, and the line of the answer
 abbrev pub told : ℕ → ℕ → ℕ → List ℕ → List ℕ
 told processed unparseable thrown_away answer = ((counts_line processed unparseable thrown_away ++ codes "\n") ++ answer) ++ codes "\n"
 
