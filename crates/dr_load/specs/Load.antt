@@ -11,7 +11,7 @@ use Rattle.dr_cuts.specs.RawAnswer.{raw_answer}
 use Rattle.dr_counts.specs.CountsLine.{counts_line}
 use Rattle.dr_load.specs.Refusal.{is_memory}
 use Rattle.dr_load.specs.declared.load_error.LoadError.{LoadError}
-use Rattle.dr_load.specs.declared.load_error.LoadError.TheVariants.{Spec, Query, NotMatching}
+use Rattle.dr_load.specs.declared.load_error.LoadError.TheVariants.{Spec, Query, NotMatching, Answer}
 
 -- the query is answered by the raw events, whatever is merged
 abbrev pub only_matching : Asked → Result Asked LoadError
@@ -29,10 +29,15 @@ asked_of spec query = do
 abbrev pub told : ℕ → ℕ → ℕ → List ℕ → List ℕ
 told processed unparseable thrown_away answer = ((counts_line processed unparseable thrown_away ++ codes "\n") ++ answer) ++ codes "\n"
 
--- the text of the raw answer over some events, behind their counts
+-- both of the raw answer over some events, or the refusal of that answer
+abbrev pub told_of : Schema → Asked → List Event → ℕ × ℕ → Result (List ℕ) LoadError
+told_of schema q es counts = do
+  answer ← passed Answer (raw_answer schema q es)
+  Ok (told (length es) counts.0 counts.1 answer)
+
+-- a text that is told of some events
 abbrev pub TellsRaw : Schema → Asked → List ℕ → Type 0
-TellsRaw schema q text = (es : List Event) × (unparseable : ℕ) × (thrown_away : ℕ) × (answer : List ℕ)
-    × (raw_answer schema q es ≡ Ok answer) × (text ≡ told (length es) unparseable thrown_away answer)
+TellsRaw schema q text = (es : List Event) × (counts : ℕ × ℕ) × (told_of schema q es counts ≡ Ok text)
 
 -- a text is told where nothing was refused before a file was read
 abbrev pub Tells : Result (Schema × Asked) LoadError → List ℕ → Type 0

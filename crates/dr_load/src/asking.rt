@@ -3,12 +3,11 @@ ghost use Rattle.dr_ask.specs.Asked.{asked};
 ghost use Rattle.dr_ask.specs.MadeFor.{MadeFor};
 
 use crate::load_error::LoadError;
-use crate::progress::Progress;
+use crate::progress::progress_of;
 use crate::watch::Watch;
 use dr_ask::Query;
 use dr_books::Books;
 use dr_node::{Node, Seat, Stop};
-use dr_timeline::RangeInfo;
 use std::sync::Wait;
 use std::thread;
 use std::time::{Clock, Duration, Instant};
@@ -39,7 +38,11 @@ pub(crate) fn ask<B: Books, T: Wait + Clock, W: Watch>(
         let snapshot = node.pin(rt, seat)?;
         snapshot.answer_one(query)?;
         answers = answers.saturating_add(1);
-        watch.told(progress(snapshot.event_count() as u64, snapshot.ranges(), answers));
+        watch.told(progress_of(
+            snapshot.event_count() as u64,
+            snapshot.ranges(),
+            answers,
+        ));
         drop(snapshot);
         let took = match (begun, Instant::now(rt)) {
             (Ok(begun), Ok(ended)) => ended.saturating_duration_since(begun).as_micros(),
@@ -49,23 +52,4 @@ pub(crate) fn ask<B: Books, T: Wait + Clock, W: Watch>(
         thread::sleep(rt, Duration::from_micros(wait));
     }
     unreachable!()
-}
-
-fn progress(events: u64, ranges: &[RangeInfo], answers: u64) -> Progress {
-    let mut sealed = 0u64;
-    let mut published = 0u64;
-    for range in ranges {
-        if range.sealed {
-            sealed = sealed.saturating_add(1);
-            if range.version > 0 {
-                published = published.saturating_add(1);
-            }
-        }
-    }
-    Progress {
-        events,
-        sealed,
-        published,
-        answers,
-    }
 }

@@ -14,6 +14,7 @@ mod node_load;
 mod order;
 mod progress;
 mod publish_all;
+mod totals;
 mod watch;
 
 pub use load::{load_run, load_watched};

@@ -2,6 +2,10 @@
 #![tactic(auto)]
 
 #[cfg(test)]
+mod bell;
+#[cfg(test)]
 mod loads;
 #[cfg(test)]
 mod meeting;
+#[cfg(test)]
+mod signals;

@@ -1,5 +1,7 @@
+use crate::bell::Bell;
 use crate::meeting::Meeting;
-use dr_load::load_run;
+use crate::signals::Signals;
+use dr_load::{load_run, load_watched};
 use std::sync::atomic::AtomicBool;
 use std::test::Fail;
 
@@ -34,6 +36,19 @@ fn two_files_whose_first_reads_wait_for_each_other_are_loaded(rt: HostRuntime) -
 }
 
 #[test]
+fn a_file_that_waits_for_an_answer_is_loaded(rt: HostRuntime) -> Result<(), Fail> {
+    let (read, answered) = (AtomicBool::new(false), AtomicBool::new(false));
+    let mut files = Vec::with_capacity(rt.alloc(), 2)?;
+    files.push(Meeting::new(FIRST, &read, &answered))?;
+    files.push(Meeting::new(SECOND, &read, &answered))?;
+    let Ok(text) = load_watched(&rt, SPEC, QUERY, files, 1, &Bell { rung: &answered }) else {
+        panic!(rt; "no answer");
+    };
+    assert!(rt; text.as_slice() == TOLD);
+    Ok(())
+}
+
+#[test]
 fn a_file_whose_read_fails_is_refused(rt: HostRuntime) -> Result<(), Fail> {
     let (first, second) = (AtomicBool::new(true), AtomicBool::new(true));
     let mut files = Vec::with_capacity(rt.alloc(), 2)?;
@@ -43,5 +58,19 @@ fn a_file_whose_read_fails_is_refused(rt: HostRuntime) -> Result<(), Fail> {
         panic!(rt; "no refusal");
     };
     assert!(rt; error.number() == 99);
+    Ok(())
+}
+
+#[test]
+fn files_whose_reads_are_interrupted_are_loaded(rt: HostRuntime) -> Result<(), Fail> {
+    for workers in [1, 2, 4] {
+        let mut files = Vec::with_capacity(rt.alloc(), 2)?;
+        files.push(Signals::new(FIRST))?;
+        files.push(Signals::new(SECOND))?;
+        let Ok(text) = load_run(&rt, SPEC, QUERY, files, workers) else {
+            panic!(rt; "no answer");
+        };
+        assert!(rt; text.as_slice() == TOLD);
+    }
     Ok(())
 }
