@@ -4,13 +4,13 @@ ghost use Rattle.dr_ask.specs.MadeFor.{MadeFor};
 
 use crate::load_error::LoadError;
 use crate::progress::progress_of;
+use crate::waiting::wait;
 use crate::watch::Watch;
 use dr_ask::Query;
 use dr_books::Books;
 use dr_node::{Node, Seat, Stop};
 use std::sync::Wait;
-use std::thread;
-use std::time::{Clock, Duration, Instant};
+use std::time::{Clock, Instant};
 
 /// The shortest and the longest wait between two queries, in microseconds.
 const SHORTEST_WAIT: u64 = 2_000;
@@ -48,8 +48,8 @@ pub(crate) fn ask<B: Books, T: Wait + Clock, W: Watch>(
             (Ok(begun), Ok(ended)) => ended.saturating_duration_since(begun).as_micros(),
             _ => 0,
         };
-        let wait = ((took / 3).min(u128::from(LONGEST_WAIT)) as u64).max(SHORTEST_WAIT);
-        thread::sleep(rt, Duration::from_micros(wait));
+        let rest = ((took / 3).min(u128::from(LONGEST_WAIT)) as u64).max(SHORTEST_WAIT);
+        wait(rt, stop, rest);
     }
     unreachable!()
 }

@@ -15,6 +15,7 @@ mod order;
 mod progress;
 mod publish_all;
 mod totals;
+mod waiting;
 mod watch;
 
 pub use load::{load_run, load_watched};

@@ -44,6 +44,7 @@ pub(crate) fn ingest_all<
     let stop = Stop::new();
     let policy = PublishAll {
         clock: rt,
+        stop: &stop,
         idle: AtomicU32::new(0),
     };
     let count = seats.len();

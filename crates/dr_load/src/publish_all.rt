@@ -1,20 +1,23 @@
 ghost use Rattle.std.specs.Prelude.{◌≡◌, ◌≤◌, length};
 ghost use Rattle.dr_load.specs.Policy.{crowded, leading};
 
-use dr_node::Policy;
+use crate::waiting::wait;
+use dr_node::{Policy, Stop};
 use dr_timeline::{Purpose, RangeInfo};
 use std::sync::atomic::{AtomicU32, Ordering};
-use std::thread;
-use std::time::{Clock, Duration};
+use std::time::Clock;
 
-/// The longest wait between two turns of a merger that finds nothing to do, in microseconds.
-const LONGEST_WAIT: u64 = 5_000;
+/// The wait after the first turn that finds nothing to do, in microseconds, and how often it is doubled.
+const SHORTEST_WAIT: u64 = 500;
+
+const MOST_DOUBLINGS: u32 = 6;
 
 /// Publishes all sealed ranges of the first chunk that has two or more. Where there is none it waits before the next turn, each
-/// time longer, up to five milliseconds.
+/// time twice as long, up to 32 milliseconds, or until it is stopped.
 #[derive(Drop)]
 pub(crate) struct PublishAll<'a, C> {
     pub(crate) clock: &'a C,
+    pub(crate) stop: &'a Stop,
     pub(crate) idle: AtomicU32,
 }
 
@@ -26,10 +29,9 @@ impl<C: Clock> Policy for PublishAll<'_, C> {
                 Some((chunk, 0, count, Purpose::Publish))
             }
             None => {
-                let turns = self.idle.load(Ordering::SeqCst).min(10);
-                self.idle.store(turns + 1, Ordering::SeqCst);
-                let micros = (10u64 << turns).min(LONGEST_WAIT);
-                thread::sleep(self.clock, Duration::from_micros(micros));
+                let doublings = self.idle.load(Ordering::SeqCst).min(MOST_DOUBLINGS);
+                self.idle.store(doublings + 1, Ordering::SeqCst);
+                wait(self.clock, self.stop, SHORTEST_WAIT << doublings);
                 None
             }
         }
