@@ -17,7 +17,7 @@ use Rattle.dr_ask.specs.Asked.{AskedGroups, AskedShape, timeseries, group_by, sc
 use Rattle.dr_ask.specs.ContextOf.{context_of}
 use Rattle.dr_ask.specs.DimensionsOf.{dimensions_of}
 use Rattle.dr_ask.specs.Fields.{no_unlisted}
-use Rattle.dr_ask.specs.Outputs.{aggregation_names, dimension_names, distinct_from}
+use Rattle.dr_ask.specs.Outputs.{aggregation_names, dimension_names, distinct_from, distinct_outputs}
 use Rattle.dr_ask.specs.QueryOf.{aggregations_by}
 use Rattle.dr_ask.specs.ScanOf.{scan_of}
 use Rattle.dr_ask.specs.ShapeOf.{timeseries_of, having_or_none, group_by_keys, group_by_of, shape_by}
@@ -55,6 +55,12 @@ none_differ : Differ []
 unfolding IsDistinct
 none_differ = tt
 
+distinct_outputs-differ : (dimensions aggregations : List (List ℕ)) (u : Unit {0}) → distinct_outputs dimensions aggregations ≡ Ok u → Differ (dimensions ++ aggregations)
+unfolding distinct_outputs
+distinct_outputs-differ dimensions aggregations u e =
+    through (distinct_from [] dimensions) _ u e (λ grouped first behind.
+    Differ-read aggregations dimensions u (Differ-read dimensions [] grouped none_differ first) behind)
+
 -- ---- the outputs of a query by its type
 
 abbrev OutputsDiffer : List Aggregation → AskedShape → Type 0
@@ -71,8 +77,7 @@ of_group_by : (schema : Schema) (aggregations : List Aggregation) (d : Data) (ms
 unfolding group_by_of
 of_group_by schema aggregations d ms g e =
     through (dimensions_of schema (field (codes "dimensions") d)) _ g e (λ dimensions _ e.
-    through (distinct_from [] (dimension_names dimensions)) _ g e (λ grouped first e.
-    through (distinct_from (dimension_names dimensions) (aggregation_names aggregations)) _ g e (λ folded behind e.
+    through (distinct_outputs (dimension_names dimensions) (aggregation_names aggregations)) _ g e (λ outputs differ e.
     through (having_or_none (dimension_names dimensions) (aggregation_names aggregations) (field (codes "having") d)) _ g e (λ having _ e.
     through (passed Order (limit_spec_of (dimension_names dimensions) (aggregation_names aggregations) (field (codes "limitSpec") d))) _ g e (λ limit_spec _ e.
     through (context_of (field (codes "context") d)) _ g e (λ context _ e.
@@ -80,7 +85,7 @@ of_group_by schema aggregations d ms g e =
     let made : AskedGroups = record { dimensions = dimensions; having = having; limit_spec = limit_spec } in
     let same : made ≡ g = cc in
     subst (λ g. OutputsDiffer aggregations (group_by g)) same
-    (Differ-read (aggregation_names aggregations) (dimension_names dimensions) folded (Differ-read (dimension_names dimensions) [] grouped none_differ first) behind))))))))
+    (distinct_outputs-differ (dimension_names dimensions) (aggregation_names aggregations) outputs differ)))))))
 
 pub outputs-differ : (kind : QueryType) (schema : Schema) (asked : Option Data) (aggregations : List Aggregation) (d : Data) (ms : Members) (shape : AskedShape)
     → aggregations_by kind schema asked ≡ Ok aggregations → shape_by kind schema aggregations d ms ≡ Ok shape → OutputsDiffer aggregations shape

@@ -1,6 +1,7 @@
 -- The names of a query's outputs (Apache Druid documentation, native queries).
 use Rattle.std.specs.Prelude.{ℕ, List, [], ◌∷◌, ◌++◌, map, bytes_eq, Result, Ok, Err, if◌then◌else◌}
 use Rattle.std.specs.List.{list_any}
+use Rattle.dr_base.specs.Reading.{◌>>=◌}
 use Rattle.dr_ask.specs.declared.aggregation.Aggregation.{Aggregation}
 use Rattle.dr_ask.specs.declared.dimension.Dimension.{Dimension}
 use Rattle.dr_ask.specs.declared.query_error.QueryError.{QueryError}
@@ -18,3 +19,9 @@ unfoldable pub distinct_from : List (List ℕ) → List (List ℕ) → Result (U
 distinct_from seen [] = Ok tt
 distinct_from seen (name ∷ names) =
     if list_any (bytes_eq name) seen then Err (DuplicateOutput name) else distinct_from (seen ++ name ∷ []) names
+
+-- no name of two lists stood before, in the first of them or in the second
+unfoldable pub distinct_outputs : (dimensions aggregations : List (List ℕ)) → Result (Unit {0}) QueryError
+distinct_outputs dimensions aggregations = do
+  grouped ← distinct_from [] dimensions
+  distinct_from dimensions aggregations

@@ -1,6 +1,6 @@
 -- What a text asks of a schema as a query, or its first refusal (Apache Druid documentation, native queries).
 use Rattle.std.specs.Prelude.{ℕ, List, [], Option, Some, None, codes, Result, Ok, Err, if◌then◌else◌}
-use Rattle.serde_json.specs.Data.{Data}
+use Rattle.serde_json.specs.Data.{Data, Members}
 use Rattle.dr_base.specs.Fields.{field, required, as_object, text_field}
 use Rattle.dr_base.specs.Json.{json_of}
 use Rattle.dr_base.specs.Reading.{◌>>=◌, passed}
@@ -58,6 +58,16 @@ filter_or_none schema (Some d) = do
   condition ← passed Filter (filter_of schema d)
   Ok (Some condition)
 
+-- what every query asks, and then what it asks by its type
+unfoldable pub asked_of : Schema → QueryType → Data → Members → Result Asked QueryError
+asked_of schema type d ms = do
+  intervals ← passed of_intervals (intervals_of d)
+  granularity ← granularity_by type d
+  filter ← filter_or_none schema (field (codes "filter") d)
+  aggregations ← aggregations_by type schema (field (codes "aggregations") d)
+  shape ← shape_by type schema aggregations d ms
+  Ok (record { intervals = intervals; granularity = granularity; filter = filter; aggregations = aggregations; shape = shape; rollup = schema.rollup })
+
 -- field by field in this order; what a query asks by its type, and the fields that are not read, come last
 unfoldable pub query_of : Schema → List ℕ → Result Asked QueryError
 query_of schema bytes = do
@@ -66,9 +76,4 @@ query_of schema bytes = do
   name ← passed Base (text_field (codes "queryType") d)
   type ← type_named name
   source ← source_of schema.data_source d
-  intervals ← passed of_intervals (intervals_of d)
-  granularity ← granularity_by type d
-  filter ← filter_or_none schema (field (codes "filter") d)
-  aggregations ← aggregations_by type schema (field (codes "aggregations") d)
-  shape ← shape_by type schema aggregations d members
-  Ok (record { intervals = intervals; granularity = granularity; filter = filter; aggregations = aggregations; shape = shape; rollup = schema.rollup })
+  asked_of schema type d members

@@ -18,7 +18,7 @@ use Rattle.dr_ask.specs.Asked.{AskedGroups, AskedShape, timeseries, group_by, sc
 use Rattle.dr_ask.specs.ContextOf.{context_of}
 use Rattle.dr_ask.specs.DimensionsOf.{dimensions_of}
 use Rattle.dr_ask.specs.Fields.{truth_or_false, limit_or_none, no_unlisted}
-use Rattle.dr_ask.specs.Outputs.{aggregation_names, dimension_names, distinct_from}
+use Rattle.dr_ask.specs.Outputs.{aggregation_names, dimension_names, distinct_from, distinct_outputs}
 use Rattle.dr_ask.specs.ScanOf.{scan_of}
 
 abbrev pub timeseries_keys : List (List ℕ)
@@ -47,8 +47,7 @@ group_by_keys = codes "queryType" ∷ codes "dataSource" ∷ codes "intervals" �
 unfoldable pub group_by_of : Schema → List Aggregation → Data → Members → Result AskedGroups QueryError
 group_by_of schema aggregations d ms = do
   dimensions ← dimensions_of schema (field (codes "dimensions") d)
-  grouped ← distinct_from [] (dimension_names dimensions)
-  folded ← distinct_from (dimension_names dimensions) (aggregation_names aggregations)
+  outputs ← distinct_outputs (dimension_names dimensions) (aggregation_names aggregations)
   having ← having_or_none (dimension_names dimensions) (aggregation_names aggregations) (field (codes "having") d)
   limit_spec ← passed Order (limit_spec_of (dimension_names dimensions) (aggregation_names aggregations) (field (codes "limitSpec") d))
   context ← context_of (field (codes "context") d)

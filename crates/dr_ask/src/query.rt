@@ -1,10 +1,10 @@
 ghost use Rattle.std.specs.Prelude.{◌≡◌, IfOk, option_map};
-ghost use Rattle.serde_json.specs.View.{view};
+ghost use Rattle.serde_json.specs.View.{view, members_view};
 ghost use Rattle.dr_filter.specs.Condition.{condition_in};
 ghost use Rattle.dr_ask.specs.MadeFor.{MadeFor};
 ghost use Rattle.dr_ask.specs.Asked.{asked, asked_shape, is_scan};
 ghost use Rattle.dr_ask.specs.Matching.{is_matching, all_match, aggregation_matches, matches_optional};
-ghost use Rattle.dr_ask.specs.QueryOf.{granularity_of, only_all, scan_granularity_of, granularity_by, filter_or_none, aggregations_by, query_of};
+ghost use Rattle.dr_ask.specs.QueryOf.{granularity_of, only_all, scan_granularity_of, granularity_by, filter_or_none, aggregations_by, asked_of, query_of};
 ghost use Rattle.dr_ask.specs.Refusal.{Gives};
 
 use crate::aggregation::Aggregation;
@@ -23,7 +23,7 @@ use dr_gran::Gran;
 use dr_intervals::intervals;
 use dr_schema::Schema;
 use dr_time::Union;
-use serde_json::Value;
+use serde_json::{Map, Value};
 use std::alloc::Global;
 
 /// A native query of type `timeseries`, `groupBy` or `scan` (Apache Druid documentation, native queries), made for one schema.
@@ -80,19 +80,7 @@ impl Query {
         let members = object(alloc, &value, "query")?;
         let kind = type_named(alloc, text_field(alloc, &value, "queryType")?)?;
         data_source(alloc, &value, schema.data_source())?;
-        let intervals = intervals(alloc, &value)?;
-        let granularity = granularity_by(alloc, kind, &value)?;
-        let filter = filter(alloc, field(&value, "filter"), schema)?;
-        let aggregations = aggregations_by(alloc, kind, field(&value, "aggregations"), schema)?;
-        let shape = read_shape(alloc, &value, members, kind, &aggregations, schema)?;
-        Ok(Query {
-            intervals,
-            granularity,
-            filter,
-            aggregations,
-            shape,
-            rollup: schema.rollup(),
-        })
+        read_query(alloc, &value, members, kind, schema)
     }
 
     /// Whether the answer over rolled up rows is, for each list of events, the answer over the events themselves: each
@@ -111,6 +99,33 @@ impl Query {
     {
         matches!(self.shape, Shape::Scan(_))
     }
+}
+
+/// What a query of this type asks, of the schema's data source.
+#[tactic(auto, unfolding(crate::specs::QueryOf::asked_of))]
+fn read_query(
+    alloc: Global,
+    value: &Value,
+    members: &Map<String, Value>,
+    kind: QueryType,
+    schema: &Schema,
+) -> Result<Query, QueryError>
+    ensures value { Gives asked result (asked_of schema.now kind (view value.now) (members_view members.now.entries)) }
+    ensures made { IfOk result (λ q. MadeFor schema.now (asked q)) }
+{
+    let intervals = intervals(alloc, value)?;
+    let granularity = granularity_by(alloc, kind, value)?;
+    let filter = filter(alloc, field(value, "filter"), schema)?;
+    let aggregations = aggregations_by(alloc, kind, field(value, "aggregations"), schema)?;
+    let shape = read_shape(alloc, value, members, kind, &aggregations, schema)?;
+    Ok(Query {
+        intervals,
+        granularity,
+        filter,
+        aggregations,
+        shape,
+        rollup: schema.rollup(),
+    })
 }
 
 fn all_match(aggregations: &[Aggregation]) -> bool

@@ -4,6 +4,7 @@ use Rattle.serde_json.specs.Data.{Data, Members}
 use Rattle.dr_base.specs.Fields.{field, text_field, list_field}
 use Rattle.dr_base.specs.Reading.{◌>>=◌, passed}
 use Rattle.dr_schema.specs.declared.schema.Schema.{Schema}
+use Rattle.dr_filter.specs.declared.bounds.Bounds.{Bounds}
 use Rattle.dr_filter.specs.declared.dimension_test.DimensionTest.{DimensionTest}
 use Rattle.dr_filter.specs.declared.filter_error.FilterError.{FilterError}
 use Rattle.dr_filter.specs.declared.filter_error.FilterError.TheVariants.{Base, UnknownFilter}
@@ -31,17 +32,23 @@ in_of schema d ms = do
 abbrev pub bound_keys : List (List ℕ)
 bound_keys = codes "type" ∷ codes "dimension" ∷ codes "lower" ∷ codes "upper" ∷ codes "lowerStrict" ∷ codes "upperStrict" ∷ codes "ordering" ∷ []
 
--- `bound`
-unfoldable pub bound_of : Schema → Data → Members → Result DimensionTest FilterError
-bound_of schema d ms = do
-  place ← dimension_of schema d
+-- the ends of `bound`, and that it compares texts
+unfoldable pub bounds_of : Data → Result Bounds FilterError
+bounds_of d = do
   lower ← value_or_none (codes "lower") (field (codes "lower") d)
   upper ← value_or_none (codes "upper") (field (codes "upper") d)
   lower_strict ← strict_or_not (codes "lowerStrict") (field (codes "lowerStrict") d)
   upper_strict ← strict_or_not (codes "upperStrict") (field (codes "upperStrict") d)
   ordering ← ordering_of (field (codes "ordering") d)
+  Ok (record { lower = lower; upper = upper; lower_strict = lower_strict; upper_strict = upper_strict })
+
+-- `bound`
+unfoldable pub bound_of : Schema → Data → Members → Result DimensionTest FilterError
+bound_of schema d ms = do
+  place ← dimension_of schema d
+  bounds ← bounds_of d
   unlisted ← no_unlisted bound_keys ms
-  Ok (record { place = place; test = Within (record { lower = lower; upper = upper; lower_strict = lower_strict; upper_strict = upper_strict }) })
+  Ok (record { place = place; test = Within bounds })
 
 -- `like`
 unfoldable pub like_of : Schema → Data → Members → Result DimensionTest FilterError

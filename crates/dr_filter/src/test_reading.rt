@@ -1,6 +1,6 @@
 ghost use Rattle.serde_json.specs.View.{view, members_view};
 ghost use Rattle.dr_filter.specs.Refusal.{Gives};
-ghost use Rattle.dr_filter.specs.TestOf.{selector_of, in_of, bound_of, like_of, test_by};
+ghost use Rattle.dr_filter.specs.TestOf.{selector_of, in_of, bounds_of, bound_of, like_of, test_by};
 
 use crate::bounds::Bounds;
 use crate::dimension_test::DimensionTest;
@@ -84,11 +84,7 @@ fn bound(
     ensures { Gives (λ t. t) result (bound_of schema.now (view value.now) (members_view members.now.entries)) }
 {
     let place = dimension(alloc, value, schema)?;
-    let lower = value_or_none(alloc, field(value, "lower"), "lower")?;
-    let upper = value_or_none(alloc, field(value, "upper"), "upper")?;
-    let lower_strict = strict(alloc, field(value, "lowerStrict"), "lowerStrict")?;
-    let upper_strict = strict(alloc, field(value, "upperStrict"), "upperStrict")?;
-    ordering(alloc, field(value, "ordering"))?;
+    let bounds = bounds(alloc, value)?;
     let keys = [
         "type",
         "dimension",
@@ -101,12 +97,25 @@ fn bound(
     no_unlisted(alloc, members, &keys)?;
     Ok(DimensionTest {
         place,
-        test: ValueTest::Within(Bounds {
-            lower,
-            upper,
-            lower_strict,
-            upper_strict,
-        }),
+        test: ValueTest::Within(bounds),
+    })
+}
+
+// The ends of a `bound`.
+#[tactic(auto, unfolding(crate::specs::TestOf::bounds_of))]
+fn bounds(alloc: Global, value: &Value) -> Result<Bounds, FilterError>
+    ensures { Gives (λ b. b) result (bounds_of (view value.now)) }
+{
+    let lower = value_or_none(alloc, field(value, "lower"), "lower")?;
+    let upper = value_or_none(alloc, field(value, "upper"), "upper")?;
+    let lower_strict = strict(alloc, field(value, "lowerStrict"), "lowerStrict")?;
+    let upper_strict = strict(alloc, field(value, "upperStrict"), "upperStrict")?;
+    ordering(alloc, field(value, "ordering"))?;
+    Ok(Bounds {
+        lower,
+        upper,
+        lower_strict,
+        upper_strict,
     })
 }
 

@@ -1,7 +1,7 @@
 use Rattle.dr_ask.proofs.ReadColumns.{columns-aggregations_by}
 use Rattle.dr_ask.proofs.ReadNames.{outputs-differ}
 use Rattle.dr_ask.proofs.ReadScans.{made-shape_by}
-use Rattle.dr_ask.proofs.query.Query.parse.Goals as goal
+use Rattle.dr_ask.proofs.query.read_query.Goals as goal
 
 pub returns-clause-made : goal.returns-clause-made
 returns-clause-made c = record {

@@ -1,0 +1,262 @@
+#!/usr/bin/env python3
+"""Large inputs in unfriendly orders: seconds of a processor and megabytes of `druid-node run` over a script of each.
+
+    python3 bench/extremes.py PROGRAM [--only WORD] [--share S]
+
+With a share below 1 each input is so much smaller. The scripts are written to a pipe while they are run. It is no part of the gate.
+"""
+import argparse
+import json
+import os
+import subprocess
+import threading
+from random import Random
+
+DAY = 86400000
+BEGIN = 1704067200000
+
+
+def compact(value):
+    return json.dumps(value, separators=(",", ":"))
+
+
+def spec(dims=("page",), metrics=("v",), segment="day", query="none", rollup=True, **limits):
+    schema = {"dataSource": "w", "timestampSpec": {"column": "t", "format": "millis"}, "dimensionsSpec": {"dimensions": list(dims)}}
+    schema["metricsSpec"] = [{"type": "longSum", "name": it, "fieldName": it} for it in metrics]
+    schema["granularitySpec"] = {"segmentGranularity": segment, "queryGranularity": query, "rollup": rollup}
+    return compact({"dataSchema": schema, "tuningConfig": {"maxRowsInMemory": 1000000} | limits})
+
+
+def event(t, page="a", **more):
+    return "+ " + compact({"t": t, "page": page, "v": 1} | more)
+
+
+SUM = [{"type": "longSum", "name": "v", "fieldName": "v"}]
+ALWAYS = ["2000-01-01/2100-01-01"]
+
+
+def series(**more):
+    return "query " + compact({"queryType": "timeseries", "dataSource": "w", "intervals": ALWAYS, "granularity": "all", "aggregations": SUM} | more)
+
+
+def groups(**more):
+    return "query " + compact({"queryType": "groupBy", "dataSource": "w", "intervals": ALWAYS, "granularity": "all", "dimensions": ["page"], "aggregations": SUM} | more)
+
+
+def instant(day):
+    return f"2024-01-{day:02d}"
+
+
+def chunks(order):
+    def lines(n):
+        yield spec(segment="second")
+        places = {"rising": lambda: range(n), "falling": lambda: range(n - 1, -1, -1), "random": lambda: Random(1).sample(range(n), n)}
+        for it in places[order]():
+            yield event(BEGIN + it * 1000)
+    return lines
+
+
+def wide(n):
+    dims, metrics = [f"d{it}" for it in range(64)], [f"m{it}" for it in range(64)]
+    yield spec(dims, metrics, segment="second")
+    for it in range(n):
+        yield "+ " + compact({"t": BEGIN + it * 1000, "d1": "x", "m3": 1})
+
+
+def seals(n):
+    yield spec(maxRowsInMemory=1)
+    for it in range(n):
+        yield event(BEGIN + it % DAY, str(it))
+
+
+def many_intervals(n):
+    yield spec(query="second")
+    for it in range(n):
+        yield event(BEGIN + it % 86400 * 1000)
+    spans = [f"2024-01-01T{it // 3600 % 24:02d}:{it // 60 % 60:02d}:{it % 60:02d}/PT1S" for it in range(0, 86400, 9)] + ["2024-01-01/2024-01-02"]
+    more = [{"type": "longSum", "name": f"v{it}", "fieldName": "v"} for it in range(20)]
+    for way in ("query", "seal", "query"):
+        yield f"seal {instant(1)}" if way == "seal" else series(intervals=spans, aggregations=more)
+
+
+def kept_pins(n):
+    yield spec()
+    for it in range(1000):
+        yield event(BEGIN + it, str(it))
+    for it in range(n):
+        yield event(BEGIN + it % 1000, str(it % 1000))
+        yield "pin"
+
+
+def pins_of_many_chunks(n):
+    yield spec(segment="second")
+    for it in range(100000):
+        yield event(BEGIN + it * 1000)
+    for _ in range(n):
+        yield "pin"
+
+
+def query_after_event(n):
+    yield spec()
+    for it in range(100000):
+        yield event(BEGIN + it, str(it))
+    for it in range(n):
+        yield event(BEGIN + it, str(it))
+        yield series()
+
+
+def query_of_open_rows(n):
+    yield spec()
+    for it in range(n):
+        yield event(BEGIN + it % DAY, str(it))
+    yield series()
+
+
+def like_long(n):
+    yield spec()
+    yield event(BEGIN, "a" * n)
+    yield groups(filter={"type": "like", "dimension": "page", "pattern": "%" + "a" * (n // 2) + "b%"})
+    yield groups(filter={"type": "like", "dimension": "page", "pattern": "%a_" * (n // 4) + "b"})
+
+
+def long_or(n):
+    yield spec()
+    for it in range(n):
+        yield event(BEGIN + it % DAY, str(it))
+    fields = [{"type": "selector", "dimension": "page", "value": f"x{it}"} for it in range(17000)]
+    yield groups(filter={"type": "or", "fields": fields})
+
+
+def long_having(n):
+    yield spec()
+    for it in range(n):
+        yield event(BEGIN + it % DAY, str(it))
+    fields = [{"type": "greaterThan", "aggregation": "v", "value": it} for it in range(1, 14000)]
+    yield groups(having={"type": "or", "havingSpecs": fields})
+
+
+def order_columns(n):
+    yield spec()
+    for it in range(n):
+        yield event(BEGIN + it % DAY, str(it))
+    yield groups(limitSpec={"type": "default", "columns": ["v"] * 240000})
+
+
+def many_outputs(n):
+    yield spec()
+    for it in range(n):
+        yield event(BEGIN + it % DAY, str(it))
+    yield groups(aggregations=[{"type": "longSum", "name": f"v{it}", "fieldName": "v"} for it in range(19000)], filter={"type": "selector", "dimension": "page", "value": "0"})
+
+
+def merges(n):
+    yield spec(maxCommits=1000000)
+    for it in range(n):
+        yield event(BEGIN + it, str(it))
+        yield f"seal {instant(1)}"
+        yield f"merge {instant(1)} 0 2" if it else "pin"
+
+
+def plans(n):
+    yield spec()
+    for it in range(100):
+        yield event(BEGIN + it, str(it))
+        yield f"seal {instant(1)}"
+    for _ in range(n):
+        yield f"plan {instant(1)} 0 100"
+
+
+def apart(n):
+    yield spec(rollup=False)
+    for it in range(n):
+        yield event(BEGIN)
+    yield f"seal {instant(1)}"
+    yield f"publish {instant(1)} 0 1"
+    yield series()
+
+
+def falling(n):
+    yield spec()
+    for it in range(n):
+        yield event(BEGIN + DAY - 1 - it % DAY, f"{10**9 - it}")
+    yield f"seal {instant(1)}"
+    yield f"publish {instant(1)} 0 1"
+    yield groups(limitSpec={"type": "default", "columns": ["page"], "limit": 3})
+
+
+def scan_of_all(n):
+    yield spec()
+    for it in range(n):
+        yield event(BEGIN + it % DAY, f"{it:08d}")
+    for more in ({}, {"order": "descending"}, {"order": "descending", "limit": 10}, {"batchSize": 1}):
+        yield "query " + compact({"queryType": "scan", "dataSource": "w", "intervals": ALWAYS} | more)
+
+
+INPUTS = {
+    "chunks of a second, rising": (chunks("rising"), 1000000),
+    "chunks of a second, falling": (chunks("falling"), 1000000),
+    "chunks of a second, in random order": (chunks("random"), 1000000),
+    "64 dimensions, 64 metrics, a chunk for each event": (wide, 20000),
+    "maxRowsInMemory 1": (seals, 1000000),
+    "rows under 9,601 intervals and 20 aggregations, open and sealed": (many_intervals, 86400),
+    "pairs of an event and a pin that is kept, 1,000 open rows": (kept_pins, 3000),
+    "pins of 100,000 chunks, none changed": (pins_of_many_chunks, 300),
+    "pairs of an event and a query, 100,000 open rows": (query_after_event, 3000),
+    "a query of open rows in one chunk": (query_of_open_rows, 1000000),
+    "like, of so many characters and half as many in the pattern": (like_long, 100000),
+    "rows under an or of 17,000 selectors": (long_or, 100000),
+    "groups under a having of 14,000 comparisons": (long_having, 100000),
+    "groups ordered by one column 240,000 times": (order_columns, 100000),
+    "rows under 19,000 aggregations, one selected": (many_outputs, 100000),
+    "a seal and a merge with what was there, each event": (merges, 2000),
+    "plans of 100 ranges": (plans, 20000),
+    "equal rows that stay apart, sealed and published": (apart, 1000000),
+    "falling times and values, sealed, published and grouped": (falling, 1000000),
+    "scans of all, by order, by batches of 1": (scan_of_all, 300000),
+}
+
+
+def measure(program, lines):
+    """Seconds of a clock, of a processor, and megabytes."""
+    ran = subprocess.Popen([program, "run"], stdin=subprocess.PIPE, stdout=subprocess.PIPE)
+    count = [0, b""]
+
+    def read():
+        while piece := ran.stdout.read(1 << 16):
+            count[0] += len(piece)
+            count[1] = (count[1] + piece)[-60:]
+
+    reader = threading.Thread(target=read)
+    reader.start()
+    try:
+        with ran.stdin as it:
+            batch = []
+            for line in lines:
+                batch.append(line)
+                if len(batch) == 1000:
+                    it.write(("\n".join(batch) + "\n").encode())
+                    batch = []
+            it.write(("\n".join(batch) + "\n").encode())
+    except BrokenPipeError:
+        pass
+    reader.join()
+    _, status, used = os.wait4(ran.pid, 0)
+    return used.ru_utime + used.ru_stime, used.ru_maxrss / 1024, count, status
+
+
+def main():
+    words = argparse.ArgumentParser(description=__doc__, formatter_class=argparse.RawDescriptionHelpFormatter)
+    words.add_argument("program")
+    words.add_argument("--only", default="")
+    words.add_argument("--share", type=float, default=1)
+    asked = words.parse_args()
+    for name, (lines, count) in INPUTS.items():
+        if asked.only in name:
+            count = int(count * asked.share)
+            seconds, megabytes, written, status = measure(asked.program, lines(count))
+            last = written[1].decode(errors="replace").strip().split("\n")[-1]
+            print(f"| {count:,} | {name} | {seconds:.2f} | {megabytes:.0f} | {written[0]:,} bytes, status {status}, ends {last[-40:]!r}", flush=True)
+
+
+if __name__ == "__main__":
+    main()
