@@ -1,21 +1,21 @@
 use dr_load::{Progress, Watch};
 use std::sync::atomic::{AtomicU64, Ordering};
-use std::time::Instant;
+use std::time::{Clock, Instant};
 
 /// How many milliseconds a line stays at least.
 const SHORTEST: u64 = 100;
 
 /// Tells on a terminal how far a load is, in one line that is written anew at most ten times a second.
 #[derive(Drop)]
-pub struct Terminal<'a> {
-    rt: &'a HostRuntime,
+pub struct Terminal<'a, T> {
+    rt: &'a T,
     begun: Option<Instant>,
     // When the line was written last, in milliseconds since the load began.
     written: AtomicU64,
 }
 
-impl<'a> Terminal<'a> {
-    pub fn new(rt: &'a HostRuntime) -> Terminal<'a> {
+impl<'a, T: Clock + Eprint> Terminal<'a, T> {
+    pub fn new(rt: &'a T) -> Terminal<'a, T> {
         Terminal {
             rt,
             begun: Instant::now(rt).ok(),
@@ -40,7 +40,7 @@ impl<'a> Terminal<'a> {
     }
 }
 
-impl Watch for Terminal<'_> {
+impl<T: AllocGlobal + Clock + Eprint> Watch for Terminal<'_, T> {
     fn told(&self, progress: Progress) {
         let passed = self.passed();
         if passed < self.written.load(Ordering::SeqCst).saturating_add(SHORTEST) {

@@ -37,12 +37,7 @@ pub(crate) fn answered(
         return Err(LoadError::Node(NodeError::HistoryMismatch));
     }
     let answer = snapshot.answer_one(query)?;
-    Ok(told(
-        alloc,
-        closed.stream.len() as u64,
-        counts,
-        answer.as_slice(),
-    )?)
+    Ok(told(alloc, closed.stream.len() as u64, counts, answer.as_slice())?)
 }
 
 // Whether the events of the snapshot are those of the closed stream.

@@ -38,11 +38,7 @@ pub(crate) fn ask<B: Books, T: Wait + Clock, W: Watch>(
         let snapshot = node.pin(rt, seat)?;
         snapshot.answer_one(query)?;
         answers = answers.saturating_add(1);
-        watch.told(progress_of(
-            snapshot.event_count() as u64,
-            snapshot.ranges(),
-            answers,
-        ));
+        watch.told(progress_of(snapshot.event_count() as u64, snapshot.ranges(), answers));
         drop(snapshot);
         let took = match (begun, Instant::now(rt)) {
             (Ok(begun), Ok(ended)) => ended.saturating_duration_since(begun).as_micros(),

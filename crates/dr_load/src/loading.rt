@@ -58,9 +58,11 @@ pub(crate) fn ingest_all<
             requires { (spec.now ≡ B.schema) × MadeFor B.schema (asked query.now) }
         {
             let merger = scope.spawn(move || node.merger(rt, merging, policy, stop).is_ok());
-            let asker = scope.spawn(move || -> bool
-                requires { MadeFor B.schema (asked query.now) }
-            { ask(rt, node, asking, query, stop, watch).is_ok() });
+            let asker = scope.spawn(
+                move || -> bool
+                    requires { MadeFor B.schema (asked query.now) }
+                { ask(rt, node, asking, query, stop, watch).is_ok() },
+            );
             let told = ingest_each(rt, alloc, scope, node, ingesting, spec, files);
             stop.stop();
             if let Ok(merger) = merger {
@@ -91,9 +93,11 @@ fn ingest_each<'s, E: 's, B: Books + 's, R: Read + Send + Drop + 's, T: Threads 
     for (seat, file) in seats.iter_mut().zip(files) {
         running.push(
             scope
-                .spawn(move || -> Ingested
-                    requires { spec.now ≡ B.schema }
-                { ingest(rt, alloc, node, spec, seat, file) })
+                .spawn(
+                    move || -> Ingested
+                        requires { spec.now ≡ B.schema }
+                    { ingest(rt, alloc, node, spec, seat, file) },
+                )
                 .ok(),
         )?;
     }

@@ -68,11 +68,7 @@ impl<B: Books> Node<B> {
 
     // The ranges of a snapshot, which is let go at once: a policy that takes its time keeps no share of the open ranges, which
     // the next event would have to copy.
-    fn ranges_now<R: Wait>(
-        &self,
-        rt: &R,
-        seat: &mut Seat<B>,
-    ) -> Result<Vec<RangeInfo>, AllocError>
+    fn ranges_now<R: Wait>(&self, rt: &R, seat: &mut Seat<B>) -> Result<Vec<RangeInfo>, AllocError>
         ensures floor { seat.old.floor ≤ seat.new.floor }
         ensures same { (seat.new.number ≡ seat.old.number) × (seat.new.mine ≡ seat.old.mine) × (seat.new.own ≡ seat.old.own) }
     {
