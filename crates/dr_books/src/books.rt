@@ -9,7 +9,7 @@ pub trait Books: Drop + Send {
     /// What a seat holds of the books: its share of each of its two ledgers.
     type Share: Drop + Send;
     /// Two ledgers for each seat that no type stands for yet.
-    type Blanks: Drop;
+    type Blanks: Drop + Send;
 
     /// The schema of the node that the seats are of.
     ghost schema: { SchemaFields };
