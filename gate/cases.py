@@ -2,7 +2,8 @@
 
 A case is a file NAME.script, which `druid-node run` gets as standard input, or a file NAME.args, whose lines are the arguments
 of the program. Beside it may lie NAME.out (wanted output; absent: none), NAME.err (wanted standard error; absent: none), NAME.status
-(absent: 0), NAME.stdin, and a folder NAME.files, whose files lie where the program runs.
+(absent: 0), NAME.stdin, and a folder NAME.files, whose files lie where the program runs. A script that asks a query is a second
+case by three workers, with the same of everything that is wanted.
 
 A page of docs/ is a case too, where it has blocks of code that name a file, which lies where the program runs, and blocks of
 kind `console`: each line behind `$ ` is a command of a shell, in which `druid-node` is the program, and the lines below it
@@ -19,12 +20,15 @@ FOLDERS = ("examples", "examples/cases")
 # No case takes longer.
 SECONDS = 120
 
+# The words by which a script is run with several workers.
+BY_WORKERS = ("--workers", "3")
+
 
 class Case:
     """A run of the program and what is wanted of it."""
 
-    def __init__(self, top, folder, name):
-        self.label, self.beside = f"{folder}/{name}", f"{top}/{folder}/{name}"
+    def __init__(self, top, folder, name, more=()):
+        self.label, self.beside, self.more = " ".join((f"{folder}/{name}", *more)), f"{top}/{folder}/{name}", more
         words = self.read("args")
         self.words = ["run"] if words is None else words.decode().removesuffix("\n").split("\n") if words else []
         self.given = self.read("script") or self.read("stdin") or b""
@@ -37,12 +41,16 @@ class Case:
         except FileNotFoundError:
             return None
 
-    def fault(self, program, more=()):
-        """What a run of this program does otherwise than is wanted, or nothing. More words follow the first."""
+    def asks(self):
+        """Whether it is a script with a line that asks a query."""
+        return any(it.startswith((b"query ", b"at ")) for it in (self.read("script") or b"").split(b"\n"))
+
+    def fault(self, program):
+        """What a run of this program does otherwise than is wanted, or nothing."""
         with tempfile.TemporaryDirectory(prefix="case-") as room:
             if os.path.isdir(f"{self.beside}.files"):
                 shutil.copytree(f"{self.beside}.files", room, dirs_exist_ok=True)
-            words = [program, *self.words[:1], *more, *self.words[1:]]
+            words = [program, *self.words[:1], *self.more, *self.words[1:]]
             how = {"cwd": room, "env": {"PATH": "/usr/bin:/bin", "LANG": "C.UTF-8"}, "capture_output": True}
             try:
                 ran = subprocess.run(words, input=self.given, timeout=SECONDS, **how)
@@ -97,10 +105,13 @@ def told(got, want):
 
 
 def cases_of(top):
-    """The cases of a tree."""
+    """The cases of a tree, each script that asks a query by workers too."""
     found = []
     for folder in FOLDERS:
         names = {it.rpartition(".")[0] for it in os.listdir(f"{top}/{folder}") if it.endswith((".script", ".args"))}
-        found += [Case(top, folder, it) for it in sorted(names)]
+        for name in sorted(names):
+            found.append(Case(top, folder, name))
+            if found[-1].asks():
+                found.append(Case(top, folder, name, BY_WORKERS))
     pages = sorted(it for it in os.listdir(f"{top}/docs") if it.endswith(".md")) if os.path.isdir(f"{top}/docs") else []
     return found + [it for it in (Page(top, f"docs/{page}") for page in pages) if it.commands]

@@ -14,7 +14,8 @@ HERE = os.path.dirname(os.path.realpath(__file__))
 RT = """#!/usr/bin/env python3
 import os, sys, time
 fault = os.environ.get("STUB_FAULT", "")
-program = "#!/bin/sh\\ncat\\n" if fault != "wrong output" else "#!/bin/sh\\necho wrong\\n"
+says = {"wrong output": "echo wrong", "wrong by workers": "[ $# -eq 1 ] && cat || echo wrong"}
+program = "#!/bin/sh\\n" + says.get(fault, "cat") + "\\n"
 def make(path):
     with open(path, "w") as it:
         it.write(program)
@@ -87,7 +88,12 @@ FILES = {
     "examples/first_query.out": "spec\n",
     "examples/cases/first_query.script": "other\n",
     "examples/cases/first_query.out": "other\n",
+    "examples/cases/asked.script": "spec\nquery {}\n",
+    "examples/cases/asked.out": "spec\nquery {}\n",
 }
+
+# The case that is run a second time.
+ASKED = ["examples/cases/asked", "examples/cases/asked --workers 3"]
 
 # The fault, what is changed beside it, and what the gate has to name as failed.
 FAULTS = [
@@ -102,7 +108,8 @@ FAULTS = [
     ("control", {}, ["low/must-fail/f-is_wrong.edit"]),
     ("elsewhere", {}, ["low/must-fail/f-is_wrong.edit"]),
     ("name", {}, ["low/must-fail/f-is_wrong.edit"]),
-    ("wrong output", {}, ["examples/first_query", "examples/cases/first_query", "install"]),
+    ("wrong output", {}, ["examples/first_query", "examples/cases/first_query", *ASKED, "install"]),
+    ("wrong by workers", {}, ASKED[1:]),
     ("", {"examples/cases/first_query.out": "another\n"}, ["examples/cases/first_query"]),
     ("", {"examples/cases/first_query.status": "1\n"}, ["examples/cases/first_query"]),
     ("", {"examples/cases/first_query.err": "told\n"}, ["examples/cases/first_query"]),

@@ -55,8 +55,6 @@ fn run<
         .map(|word| word.as_str())
         .collect(rt.alloc())?;
     match command_of(rt.alloc(), words.as_slice())? {
-        // Workers come later: until then they are bad usage.
-        Command::Run(_) if words.len() > 1 => Err(CliError::BadUsage),
         Command::Run(workers) => {
             let mut reader = Counted::new(input);
             let mut writer = Counted::new(output);

@@ -1,3 +1,4 @@
 pub mod Running
 pub mod CutSteps
 pub mod RawRuns
+pub mod WorkerRuns

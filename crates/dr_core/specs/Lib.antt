@@ -3,3 +3,4 @@ pub mod Steps
 pub mod Asking
 pub mod Run
 pub mod Headline
+pub mod WorkerRun

@@ -53,7 +53,7 @@ fn take(alloc: Global, core: &mut Core, steps: &[Step]) -> Result<Vec<Reply>, Al
     Ok(replies)
 }
 
-fn take_step(alloc: Global, core: &mut Core, step: &Step) -> Reply
+pub(crate) fn take_step(alloc: Global, core: &mut Core, step: &Step) -> Reply
     requires { FitsStep core.old.timeline.schema step.now }
     ensures { Moves core.old step.now result core.new }
 {

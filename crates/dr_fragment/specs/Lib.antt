@@ -1,4 +1,5 @@
 pub mod Ranged
 pub mod Lying
+pub mod LyingRows
 pub mod Held
 pub mod Pinned

@@ -14,6 +14,7 @@ mod row_ref;
 mod rows;
 mod shared_fragment;
 mod shared_index;
+mod sorting;
 
 pub use form::Form;
 pub use fragment::Fragment;
@@ -26,3 +27,4 @@ pub use row_ref::RowRef;
 pub use rows::Rows;
 pub use shared_fragment::SharedFragment;
 pub use shared_index::SharedIndex;
+pub use sorting::sort;

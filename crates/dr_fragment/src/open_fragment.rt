@@ -1,8 +1,8 @@
 ghost use Rattle.std.specs.Prelude.{◌≡◌, length, IfOk};
-ghost use Rattle.dr_agg.specs.Rollup.{IsInOrder};
 
+use crate::row_ref::RowRef;
 use crate::shared_index::SharedIndex;
-use dr_base::Row;
+use crate::sorting::sorted;
 use dr_rollup::OpenIndex;
 use std::alloc::AllocError;
 use std::marker::Model;
@@ -67,12 +67,11 @@ impl OpenFragment {
         self.index.index()
     }
 
-    /// The rows in the order of their keys, in memory of their own. The only error is that memory ran out. It takes the time that
-    /// sorting them takes.
-    pub fn sorted_rows(&self) -> Result<Vec<Row>, AllocError>
-        ensures rows { IfOk result (λ rows. rows.items ≡ self.now.rows) }
-        ensures ordered { IfOk result (λ rows. IsInOrder rows.items) }
+    /// The rows in the order of their keys, each where it lies. The only error is that memory ran out. It takes the time that
+    /// sorting them takes, and copies none.
+    pub(crate) fn sorted_rows(&self) -> Result<Vec<RowRef<'_>>, AllocError>
+        ensures { IfOk result (λ rows. rows.items ≡ self.now.rows) }
     {
-        self.index.index().rows()
+        sorted(&self.index.index().arrived())
     }
 }

@@ -6,8 +6,8 @@ use dr_base::Row;
 use dr_image::SegmentView;
 use std::marker::Model;
 
-/// The rows of a fragment in the order of their keys, ready to be read: lent by the fragment, or, of an open range, sorted and
-/// in memory of their own. A contract sees the list of the rows.
+/// The rows of a fragment in the order of their keys, ready to be read where they lie: lent by the fragment, or, of an open
+/// range, as a sorted list of where each lies. A contract sees the list of the rows.
 #[derive(Drop)]
 pub struct OrderedRows<'a>(Place<'a>);
 
@@ -16,13 +16,13 @@ pub struct OrderedRows<'a>(Place<'a>);
 pub(crate) enum Place<'a> {
     Lent(&'a [Row]),
     InImage(SegmentView<'a>),
-    Own(Vec<Row>),
+    Sorted(Vec<RowRef<'a>>),
 }
 
 impl<'a> Model for OrderedRows<'a> {
     ghost use Rattle.std.specs.Prelude.{List};
     ghost use Rattle.dr_base.specs.declared.row.Row.{Row};
-    ghost use Rattle.dr_fragment.specs.Lying.{rows_lying};
+    ghost use Rattle.dr_fragment.specs.LyingRows.{rows_lying};
 
     ghost Value = { List Row };
 
@@ -44,11 +44,11 @@ impl<'a> OrderedRows<'a> {
         OrderedRows(Place::InImage(view))
     }
 
-    /// Rows of its own.
-    pub(crate) fn own(rows: Vec<Row>) -> OrderedRows<'a>
-        ensures { result ≡ rows.items }
+    /// Rows that were sorted.
+    pub(crate) fn sorted(rows: Vec<RowRef<'a>>) -> OrderedRows<'a>
+        ensures { result ≡ rows.entry.items }
     {
-        OrderedRows(Place::Own(rows))
+        OrderedRows(Place::Sorted(rows))
     }
 
     /// How many rows there are.
@@ -58,7 +58,7 @@ impl<'a> OrderedRows<'a> {
         match &self.0 {
             Place::Lent(rows) => rows.len(),
             Place::InImage(view) => view.row_count(),
-            Place::Own(rows) => rows.len(),
+            Place::Sorted(rows) => rows.len(),
         }
     }
 
@@ -69,7 +69,7 @@ impl<'a> OrderedRows<'a> {
         match &self.0 {
             Place::InImage(view) => Some(view),
             Place::Lent(_) => None,
-            Place::Own(_) => None,
+            Place::Sorted(_) => None,
         }
     }
 
@@ -81,7 +81,7 @@ impl<'a> OrderedRows<'a> {
         match &self.0 {
             Place::Lent(rows) => return row_at(rows, i),
             Place::InImage(view) => return RowRef::in_image(view, i),
-            Place::Own(rows) => return row_at(rows, i),
+            Place::Sorted(rows) => return rows[i].again(),
         }
     }
 }

@@ -85,14 +85,14 @@ impl PinnedFragment {
         }
     }
 
-    /// The rows in the order of their keys, ready to be read: those of a sealed range are lent, those of the open one are copied
-    /// and sorted. The only error is that memory ran out.
+    /// The rows in the order of their keys, ready to be read where they lie: those of a sealed range are lent, and of those of the
+    /// open one a list of where each lies is sorted. No row is copied. The only error is that memory ran out.
     pub fn ordered(&self) -> Result<OrderedRows<'_>, AllocError>
         ensures { IfOk result (λ rows. rows ≡ self.now.rows) }
     {
         match &self.0 {
             Pinned::Sealed(shared) => Ok(shared.fragment().ordered()),
-            Pinned::Open(open) => Ok(OrderedRows::own(open.sorted_rows()?)),
+            Pinned::Open(open) => Ok(OrderedRows::sorted(open.sorted_rows()?)),
         }
     }
 }

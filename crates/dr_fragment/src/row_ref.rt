@@ -4,21 +4,21 @@ ghost use Rattle.std.specs.Cmp.Lexicographic.{slice_cmp};
 ghost use Rattle.dr_base.specs.Order.{key_cmp};
 ghost use Rattle.dr_image.specs.Table.{row_at};
 
-use dr_base::{Numbers, Row};
+use dr_base::{Key, Numbers, Row};
 use dr_image::SegmentView;
 use std::alloc::{AllocError, Global};
 use std::cmp::Ordering;
 use std::marker::Model;
 
-/// A row where it lies: a row that was made, or one in the columns of an image, of which nothing is copied. A contract sees
-/// the row. Each reader takes constant time and no memory, but for those that give a copy.
+/// A row where it lies: a key and metrics that were made, or a row in the columns of an image, of which nothing is copied. A
+/// contract sees the row. Each reader takes constant time and no memory, but for those that give a copy.
 #[derive(Drop)]
 pub struct RowRef<'a>(Lying<'a>);
 
 // Where a row lies.
 #[derive(Drop)]
 pub(crate) enum Lying<'a> {
-    Made(&'a Row),
+    Made(&'a Key, &'a [i64]),
     InImage(&'a SegmentView<'a>, usize),
 }
 
@@ -38,7 +38,24 @@ impl<'a> RowRef<'a> {
     pub fn of_row(row: &'a Row) -> RowRef<'a>
         ensures { result ≡ row.now }
     {
-        RowRef(Lying::Made(row))
+        RowRef::of_parts(&row.key, row.metrics.as_slice())
+    }
+
+    /// The row of a key and metrics.
+    pub fn of_parts(key: &'a Key, metrics: &'a [i64]) -> RowRef<'a>
+        ensures { result ≡ record { key = key.now; metrics = metrics.now } }
+    {
+        RowRef(Lying::Made(key, metrics))
+    }
+
+    /// The same row where it lies.
+    pub(crate) fn again(&self) -> RowRef<'a>
+        ensures { result ≡ self.now }
+    {
+        match self.0 {
+            Lying::Made(key, metrics) => RowRef::of_parts(key, metrics),
+            Lying::InImage(view, i) => RowRef::in_image(view, i),
+        }
     }
 
     /// The row of an image, by its number from 0.
@@ -49,12 +66,12 @@ impl<'a> RowRef<'a> {
         RowRef(Lying::InImage(view, i))
     }
 
-    /// The row, where it was made; none where it lies in an image.
-    pub fn made(&self) -> Option<&Row>
-        ensures { IfSome result (λ row. row.now ≡ self.now) }
+    /// The key and the metrics, where they were made; none where the row lies in an image.
+    pub fn parts(&self) -> Option<(&Key, &[i64])>
+        ensures { IfSome result (λ parts. record { key = parts.0.now; metrics = parts.1.now } ≡ self.now) }
     {
         match &self.0 {
-            Lying::Made(row) => Some(row),
+            Lying::Made(key, metrics) => Some((key, metrics)),
             Lying::InImage(_, _) => None,
         }
     }
@@ -64,7 +81,7 @@ impl<'a> RowRef<'a> {
         ensures { result ≡ self.now.key.time }
     {
         match &self.0 {
-            Lying::Made(row) => row.key.time,
+            Lying::Made(key, _) => key.time,
             Lying::InImage(view, i) => view.time(*i),
         }
     }
@@ -74,7 +91,7 @@ impl<'a> RowRef<'a> {
         ensures { result ≡ length self.now.key.dims }
     {
         match &self.0 {
-            Lying::Made(row) => row.key.dims.len(),
+            Lying::Made(key, _) => key.dims.len(),
             Lying::InImage(view, _) => view.dimension_count(),
         }
     }
@@ -85,7 +102,7 @@ impl<'a> RowRef<'a> {
         ensures { result.now ≡ get_or self.now.key.dims d [] }
     {
         match &self.0 {
-            Lying::Made(row) => row.key.dims.as_slice()[d].as_str(),
+            Lying::Made(key, _) => key.dims.as_slice()[d].as_str(),
             Lying::InImage(view, i) => view.dim(d, *i),
         }
     }
@@ -95,7 +112,7 @@ impl<'a> RowRef<'a> {
         ensures { result ≡ length self.now.metrics }
     {
         match &self.0 {
-            Lying::Made(row) => row.metrics.len(),
+            Lying::Made(_, metrics) => metrics.len(),
             Lying::InImage(view, _) => view.metric_count(),
         }
     }
@@ -106,7 +123,7 @@ impl<'a> RowRef<'a> {
         ensures { result ≡ get_or self.now.metrics m (pos 0) }
     {
         match &self.0 {
-            Lying::Made(row) => row.metrics.as_slice()[m],
+            Lying::Made(_, metrics) => metric_at(metrics, m),
             Lying::InImage(view, i) => view.metric(m, *i),
         }
     }
@@ -129,7 +146,7 @@ impl<'a> RowRef<'a> {
         ensures { IfOk result (λ row. row ≡ self.now) }
     {
         match &self.0 {
-            Lying::Made(row) => row.copy(),
+            Lying::Made(key, metrics) => copied(alloc, key, metrics),
             Lying::InImage(view, i) => view.row(alloc, *i),
         }
     }
@@ -156,6 +173,22 @@ impl<'a> RowRef<'a> {
             Ordering::Greater => false,
         }
     }
+}
+
+fn metric_at(metrics: &[i64], m: usize) -> i64
+    requires { m < length metrics.now }
+    ensures { result ≡ get_or metrics.now m (pos 0) }
+{
+    metrics[m]
+}
+
+fn copied(alloc: Global, key: &Key, metrics: &[i64]) -> Result<Row, AllocError>
+    ensures { IfOk result (λ row. row ≡ record { key = key.now; metrics = metrics.now }) }
+{
+    Ok(Row {
+        key: key.copy()?,
+        metrics: Numbers::from_vec(Vec::from_slice(alloc, metrics)?),
+    })
 }
 
 fn order_of_dims(a: &RowRef, b: &RowRef) -> Ordering

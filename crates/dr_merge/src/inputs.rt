@@ -1,13 +1,9 @@
 ghost use Rattle.std.specs.Prelude.{◌≡◌, ◌++◌, IfOk, OnOk, map};
-ghost use Rattle.std.specs.List.Sorted.{IsSortedBy, IsStableBy};
-ghost use Rattle.std.specs.Ordering.{is_lt};
-ghost use Rattle.dr_base.specs.Order.{key_cmp};
 ghost use Rattle.dr_agg.specs.Rollup.{all_rows};
 
 use dr_base::Row;
 use dr_fragment::{OrderedRows, RowRef, SharedFragment};
 use std::alloc::{AllocError, Global};
-use std::cmp::Ordering;
 
 // The rows of each input, ready to be read.
 pub(crate) fn ordered_inputs(
@@ -44,19 +40,6 @@ fn push_rows<'a>(rows: &mut Vec<RowRef<'a>>, input: &'a OrderedRows<'a>) -> Resu
     for i in 0..input.len() {
         rows.push(input.row(i))?;
     }
-    Ok(())
-}
-
-// Puts rows into the order of their keys; those of one key stay in their order.
-pub(crate) fn sort(rows: &mut Vec<RowRef<'_>>) -> Result<(), AllocError>
-    ensures sorted { OnOk result (IsSortedBy (λ a b. is_lt (key_cmp a.key b.key)) rows.new.items) }
-    ensures stable { OnOk result (IsStableBy (λ a b. is_lt (key_cmp a.key b.key)) rows.old.items rows.new.items) }
-{
-    rows.sort_by(
-        |a: &RowRef, b: &RowRef| -> Ordering
-            ensures { result ≡ key_cmp a.now.key b.now.key }
-        { a.order(b) },
-    )?;
     Ok(())
 }
 

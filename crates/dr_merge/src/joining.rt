@@ -8,11 +8,11 @@ ghost use Rattle.dr_merge.specs.Refusal.{is_memory, not_written};
 ghost use Rattle.dr_base.specs.Reading.{passed};
 
 use crate::combining::rolled_up;
-use crate::inputs::{ordered_inputs, rows_of_all, sort};
+use crate::inputs::{ordered_inputs, rows_of_all};
 use crate::job::Job;
 use crate::merge_error::MergeError;
 use dr_base::Row;
-use dr_fragment::{Fragment, SharedFragment};
+use dr_fragment::{Fragment, SharedFragment, sort};
 use dr_image::ImageError;
 use dr_rollup::columns_of;
 use dr_schema::Schema;

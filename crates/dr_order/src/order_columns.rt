@@ -1,7 +1,10 @@
 ghost use Rattle.std.specs.Prelude.{◌≡◌, ◌++◌, ◌∷◌, [], OnOk, OnErr};
+ghost use Rattle.std.specs.List.{list_any};
+ghost use Rattle.dr_order.specs.Deciding.{is_output};
 ghost use Rattle.dr_order.specs.Order.{columns_cmp, groups_cmp};
 
 use crate::order_column::OrderColumn;
+use crate::output::Output;
 use dr_base::Text;
 use std::alloc::{AllocError, Global};
 use std::cmp::Ordering;
@@ -9,7 +12,11 @@ use std::marker::Model;
 
 /// The columns that groups are ordered by, the first of them first. A contract sees the list of them.
 #[derive(Debug, Drop)]
-pub struct OrderColumns(Vec<OrderColumn>);
+pub struct OrderColumns {
+    columns: Vec<OrderColumn>,
+    // Those whose output didn't stand before, which alone decide.
+    deciding: Vec<OrderColumn>,
+}
 
 impl Model for OrderColumns {
     ghost use Rattle.std.specs.Prelude.{List};
@@ -17,7 +24,11 @@ impl Model for OrderColumns {
 
     ghost Value = { List OrderColumn };
 
-    ghost view = { λ c. c.0.items };
+    ghost use Rattle.dr_order.specs.Deciding.{Decides};
+
+    ghost view = { λ c. c.columns.items };
+
+    ghost invariant = { λ c. Decides c.deciding.items c.columns.items };
 }
 
 impl OrderColumns {
@@ -25,28 +36,36 @@ impl OrderColumns {
     pub fn new(alloc: Global) -> OrderColumns
         ensures { result ≡ [] }
     {
-        OrderColumns(Vec::new(alloc))
+        OrderColumns {
+            columns: Vec::new(alloc),
+            deciding: Vec::new(alloc),
+        }
     }
 
     /// The columns as a slice.
     pub fn as_slice(&self) -> &[OrderColumn]
         ensures { result.now ≡ self.now }
     {
-        self.0.as_slice()
+        self.columns.as_slice()
     }
 
-    /// Adds a column behind the others. The only error is that memory ran out.
+    /// Adds a column behind the others. The only error is that memory ran out. It takes time by the outputs that stood before.
     pub fn push(&mut self, column: OrderColumn) -> Result<(), AllocError>
         ensures ok { OnOk result (self.new ≡ self.old ++ column ∷ []) }
         ensures err { OnErr result (self.new ≡ self.old) }
     {
-        self.0.push(column)?;
+        let decides = !stands(self.deciding.as_slice(), column.output);
+        self.deciding.reserve(1)?;
+        self.columns.push(column)?;
+        if decides {
+            self.deciding.push(column).unwrap();
+        }
         Ok(())
     }
 
     /// How two groups of one bucket compare: by the columns, then by their dimension values ascending, each by its UTF-8
     /// bytes. Of each group there are the dimension values and the values of the aggregations, in the order of the query.
-    /// It takes no memory, and time by the columns and the bytes of the values.
+    /// It takes no memory, and time by the outputs among the columns, each of which is compared once, and the bytes of the values.
     pub fn order(
         &self,
         dims: &[Text],
@@ -56,9 +75,22 @@ impl OrderColumns {
     ) -> Ordering
         ensures { result ≡ groups_cmp self.now dims.now values.now other_dims.now other_values.now }
     {
-        let order = by_columns(self.as_slice(), dims, values, other_dims, other_values);
+        let order = by_columns(
+            self.deciding.as_slice(),
+            dims,
+            values,
+            other_dims,
+            other_values,
+        );
         order.then(dims.cmp(other_dims))
     }
+}
+
+// Whether a column of this output stands among some.
+fn stands(columns: &[OrderColumn], output: Output) -> bool
+    ensures { result ≡ list_any (λ c. is_output c.output output) columns.now }
+{
+    columns.iter().any(|column| column.output.is_same(output))
 }
 
 fn by_columns(

@@ -6,3 +6,5 @@ pub mod Made
 pub mod ByColumns
 pub mod Moved
 pub mod Merged
+pub mod Runs
+pub mod Windows

@@ -24,7 +24,7 @@ onto_append kinds rows [] b = refl
 onto_append kinds rows (e ∷ a) b = onto_append kinds (add_row true kinds rows e) a b
 
 -- the key doesn't matter to what is read
-read_bare : (k : Kind) (c : Option Column) (r : Row) → reading_in k c (bare r.metrics) ≡ reading_in k c r
+pub read_bare : (k : Kind) (c : Option Column) (r : Row) → reading_in k c (bare r.metrics) ≡ reading_in k c r
 read_bare Count c r = refl
 read_bare LongSum None r = refl
 read_bare LongSum (Some c) r = refl
@@ -68,7 +68,7 @@ module _ (q : Asked) where
     groups = adds.groups ∙ ap (λ b. rollup_onto true (kinds_in q.aggregations) (in_order before) (map (alone q) (cond b (r ∷ []) []))) (sym taken);
   }
 
-  pub added : {E : Type 0} (before after : List Row) (r : Row) → selects q r.key ≡ true → (result : Result (Unit {0}) E)
+  pub added : {A E : Type 0} (before after : List Row) (r : Row) → selects q r.key ≡ true → (result : Result A E)
       → OnOk result (Adds (kinds_in q.aggregations) before (record { key = group_of q (dimensions_by q.shape) r.key; metrics = folds_alone q.aggregations r.metrics }) after)
       → OnOk result (AddsAll q before (r ∷ []) after)
   added before after r taken (Err e) adds = tt

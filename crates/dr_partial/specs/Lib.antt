@@ -1,4 +1,5 @@
 pub mod Partial
 pub mod Grouped
 pub mod Known
+pub mod Runs
 pub mod Laws

@@ -1,18 +1,17 @@
 ghost use Rattle.std.specs.Prelude.{◌≡◌, ◌∷◌, [], map, OnOk};
 ghost use Rattle.std.specs.List.{AllByRecursion, flat_map};
-ghost use Rattle.dr_agg.specs.Combination.{column};
 ghost use Rattle.dr_schema.specs.Fits.{FitsSchema};
 ghost use Rattle.dr_rollup.specs.Entries.{row_of};
-ghost use Rattle.dr_rollup.specs.Unrolled.{unrolled, contribution, contributions};
+ghost use Rattle.dr_rollup.specs.Unrolled.{unrolled, contributions};
 ghost use Rattle.dr_ask.specs.Asked.{asked};
 ghost use Rattle.dr_partial.specs.Grouped.{IsSound, AddsAll};
 ghost use Rattle.dr_partial.specs.Partial.{kinds_in};
 
 use crate::rows::add_selected;
 use crate::selecting::is_selected;
-use dr_agg::Kind;
 use dr_ask::Query;
 use dr_base::{Event, Key, Numbers, Text};
+use dr_rollup::push_contributions;
 use dr_schema::{Metric, Schema};
 use indexmap::IndexMap;
 use std::alloc::AllocError;
@@ -90,28 +89,7 @@ fn read_metrics(
     ensures { OnOk result (metrics.new.items ≡ contributions (map (λ m. m.kind) columns.now) inputs.now) }
 {
     metrics.clear();
-    for (i, metric) in columns.iter().enumerate() {
-        metrics.push(contribution(metric.kind, input_at(inputs, i)))?;
-    }
+    metrics.reserve(columns.len())?;
+    push_contributions(metrics, columns, inputs);
     Ok(())
-}
-
-/// The input of a column; one that isn't there reads 0.
-fn input_at(inputs: &[i64], place: usize) -> i64
-    ensures { result ≡ column place inputs.now }
-{
-    match inputs.get(place) {
-        Some(input) => *input,
-        None => 0,
-    }
-}
-
-/// What an event adds to a column: 1 to a count, its input to every other.
-fn contribution(kind: Kind, input: i64) -> i64
-    ensures { result ≡ contribution kind input }
-{
-    match kind {
-        Kind::Count => 1,
-        _ => input,
-    }
 }

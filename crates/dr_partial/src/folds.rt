@@ -5,10 +5,10 @@ ghost use Rattle.dr_rollup.specs.Entries.{row_of};
 ghost use Rattle.dr_partial.specs.Grouped.{IsSound, Adds, CombinesAt};
 ghost use Rattle.dr_partial.specs.Partial.{kinds_in};
 
-use crate::group_of::GroupOf;
 use crate::grouping::{find, key_of, put};
 use dr_ask::Aggregation;
 use dr_base::{Key, Numbers};
+use dr_rollup::KeyOf;
 use indexmap::IndexMap;
 use std::alloc::AllocError;
 
@@ -16,7 +16,7 @@ use std::alloc::AllocError;
 pub fn add_folds(
     groups: &mut IndexMap<Key, Numbers>,
     aggregations: &[Aggregation],
-    group: &GroupOf<'_>,
+    group: &KeyOf<'_>,
     folds: Numbers,
 ) -> Result<(), AllocError>
     requires sound { IsSound (kinds_in aggregations.now) (map row_of groups.old.entries) }

@@ -1,39 +1,61 @@
 ghost use Rattle.std.specs.Prelude.{◌≡◌, ◌++◌, ◌∷◌, [], ◌<◌, None, true, map, length, IfOk, IfSome, OnOk};
 ghost use Rattle.dr_agg.specs.Combination.{combine_columns, FitsColumns};
 ghost use Rattle.dr_agg.specs.Rollup.{AllFit};
+ghost use Rattle.dr_answers.specs.Groups.{grouped_values};
 ghost use Rattle.dr_rollup.specs.Entries.{row_of, HasKeyAt, NoneHas};
 ghost use Rattle.dr_partial.specs.Grouped.{folds_alone, IsSound, Adds, CombinesAt};
 ghost use Rattle.dr_partial.specs.Partial.{kinds_in};
 
-use crate::group_of::GroupOf;
 use crate::reading::{combine_reading, readings};
-use dr_ask::Aggregation;
+use crate::selecting::are_values;
+use dr_ask::{Aggregation, Dimension};
 use dr_base::{Key, Numbers, Text, Texts};
+use dr_rollup::KeyOf;
 use indexmap::IndexMap;
 use std::alloc::{AllocError, Global};
 
-/// Adds a row of these metrics to its group, or to a new one. A known group takes no memory.
+/// Adds a row of these metrics to its group, or to a new one, and answers the place of the group. A known group takes no memory.
 pub fn add(
     groups: &mut IndexMap<Key, Numbers>,
     aggregations: &[Aggregation],
-    group: &GroupOf<'_>,
+    group: &KeyOf<'_>,
     metrics: &[i64],
-) -> Result<(), AllocError>
+) -> Result<usize, AllocError>
     requires { IsSound (kinds_in aggregations.now) (map row_of groups.old.entries) }
     ensures { OnOk result (Adds (kinds_in aggregations.now) (map row_of groups.old.entries) (record { key = record { time = group.now.time; dims = group.now.dims.now }; metrics = folds_alone aggregations.now metrics.now }) (map row_of groups.new.entries)) }
 {
     if let Some(place) = find(groups, group) {
         combine(groups, place, aggregations, metrics);
-        return Ok(());
+        return Ok(place);
     }
     let alloc = *groups.allocator();
     let key = key_of(alloc, group)?;
     let values = readings(alloc, aggregations, metrics)?;
-    put(groups, key, values)
+    let place = groups.len();
+    put(groups, key, values)?;
+    Ok(place)
+}
+
+/// Whether the group at a place is that of a bucket and of the values that a row has in some dimensions. No text is copied.
+pub fn is_group_at(
+    groups: &IndexMap<Key, Numbers>,
+    place: usize,
+    bucket: i64,
+    dimensions: &[Dimension],
+    dims: &[Text],
+) -> bool
+    ensures { result ≡ true → HasKeyAt (record { time = bucket; dims = grouped_values dimensions.now dims.now }) (map row_of groups.now.entries) place }
+{
+    match groups.get_index(place) {
+        Some((key, _)) => {
+            key.time == bucket && are_values(dimensions, dims, key.dims.as_slice())
+        }
+        None => false,
+    }
 }
 
 // The key of a group. It shares the long texts.
-pub fn key_of(alloc: Global, group: &GroupOf<'_>) -> Result<Key, AllocError>
+pub fn key_of(alloc: Global, group: &KeyOf<'_>) -> Result<Key, AllocError>
     ensures { IfOk result (λ key. key ≡ record { time = group.now.time; dims = group.now.dims.now }) }
 {
     Ok(Key {
@@ -43,15 +65,15 @@ pub fn key_of(alloc: Global, group: &GroupOf<'_>) -> Result<Key, AllocError>
 }
 
 // The place of a group, where there is one.
-pub fn find(groups: &IndexMap<Key, Numbers>, group: &GroupOf<'_>) -> Option<usize>
+pub fn find(groups: &IndexMap<Key, Numbers>, group: &KeyOf<'_>) -> Option<usize>
     ensures found { IfSome result (HasKeyAt (record { time = group.now.time; dims = group.now.dims.now }) (map row_of groups.now.entries)) }
     ensures none { result ≡ None → NoneHas (record { time = group.now.time; dims = group.now.dims.now }) (map row_of groups.now.entries) }
 {
     groups.get_index_of(*group)
 }
 
-// Combines a row of these metrics into the group at a place.
-fn combine(
+/// Combines a row of these metrics into the group at a place.
+pub fn combine(
     groups: &mut IndexMap<Key, Numbers>,
     place: usize,
     aggregations: &[Aggregation],

@@ -1,4 +1,4 @@
-ghost use Rattle.std.specs.Prelude.{map, OnOk};
+ghost use Rattle.std.specs.Prelude.{◌≡◌, ◌<◌, ◌≤◌, length, map, IfOk, OnOk, slice_range};
 ghost use Rattle.std.specs.List.{AllByRecursion};
 ghost use Rattle.dr_time.specs.Instant.{IsInstant};
 ghost use Rattle.dr_ask.specs.Asked.{asked};
@@ -6,7 +6,8 @@ ghost use Rattle.dr_rollup.specs.Entries.{row_of};
 ghost use Rattle.dr_partial.specs.Grouped.{IsSound, AddsAll};
 ghost use Rattle.dr_partial.specs.Partial.{kinds_in};
 
-use crate::rows::add_parts;
+use crate::arrived_runs::{add_run, run_end};
+use crate::window::Window;
 use dr_ask::Query;
 use dr_base::{Key, Numbers, Text};
 use dr_rollup::{Arrived, OpenIndex};
@@ -38,9 +39,37 @@ fn add_arrived(
     requires sound { IsSound (kinds_in query.now.aggregations) (map row_of groups.old.entries) }
     ensures { OnOk result (AddsAll (asked query.now) (map row_of groups.old.entries) rows.now (map row_of groups.new.entries)) }
 {
-    for i in 0..rows.len() {
-        let (key, metrics) = rows.row(i);
-        add_parts(groups, group, query, key, metrics)?;
+    let count = rows.len();
+    let mut from = 0;
+    while from < count {
+        from = add_from(groups, group, query, rows, from)?;
     }
     Ok(())
+}
+
+// Adds the row at a place and those behind it that lie in the same interval and the same bucket, up to the first that doesn't.
+// Answers the place of that one.
+fn add_from(
+    groups: &mut IndexMap<Key, Numbers>,
+    group: &mut Vec<Text>,
+    query: &Query,
+    rows: &Arrived<'_>,
+    from: usize,
+) -> Result<usize, AllocError>
+    requires from { from < length rows.now }
+    requires instants { AllByRecursion (λ r. IsInstant r.key.time) rows.now }
+    requires sound { IsSound (kinds_in query.now.aggregations) (map row_of groups.old.entries) }
+    ensures more { IfOk result (λ to. from < to) }
+    ensures within { IfOk result (λ to. to ≤ length rows.now) }
+    ensures adds { IfOk result (λ to. AddsAll (asked query.now) (map row_of groups.old.entries) (slice_range rows.now from to) (map row_of groups.new.entries)) }
+{
+    let _ = rows.len();
+    let (key, _) = rows.row(from);
+    if !query.intervals.contains(key.time) {
+        return Ok(from + 1);
+    }
+    let window = Window::around(query, key.time);
+    let to = run_end(rows, &window, from + 1);
+    add_run(groups, group, query, rows, window.bucket, from, to)?;
+    Ok(to)
 }

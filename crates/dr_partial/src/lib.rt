@@ -2,9 +2,9 @@
 //! aggregation folds to. One pass over the rows, in which each finds its group by hashing.
 #![tactic(auto)]
 
+mod arrived_runs;
 mod events;
 mod folds;
-mod group_of;
 mod grouping;
 mod index;
 mod known;
@@ -18,6 +18,7 @@ mod selecting;
 mod source;
 mod views;
 mod whole_runs;
+mod window;
 
 pub use laws::groups_from_partial;
 pub use partial::Partial;

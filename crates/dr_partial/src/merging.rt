@@ -6,10 +6,10 @@ ghost use Rattle.dr_partial.specs.Grouped.{IsSound, Adds, AddsEach};
 ghost use Rattle.dr_partial.specs.Partial.{kinds_in};
 
 use crate::folds::combine_at;
-use crate::group_of::GroupOf;
 use crate::grouping::{find, put};
 use dr_ask::Aggregation;
 use dr_base::{Key, Numbers};
+use dr_rollup::KeyOf;
 use indexmap::IndexMap;
 use std::alloc::AllocError;
 
@@ -40,7 +40,7 @@ fn add_group(
     requires fits { FitsColumns (kinds_in aggregations.now) folds }
     ensures { OnOk result (Adds (kinds_in aggregations.now) (map row_of groups.old.entries) (record { key = key; metrics = folds }) (map row_of groups.new.entries)) }
 {
-    let group = GroupOf {
+    let group = KeyOf {
         time: key.time,
         dims: key.dims.as_slice(),
     };

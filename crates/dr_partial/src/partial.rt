@@ -14,7 +14,6 @@ ghost use Rattle.dr_partial.specs.Grouped.{IsSound, in_order};
 ghost use Rattle.dr_partial.specs.Partial.{partial, values_at, kinds_in, IsPartial};
 
 use crate::events::add_event_pieces;
-use crate::group_of::GroupOf;
 use crate::index::add_index;
 use crate::merging::add_groups;
 use crate::rows::add_pieces;
@@ -24,7 +23,7 @@ use dr_ask::Query;
 use dr_base::{Event, Key, Numbers, Row};
 use dr_fragment::{Form, PinnedFragment};
 use dr_image::SegmentView;
-use dr_rollup::OpenIndex;
+use dr_rollup::{KeyOf, OpenIndex};
 use dr_schema::Schema;
 use indexmap::IndexMap;
 use std::alloc::{AllocError, Global};
@@ -165,7 +164,7 @@ impl Partial {
     pub fn values_at(&self, bucket: i64) -> Option<&[i64]>
         ensures { option_map (λ v. v.now) result ≡ values_at bucket self.now }
     {
-        match self.groups.get(GroupOf {
+        match self.groups.get(KeyOf {
             time: bucket,
             dims: &[],
         }) {

@@ -11,13 +11,13 @@ ghost use Rattle.dr_partial.specs.Grouped.{IsSound, Adds, CombinesAt};
 ghost use Rattle.dr_partial.specs.Known.{AreKnown, KeepsKeys, group_in, folds_read};
 ghost use Rattle.dr_partial.specs.Partial.{kinds_in, alone};
 
-use crate::group_of::GroupOf;
 use crate::grouping::{find, key_of, put};
 use crate::known::Known;
 use crate::selecting::dimensions;
 use crate::source::Source;
 use dr_base::{Key, Numbers, Text};
 use dr_columns::{Reading, agree, read_group, slot, slot_count};
+use dr_rollup::KeyOf;
 use indexmap::IndexMap;
 use std::alloc::{AllocError, Global};
 
@@ -117,7 +117,7 @@ fn add_found(
 {
     let alloc = *groups.allocator();
     read_group(alloc, source.view, dimensions(source.query), i, group)?;
-    let key = GroupOf {
+    let key = KeyOf {
         time: bucket,
         dims: group.as_slice(),
     };
@@ -133,7 +133,7 @@ fn add_found(
 // Adds a group of a row.
 fn put_read(
     groups: &mut IndexMap<Key, Numbers>,
-    group: &GroupOf<'_>,
+    group: &KeyOf<'_>,
     source: &Source<'_>,
     i: usize,
 ) -> Result<(), AllocError>

@@ -43,8 +43,9 @@ fn reading(aggregation: &Aggregation, metrics: &[i64]) -> i64
     value_read(aggregation, metrics)
 }
 
-// What an aggregation reads of a row: 1 for a count, and the value of its column for every other.
-fn value_read(aggregation: &Aggregation, metrics: &[i64]) -> i64
+/// What an aggregation reads of a row: 1 for a count, and the value of its column for every other.
+#[inline]
+pub fn value_read(aggregation: &Aggregation, metrics: &[i64]) -> i64
     ensures { result ≡ reading_in aggregation.now.kind aggregation.now.column (bare metrics.now) }
 {
     match aggregation.kind {

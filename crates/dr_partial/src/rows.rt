@@ -3,15 +3,16 @@ ghost use Rattle.std.specs.List.{AllByRecursion, flat_map};
 ghost use Rattle.dr_time.specs.Instant.{IsInstant};
 ghost use Rattle.dr_rollup.specs.Entries.{row_of};
 ghost use Rattle.dr_ask.specs.Asked.{asked, asked_shape, dimensions_by};
-ghost use Rattle.dr_answers.specs.Groups.{group_of};
+ghost use Rattle.dr_answers.specs.Groups.{group_of, grouped_values};
 ghost use Rattle.dr_partial.specs.Grouped.{folds_alone, IsSound, Adds, AddsAll};
 ghost use Rattle.dr_partial.specs.Partial.{kinds_in};
+ghost use Rattle.dr_partial.specs.Runs.{LiesIn};
 
-use crate::group_of::GroupOf;
-use crate::grouping::add;
-use crate::selecting::{bucket_start, dimensions, is_selected, read_group};
+use crate::grouping::{add, combine, is_group_at};
+use crate::selecting::{bucket_start, dimensions, is_selected, passes, read_group};
 use dr_ask::Query;
 use dr_base::{Key, Numbers, Row, Text};
+use dr_rollup::KeyOf;
 use indexmap::IndexMap;
 use std::alloc::AllocError;
 
@@ -98,9 +99,60 @@ pub fn add_selected(
 {
     let alloc = *group.allocator();
     read_group(alloc, dimensions(query), dims, group)?;
-    let key = GroupOf {
+    let key = KeyOf {
         time: bucket_start(query, time),
         dims: group.as_slice(),
     };
-    add(groups, query.aggregations.as_slice(), &key, metrics)
+    add(groups, query.aggregations.as_slice(), &key, metrics)?;
+    Ok(())
+}
+
+/// Adds the row of a key and metrics, which an interval of the query holds and which lies in the bucket that starts there, where the
+/// filter passes it. `last` is where the group of a row before it stands, which is tried before the groups are searched. Answers the
+/// place to try next.
+pub fn add_held(
+    groups: &mut IndexMap<Key, Numbers>,
+    group: &mut Vec<Text>,
+    last: usize,
+    query: &Query,
+    bucket: i64,
+    key: &Key,
+    metrics: &[i64],
+) -> Result<usize, AllocError>
+    requires held { LiesIn (asked query.now) bucket key.now.time }
+    requires sound { IsSound (kinds_in query.now.aggregations) (map row_of groups.old.entries) }
+    ensures { OnOk result (AddsAll (asked query.now) (map row_of groups.old.entries) (record { key = key.now; metrics = metrics.now } ∷ []) (map row_of groups.new.entries)) }
+{
+    let dims = key.dims.as_slice();
+    if !passes(&query.filter, key.time, dims) {
+        return Ok(last);
+    }
+    add_passed(groups, group, last, query, bucket, dims, metrics)
+}
+
+// Adds a row of these dimension values and these metrics to its group in a bucket.
+fn add_passed(
+    groups: &mut IndexMap<Key, Numbers>,
+    group: &mut Vec<Text>,
+    last: usize,
+    query: &Query,
+    bucket: i64,
+    dims: &[Text],
+    metrics: &[i64],
+) -> Result<usize, AllocError>
+    requires sound { IsSound (kinds_in query.now.aggregations) (map row_of groups.old.entries) }
+    ensures { OnOk result (Adds (kinds_in query.now.aggregations) (map row_of groups.old.entries) (record { key = record { time = bucket; dims = grouped_values (dimensions_by (asked_shape query.now.shape)) dims.now }; metrics = folds_alone query.now.aggregations metrics.now }) (map row_of groups.new.entries)) }
+{
+    let aggregations = query.aggregations.as_slice();
+    if is_group_at(groups, last, bucket, dimensions(query), dims) {
+        combine(groups, last, aggregations, metrics);
+        return Ok(last);
+    }
+    let alloc = *group.allocator();
+    read_group(alloc, dimensions(query), dims, group)?;
+    let key = KeyOf {
+        time: bucket,
+        dims: group.as_slice(),
+    };
+    add(groups, aggregations, &key, metrics)
 }

@@ -1,4 +1,4 @@
-ghost use Rattle.std.specs.Prelude.{◌≡◌, [], IfOk, OnOk, option_map, slice_get, unwrap_or};
+ghost use Rattle.std.specs.Prelude.{◌≡◌, [], true, IfOk, OnOk, option_map, slice_get, unwrap_or};
 ghost use Rattle.dr_time.specs.Instant.{IsInstant};
 ghost use Rattle.dr_filter.specs.Condition.{condition_in};
 ghost use Rattle.dr_filter.specs.Match.{value_at};
@@ -19,7 +19,8 @@ pub fn is_selected(query: &Query, time: i64, dims: &[Text]) -> bool
     query.intervals.contains(time) && passes(&query.filter, time, dims)
 }
 
-fn passes(filter: &Option<Filter>, time: i64, dims: &[Text]) -> bool
+/// Whether a filter, where there is one, passes the rows of a time and of these dimension values.
+pub fn passes(filter: &Option<Filter>, time: i64, dims: &[Text]) -> bool
     ensures { result ≡ passes_of (option_map condition_in filter.now) (record { time = time; dims = dims.now }) }
 {
     match filter {
@@ -79,5 +80,39 @@ fn value_there(alloc: Global, place: usize, dims: &[Text]) -> Result<Text, Alloc
     match dims.get(place) {
         Some(text) => text.copy(),
         None => Text::from_str(alloc, ""),
+    }
+}
+
+/// Whether these are the values by which a row is grouped.
+pub fn are_values(dimensions: &[Dimension], dims: &[Text], values: &[Text]) -> bool
+    ensures { result ≡ true → values.now ≡ grouped_values dimensions.now dims.now }
+{
+    if values.len() != dimensions.len() {
+        return false;
+    }
+    for (i, dimension) in dimensions.iter().enumerate() {
+        if !is_value(dimension.place, dims, &values[i]) {
+            return false;
+        }
+    }
+    true
+}
+
+// Whether this is the value of a dimension; that of one that isn't there is empty.
+fn is_value(place: Option<usize>, dims: &[Text], value: &Text) -> bool
+    ensures { result ≡ true → value.now ≡ value_at place dims.now }
+{
+    match place {
+        Some(place) => is_value_there(place, dims, value),
+        None => value.as_str().is_empty(),
+    }
+}
+
+fn is_value_there(place: usize, dims: &[Text], value: &Text) -> bool
+    ensures { result ≡ true → value.now ≡ unwrap_or (slice_get dims.now place) [] }
+{
+    match dims.get(place) {
+        Some(text) => value == text,
+        None => value.as_str().is_empty(),
     }
 }

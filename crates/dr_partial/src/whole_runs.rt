@@ -11,11 +11,11 @@ ghost use Rattle.dr_partial.specs.Grouped.{IsSound, AddsAll};
 ghost use Rattle.dr_partial.specs.Partial.{kinds_in};
 
 use crate::folds::add_folds;
-use crate::group_of::GroupOf;
 use crate::selecting::bucket_start;
 use crate::source::Source;
 use dr_base::{Key, Numbers};
 use dr_columns::{run_end, time_at};
+use dr_rollup::KeyOf;
 use indexmap::IndexMap;
 use std::alloc::{AllocError, Global};
 
@@ -57,7 +57,7 @@ fn add_whole_run(
 {
     let bucket = bucket_start(source.query, time_at(source.view, from));
     let folds = folds_between(*groups.allocator(), source, from, to)?;
-    let group = GroupOf {
+    let group = KeyOf {
         time: bucket,
         dims: &[],
     };

@@ -1,17 +1,16 @@
 -- What an event changes in an open index.
-use Rattle.std.proofs.Common.{◌≡◌, ◌∙◌, sym, ap, subst, ℕ, ◌<◌, ◌≤◌, suc, true, List, [], ◌∷◌, ◌++◌, map, length, slice_get, slice_set, Some, arith}
-use Rattle.std.proofs.lemmas.List.{map-append, length-map}
+use Rattle.std.proofs.Common.{◌≡◌, ◌∙◌, sym, ap, subst, ℕ, ◌<◌, ◌≤◌, suc, refl, true, false, Option, None, is_some, IfSome, if◌then◌else◌, List, [], ◌∷◌, ◌++◌, map, length, slice_set, Some, arith}
+use Rattle.std.proofs.lemmas.List.{map-append}
 use Rattle.std.specs.List.{IsDistinct}
 use Rattle.dr_base.specs.declared.event.Event.{Event}
 use Rattle.dr_base.specs.declared.row.Row.{Row}
 use Rattle.dr_agg.specs.Rollup.{add_row, rollup, rollup_onto}
 use Rattle.dr_agg.proofs.RollupLaws.{rollup_onto_push}
 use Rattle.dr_schema.specs.declared.schema.Schema.{Schema}
-use Rattle.dr_schema.specs.declared.metric.Metric.{Metric}
 use Rattle.dr_schema.specs.Columns.{kinds_of}
 use Rattle.dr_rollup.specs.declared.entries.Entries.{Entries}
 use Rattle.dr_rollup.specs.Unrolled.{contributions, unrolled, rolled_up}
-use Rattle.dr_rollup.specs.Entries.{rows_in, is_combined, same_keys, HasKeyAt, NoneHas, Combines, combined_row}
+use Rattle.dr_rollup.specs.Entries.{rows_in, width_in, is_combined, same_keys, HasKeyAt, NoneHas, Combines, combined_row}
 use Rattle.dr_rollup.specs.Sound.{IsSound, Holds, rows_of}
 use Rattle.dr_rollup.proofs.Contributing.{length-contributions}
 use Rattle.dr_rollup.proofs.Rows.{rows-counted}
@@ -34,8 +33,13 @@ module _ (s : Schema) (limit : ℕ) (en : Entries) (h : Holds s limit en) where
   entries-counted = rows-counted s.rollup (kinds_of s) (rows_in en) h.sound.apart
 
   -- and with what stands for the same entries
-  pub as-before : (next : Entries) → rows_in next ≡ rows_in en → is_combined next ≡ is_combined en → Holds s limit next
-  as-before next after still = record { small = h.small; combines = still ∙ h.combines; sound = subst (IsSound (kinds_of s) limit s.rollup) (sym after) h.sound }
+  pub as-before : (next : Entries) → rows_in next ≡ rows_in en → width_in next ≡ width_in en → Holds s limit next
+  as-before next after still = record {
+    small = h.small;
+    combines = ap is_some still ∙ h.combines;
+    wide = subst (λ o. IfSome o (λ w. w ≡ length (kinds_of s))) (sym still) h.wide;
+    sound = subst (IsSound (kinds_of s) limit s.rollup) (sym after) h.sound;
+  }
 
   module _ (e : Event) where
     module _ (i : ℕ) (combined : is_combined en ≡ true) (at : HasKeyAt (unrolled s e).key (rows_in en) i) where
@@ -53,11 +57,16 @@ module _ (s : Schema) (limit : ℕ) (en : Entries) (h : Holds s limit en) where
           ap length (sym known_rows) ∙ rows-counted s.rollup (kinds_of s) (slice_set (rows_in en) i (combined_row (kinds_of s) e.inputs at.0)) known_sound.apart
           ∙ length_set (rows_in en) i (combined_row (kinds_of s) e.inputs at.0)
 
-      pub known-adds : (next : Entries) → is_combined next ≡ true → Combines (kinds_of s) e.inputs (rows_in en) i (rows_in next) → Adds s limit en next e
+      pub known-adds : (next : Entries) → width_in next ≡ width_in en → Combines (kinds_of s) e.inputs (rows_in en) i (rows_in next) → Adds s limit en next e
       known-adds next still after =
           let is = after at.0 at.1 in
           record {
-            holds = record { small = h.small; combines = still ∙ sym combined ∙ h.combines; sound = subst (IsSound (kinds_of s) limit s.rollup) (sym is) known_sound };
+            holds = record {
+              small = h.small;
+              combines = ap is_some still ∙ h.combines;
+              wide = subst (λ o. IfSome o (λ w. w ≡ length (kinds_of s))) (sym still) h.wide;
+              sound = subst (IsSound (kinds_of s) limit s.rollup) (sym is) known_sound;
+            };
             rows = ap (rollup s.rollup (kinds_of s)) is ∙ known_rows;
           }
 
@@ -69,11 +78,12 @@ module _ (s : Schema) (limit : ℕ) (en : Entries) (h : Holds s limit en) where
       pub new-count : length (add_row s.rollup (kinds_of s) (rows_of s en) (unrolled s e)) ≡ suc (length (rows_in en))
       new-count = count-added (kinds_of s) limit s.rollup (rows_in en) (unrolled s e) h.sound new
 
-      pub new-adds : length (rows_in en) < limit → (next : Entries) → is_combined next ≡ is_combined en → rows_in next ≡ rows_in en ++ unrolled s e ∷ [] → Adds s limit en next e
+      pub new-adds : length (rows_in en) < limit → (next : Entries) → width_in next ≡ width_in en → rows_in next ≡ rows_in en ++ unrolled s e ∷ [] → Adds s limit en next e
       new-adds lt next still after = record {
         holds = record {
           small = h.small;
-          combines = still ∙ h.combines;
+          combines = ap is_some still ∙ h.combines;
+          wide = subst (λ o. IfSome o (λ w. w ≡ length (kinds_of s))) (sym still) h.wide;
           sound = subst (IsSound (kinds_of s) limit s.rollup) (sym after)
               (sound-added (kinds_of s) limit s.rollup (rows_in en) (unrolled s e) h.sound new lt (length-contributions (kinds_of s) e.inputs));
         };
@@ -85,10 +95,11 @@ unfolding IsDistinct
 no_keys = tt
 
 -- an index without entries
-pub nothing-holds : (s : Schema) (limit : ℕ) (en : Entries) → limit ≤ 1048576 → is_combined en ≡ s.rollup → rows_in en ≡ [] → Holds s limit en
-nothing-holds s limit en small combines none = record {
+pub nothing-holds : (s : Schema) (limit width : ℕ) (en : Entries) → limit ≤ 1048576 → width ≡ length (kinds_of s) → width_in en ≡ (if s.rollup then Some width else None) → rows_in en ≡ [] → Holds s limit en
+nothing-holds s limit width en small wide are none = record {
   small = small;
-  combines = combines;
+  combines = ap is_some are ∙ (elim s.rollup as (λ b. is_some (if◌then◌else◌ {A = Option ℕ} b (Some width) None) ≡ b) [ true ↦ refl | false ↦ refl ]);
+  wide = subst (λ o. IfSome o (λ w. w ≡ length (kinds_of s))) (sym are) (elim s.rollup as (λ b. IfSome (if◌then◌else◌ {A = Option ℕ} b (Some width) None) (λ w. w ≡ length (kinds_of s))) [ true ↦ wide | false ↦ tt ]);
   sound = subst (IsSound (kinds_of s) limit s.rollup) (sym none) (record { fits = tt; within = omega arith; apart = λ on. no_keys });
 }
 

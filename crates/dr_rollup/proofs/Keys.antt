@@ -27,7 +27,7 @@ or_len-some p (x ∷ xs) h =
     h
 
 -- none passes where there is no place
-none-any : {X : Type 0} (p : X → Bool) (xs : List X) → position p xs ≡ None → list_any p xs ≡ false
+pub none-any : {X : Type 0} (p : X → Bool) (xs : List X) → position p xs ≡ None → list_any p xs ≡ false
 none-any p xs none =
     elim (list_any p xs) as (λ b. list_any p xs ≡ b → b ≡ false)
     [ true ↦ λ h. absurd (true≢false (sym (ap (λ b. is_some (cond b (Some (position_or_len p xs)) None)) (lt-ltb _ _ (or_len-some p xs h))) ∙ ap is_some none)) | false ↦ λ h. refl ]

@@ -1,5 +1,6 @@
 pub mod Contributing
 pub mod Keys
 pub mod Rows
+pub mod Flat
 pub mod Growing
 pub mod Adding

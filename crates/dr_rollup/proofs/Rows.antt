@@ -179,6 +179,13 @@ moved combines kinds es d =
     let is : IsRollup combines kinds es (rollup false kinds es) = record { ordered = own.ordered; each = λ q. own.each q ∙ sym (alone_or_apart combines kinds q es d) } in
     subst (IsPermutation es) (same_rollup combines kinds es (rollup false kinds es) (rollup combines kinds es) is (IsRollup-rollup combines kinds es)) (moved-apart kinds es)
 
+-- and are their rollup once they are sorted
+pub sorted-apart : (combines : Bool) (kinds : List Kind) (es : List Row) → (combines ≡ true → IsDistinct same_keys (map (λ x. x.key) es)) → rollup false [] es ≡ rollup combines kinds es
+sorted-apart combines kinds es d =
+    let own = IsRollup-rollup false [] es in
+    let is : IsRollup combines kinds es (rollup false [] es) = record { ordered = own.ordered; each = λ q. own.each q ∙ sym (alone_or_apart combines kinds q es d) } in
+    same_rollup combines kinds es (rollup false [] es) (rollup combines kinds es) is (IsRollup-rollup combines kinds es)
+
 -- ---- a row that is added to a rollup
 
 in_order_from_sound : (combines : Bool) (rows : List Row) → IsSound combines rows → IsInOrder rows

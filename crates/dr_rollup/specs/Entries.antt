@@ -1,11 +1,10 @@
 -- Rows in the order in which they came. No public contract cites this file.
-use Rattle.std.specs.Prelude.{◌≡◌, ℕ, ℤ, ◌<◌, Bool, true, false, List, map, length, slice_get, slice_set, Some}
+use Rattle.std.specs.Prelude.{◌≡◌, ℕ, ℤ, Bool, false, List, Option, None, Some, is_some, slice_get, slice_set}
 use Rattle.std.specs.List.{AllByRecursion}
 use Rattle.std.specs.Ordering.{eq_by_cmp}
 use Rattle.dr_base.specs.declared.key.Key.{Key}
 use Rattle.dr_base.specs.declared.row.Row.{Row}
 use Rattle.dr_base.specs.Order.{key_cmp}
-use Rattle.indexmap.specs.IndexMap.{spare}
 use Rattle.dr_agg.specs.declared.kind.Kind.{Kind}
 use Rattle.dr_agg.specs.Combination.{combine_columns}
 use Rattle.dr_rollup.specs.Unrolled.{contributions}
@@ -17,12 +16,16 @@ abbrev pub row_of : Key × List ℤ → Row
 row_of e = record { key = e.0; metrics = e.1 }
 
 abbrev pub rows_in : Entries → List Row
-rows_in (Combined rows) = map row_of rows.entries
+rows_in (Combined rows) = rows.rows
 rows_in (Apart rows) = rows.items
 
+-- how many values each row has, where rows of one key are combined
+abbrev pub width_in : Entries → Option ℕ
+width_in (Combined rows) = Some rows.width
+width_in (Apart rows) = None
+
 abbrev pub is_combined : Entries → Bool
-is_combined (Combined rows) = true
-is_combined (Apart rows) = false
+is_combined entries = is_some (width_in entries)
 
 -- the keys are the same
 abbrev pub same_keys : Key → Key → Bool
@@ -35,11 +38,6 @@ HasKeyAt k rows place = (row : Row) × (slice_get rows place ≡ Some row) × (r
 -- no row has that key
 abbrev pub NoneHas : Key → List Row → Type 0
 NoneHas k rows = AllByRecursion (λ row. same_keys k row.key ≡ false) rows
-
--- one more row can be put without memory
-abbrev pub HasRoom : Entries → Type 0
-HasRoom (Combined rows) = 0 < spare rows
-HasRoom (Apart rows) = length rows.items < rows.cap
 
 -- the row at a place with what an event adds
 abbrev pub combined_row : List Kind → List ℤ → Row → Row

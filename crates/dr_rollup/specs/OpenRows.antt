@@ -1,8 +1,8 @@
 -- The rows of an open range while events are added (Apache Druid documentation, ingestion: rollup).
-use Rattle.std.specs.Prelude.{◌≡◌, ℕ, List, [], ◌∷◌, ◌++◌}
+use Rattle.std.specs.Prelude.{◌≡◌, ℕ, false, List, [], ◌∷◌, ◌++◌}
 use Rattle.dr_base.specs.declared.event.Event.{Event}
 use Rattle.dr_base.specs.declared.row.Row.{Row}
-use Rattle.dr_agg.specs.Rollup.{add_row}
+use Rattle.dr_agg.specs.Rollup.{add_row, rollup}
 use Rattle.dr_schema.specs.declared.schema.Schema.{Schema}
 use Rattle.dr_schema.specs.Columns.{kinds_of}
 use Rattle.dr_rollup.specs.Unrolled.{unrolled, rolled_up}
@@ -16,6 +16,10 @@ pub record OpenRows : Type 0 where
 -- the rows with one more event: combined into the row of its key, or put behind the rows of its key
 abbrev pub rows_with : OpenRows → Event → List Row
 rows_with s e = add_row s.schema.rollup (kinds_of s.schema) s.rows (unrolled s.schema e)
+
+-- rows in the order of their keys, those of one key as they stand
+abbrev pub in_order : List Row → List Row
+in_order rows = rollup false [] rows
 
 abbrev pub with_rows : OpenRows → List Row → OpenRows
 with_rows s rows = record { schema = s.schema; limit = s.limit; rows = rows }

@@ -3,6 +3,7 @@ ghost use Rattle.dr_rollup.specs.Entries.{rows_in};
 
 use crate::entries::Entries;
 use dr_base::Key;
+use std::alloc::Global;
 use std::marker::Model;
 
 /// The rows of an open index in the order in which their keys came, lent. A contract sees the list of them. Each reader takes
@@ -29,7 +30,13 @@ impl<'a> Arrived<'a> {
         Arrived { entries }
     }
 
+    /// What the rows take their memory from.
+    pub fn allocator(&self) -> Global {
+        self.entries.allocator()
+    }
+
     /// How many rows there are.
+    #[inline]
     pub fn len(&self) -> usize
         ensures { result ≡ length self.now }
     {
@@ -37,6 +44,7 @@ impl<'a> Arrived<'a> {
     }
 
     /// The key and the metrics of a row, by its place from 0.
+    #[inline]
     pub fn row(&self, place: usize) -> (&'a Key, &'a [i64])
         requires { place < length self.now }
         ensures { slice_get self.now place ≡ Some (record { key = result.0.now; metrics = result.1.now }) }

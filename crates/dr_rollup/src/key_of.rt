@@ -6,7 +6,7 @@ ghost use Rattle.dr_rollup.specs.Lookup.{same_writes, same_answers};
 use dr_base::{Key, Text};
 use indexmap::Equivalent;
 
-/// The key of an event's row, borrowed from the event: its time, truncated, and its dimension values. By it a row is found
+/// The key of a row or of a group, borrowed: a time in milliseconds since the epoch, and dimension values. By it a row is found
 /// without a copy of the key.
 #[derive(Clone, Copy, PartialEq, Eq, Hash)]
 pub struct KeyOf<'a> {

@@ -5,12 +5,15 @@
 mod arrived;
 mod entries;
 mod key_of;
+mod keyed_rows;
 mod open_index;
+mod pieces;
 mod rollup_error;
 mod sorted_rows;
 mod unrolled;
 
 pub use arrived::Arrived;
+pub use key_of::KeyOf;
 pub use open_index::OpenIndex;
 pub use rollup_error::RollupError;
-pub use unrolled::{columns_of, unrolled_row};
+pub use unrolled::{columns_of, push_contributions, unrolled_row};

@@ -2,7 +2,7 @@ ghost use Rattle.std.specs.Prelude.{◌≡◌, ◌≤◌, ◌<◌, ◌↔◌, []
 ghost use Rattle.std.specs.List.Sorted.{IsPermutation};
 ghost use Rattle.dr_schema.specs.Fits.{FitsSchema};
 ghost use Rattle.dr_agg.specs.Rollup.{IsInOrder};
-ghost use Rattle.dr_rollup.specs.OpenRows.{OpenRows, rows_with, with_rows, RollsUp};
+ghost use Rattle.dr_rollup.specs.OpenRows.{OpenRows, rows_with, with_rows, in_order, RollsUp};
 ghost use Rattle.dr_rollup.specs.Unrolled.{unrolled};
 ghost use Rattle.dr_rollup.specs.Entries.{rows_in, is_combined, HasKeyAt, NoneHas};
 
@@ -51,7 +51,7 @@ impl OpenIndex {
         Ok(OpenIndex {
             schema: schema.copy()?,
             limit,
-            entries: Entries::new(alloc, schema.rollup()),
+            entries: Entries::new(alloc, schema.rollup(), schema.metrics().len()),
         })
     }
 
@@ -82,9 +82,7 @@ impl OpenIndex {
         if self.entries.len() >= self.limit {
             return Err(RollupError::IndexFull);
         }
-        let row = unrolled_row(self.entries.allocator(), &self.schema, event)?;
-        self.entries.reserve()?;
-        self.entries.put(row);
+        self.entries.put(&self.schema, event)?;
         Ok(())
     }
 
@@ -97,10 +95,11 @@ impl OpenIndex {
         sorted_rows(&self.entries)
     }
 
-    /// The rows in the order in which their keys came, lent: those of the index, in another order. It takes constant time and no
-    /// memory.
+    /// The rows in the order in which their keys came, lent: those of the index, in another order, which they have once they are
+    /// sorted by their keys, and rows of one key left as they stand. It takes constant time and no memory.
     pub fn arrived(&self) -> Arrived<'_>
-        ensures { IsPermutation result self.now.rows }
+        ensures permuted { IsPermutation result self.now.rows }
+        ensures sorted { in_order result ≡ self.now.rows }
     {
         Arrived::of(&self.entries)
     }

@@ -1,4 +1,4 @@
-ghost use Rattle.std.specs.Prelude.{◌≡◌, IfOk, length, map};
+ghost use Rattle.std.specs.Prelude.{◌≡◌, ◌+◌, ◌≤◌, ◌++◌, IfOk, length, map, vec_capacity};
 ghost use Rattle.dr_gran.specs.Truncation.{truncation};
 ghost use Rattle.dr_time.specs.Instant.{IsInstant};
 ghost use Rattle.dr_schema.specs.Columns.{kinds_of};
@@ -31,11 +31,19 @@ pub fn unrolled_row(alloc: Global, schema: &Schema, event: &Event) -> Result<Row
     ensures { IfOk result (λ row. row ≡ unrolled schema.now event.now) }
 {
     Ok(Row {
-        key: Key {
-            time: row_time(schema, event.time),
-            dims: event.dims.copy()?,
-        },
+        key: unrolled_key(schema, event)?,
         metrics: contributions(alloc, schema.metrics().as_slice(), event.inputs.as_slice())?,
+    })
+}
+
+/// The key of that row.
+pub fn unrolled_key(schema: &Schema, event: &Event) -> Result<Key, AllocError>
+    requires { IsInstant event.now.time }
+    ensures { IfOk result (λ key. key ≡ (unrolled schema.now event.now).key) }
+{
+    Ok(Key {
+        time: row_time(schema, event.time),
+        dims: event.dims.copy()?,
     })
 }
 
@@ -53,22 +61,32 @@ fn contributions(alloc: Global, metrics: &[Metric], inputs: &[i64]) -> Result<Nu
     ensures { IfOk result (λ values. values ≡ contributions (map (λ m. m.kind) metrics.now) inputs.now) }
 {
     let mut values = Vec::with_capacity(alloc, metrics.len())?;
-    for (i, metric) in metrics.iter().enumerate() {
-        values.push(contribution(metric.kind, input_at(inputs, i)))?;
-    }
+    push_contributions(&mut values, metrics, inputs);
     Ok(Numbers::from_vec(values))
 }
 
+/// Puts what an event adds to each column, by its inputs, behind other values: 1 to a count, its input to every other; where an
+/// input isn't there, it reads 0. There must be room for them. It takes time by the columns, and no memory.
+pub fn push_contributions(values: &mut Vec<i64>, metrics: &[Metric], inputs: &[i64])
+    requires { length values.old.items + length metrics.now ≤ vec_capacity values.old }
+    ensures { values.new.items ≡ values.old.items ++ contributions (map (λ m. m.kind) metrics.now) inputs.now }
+{
+    for (i, metric) in metrics.iter().enumerate() {
+        values
+            .push(contribution(metric.kind, input_at(inputs, i)))
+            .unwrap();
+    }
+}
+
 /// Combines what an event adds to each column into the values of a row.
-pub fn contribute(metrics: &[Metric], values: &mut Numbers, inputs: &[i64])
+pub fn contribute(metrics: &[Metric], values: &mut [i64], inputs: &[i64])
     requires values { FitsColumns (map (λ m. m.kind) metrics.now) values.old }
     requires inputs { length inputs.now ≡ length metrics.now }
     ensures { values.new ≡ combine_columns (map (λ m. m.kind) metrics.now) values.old (contributions (map (λ m. m.kind) metrics.now) inputs.now) }
 {
     for (place, metric) in metrics.iter().enumerate() {
         let added = contribution(metric.kind, inputs[place]);
-        let combined = metric.kind.combine(values.as_slice()[place], added);
-        values.set(place, combined);
+        values[place] = metric.kind.combine(values[place], added);
     }
 }
 

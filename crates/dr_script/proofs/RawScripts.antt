@@ -45,10 +45,10 @@ use Rattle.dr_requests.specs.declared.request.Request.{Request}
 use Rattle.dr_requests.specs.declared.request.Request.TheVariants.{Add, Seal, Join, Plan, Commit, Pin, Query, At, Audit, Image, Stats}
 use Rattle.dr_requests.specs.Request.{instant_in, request_in}
 use Rattle.dr_script.specs.declared.script_error.ScriptError.{ScriptError}
-use Rattle.dr_script.specs.declared.script_error.ScriptError.TheVariants.{Command, Time, Core, Query as BadQuery, Answer}
-use Rattle.dr_script.specs.Commands.{Answered, add_event, add_read, answered, ask_at, ask_now, audit_now, carried_out, chunk_named, commit_job, image_at, join_ranges, plan_ranges, refused_by, seal_chunk, tell_stats, told, grouping_of}
-use Rattle.dr_script.specs.Headline.{AnswersRaw, AnswersAreRaw, RawScript, IsRaw, RawFrom, accepted_for, asked_by, begins, event_asked, event_read, pin_asked, pinned_for, told_answer}
-use Rattle.dr_script.specs.Script.{GoesOn, Moves, Script, ScriptAfter, ScriptFrom, opened_by, settled, step}
+use Rattle.dr_script.specs.declared.script_error.ScriptError.TheVariants.{Command, Time, Core, Query as BadQuery, Answer, WorkerNotStarted}
+use Rattle.dr_script.specs.Commands.{IsLack, Answered, add_event, add_read, answered, not_started, ask_at, ask_now, audit_now, carried_out, chunk_named, commit_job, image_at, join_ranges, plan_ranges, refused_by, seal_chunk, tell_stats, told, grouping_of}
+use Rattle.dr_script.specs.Headline.{AnswersRaw, AnswersAreRaw, RawScript, IsRaw, RawFrom, accepted_for, begins, event_asked, event_read, pin_asked, pinned_for, told_answer}
+use Rattle.dr_script.specs.Script.{GoesOn, Moves, Script, ScriptAfter, ScriptFrom, asked_by, opened_by, settled, step}
 use Rattle.dr_ask.proofs.MadeQueries.{query_of-made}
 use Rattle.dr_ask.proofs.ReadSteps.{through}
 
@@ -60,6 +60,7 @@ not_accepted (Time e) = refl
 not_accepted (Core e) = refl
 not_accepted (BadQuery e) = refl
 not_accepted (Answer e) = refl
+not_accepted WorkerNotStarted = refl
 
 not_pinned : (e : ScriptError) → begins (codes "pin ") (told e) ≡ false
 not_pinned (Command e) = refl
@@ -67,6 +68,7 @@ not_pinned (Time e) = refl
 not_pinned (Core e) = refl
 not_pinned (BadQuery e) = refl
 not_pinned (Answer e) = refl
+not_pinned WorkerNotStarted = refl
 
 either : {A : Type 0} (b : Bool) (x y : A) → x ≡ y → cond b x y ≡ y
 either true x y is = is
@@ -260,31 +262,33 @@ module _ (schema : Schema) (es : List Event) (ess : List (List Event)) (c : Core
   step_good : (line : List ℕ) → Good (asked_by line) (step c line)
   step_good line = limited_good (nat_lt longest_line (length line)) (request_in line)
 
-  -- want of memory
-  memory_at : (text : List ℕ) (on : Option (List Event)) (a : Answered) → a ≡ refused_by NoMemory → IsRaw schema text on a
-  memory_at text None a is = inr is
-  memory_at text (Some es) a is = λ q read matches. inr is
+  -- want of memory, or of a thread
+  lack_at : (text : List ℕ) (on : Option (List Event)) (a : Answered) → IsLack a → IsRaw schema text on a
+  lack_at text None a is = inr is
+  lack_at text (Some es) a is = λ q read matches. inr is
 
-  memory_raw : (r : Result (Request (List ℕ)) CommandError) (a : Answered) → a ≡ refused_by NoMemory → AnswersRaw schema es ess r a
-  memory_raw (Err e) a is = tt
-  memory_raw (Ok (Add text)) a is = tt
-  memory_raw (Ok (Seal instant)) a is = tt
-  memory_raw (Ok (Join purpose instant lo hi)) a is = tt
-  memory_raw (Ok (Plan purpose instant lo hi)) a is = tt
-  memory_raw (Ok (Commit number)) a is = tt
-  memory_raw (Ok Pin) a is = tt
-  memory_raw (Ok (Query text)) a is = memory_at text (Some es) a is
-  memory_raw (Ok (At number text)) a is = memory_at text (slice_get ess number) a is
-  memory_raw (Ok (Audit text)) a is = tt
-  memory_raw (Ok (Image instant place)) a is = tt
-  memory_raw (Ok Stats) a is = tt
+  lack_raw : (r : Result (Request (List ℕ)) CommandError) (a : Answered) → IsLack a → AnswersRaw schema es ess r a
+  lack_raw (Err e) a is = tt
+  lack_raw (Ok (Add text)) a is = tt
+  lack_raw (Ok (Seal instant)) a is = tt
+  lack_raw (Ok (Join purpose instant lo hi)) a is = tt
+  lack_raw (Ok (Plan purpose instant lo hi)) a is = tt
+  lack_raw (Ok (Commit number)) a is = tt
+  lack_raw (Ok Pin) a is = tt
+  lack_raw (Ok (Query text)) a is = lack_at text (Some es) a is
+  lack_raw (Ok (At number text)) a is = lack_at text (slice_get ess number) a is
+  lack_raw (Ok (Audit text)) a is = tt
+  lack_raw (Ok (Image instant place)) a is = tt
+  lack_raw (Ok Stats) a is = tt
 
-  memory_good : (r : Result (Request (List ℕ)) CommandError) → Good r (refused_by NoMemory, c)
-  memory_good r = (memory_raw r (refused_by NoMemory) refl, refused_follows schema es ess r (Command NoMemory) c h)
+  lack_good : (r : Result (Request (List ℕ)) CommandError) (a : Answered) → IsLack a → Good r (a, c)
+  lack_good r a (inl is) = (lack_raw r a (inl is), subst (λ (x : Answered). Follows schema es ess r (x, c)) (sym is) (refused_follows schema es ess r (Command NoMemory) c h))
+  lack_good r a (inr is) = (lack_raw r a (inr is), subst (λ (x : Answered). Follows schema es ess r (x, c)) (sym is) (refused_follows schema es ess r WorkerNotStarted c h))
 
   moves_good : (line : List ℕ) (a : Answered) (new : CoreState) → Moves c line a new → Good (asked_by line) (a, new)
   moves_good line a new (inl is) = coe 0 1 (i. Good (asked_by line) ((sym is.0) i, (sym is.1) i)) (step_good line)
-  moves_good line a new (inr is) = coe 0 1 (i. Good (asked_by line) ((sym is.0) i, (sym is.1) i)) (memory_good (asked_by line))
+  moves_good line a new (inr (inl is)) = coe 0 1 (i. Good (asked_by line) ((sym is.0) i, (sym is.1) i)) (lack_good (asked_by line) (refused_by NoMemory) (inl refl))
+  moves_good line a new (inr (inr is)) = coe 0 1 (i. Good (asked_by line) ((sym is.1) i, (sym is.2) i)) (lack_good (asked_by line) not_started (inr refl))
 
 -- ---- lines in turn
 

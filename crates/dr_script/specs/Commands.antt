@@ -1,5 +1,5 @@
 -- What each command of a script does: what is written for it, and the state after it, or its refusal, which changes nothing.
-use Rattle.std.specs.Prelude.{ℕ, ℤ, Bool, true, false, List, ◌++◌, Option, None, Result, Ok, Err, codes, decimal, slice_get, if◌then◌else◌}
+use Rattle.std.specs.Prelude.{◌≡◌, ◌⊎◌, ℕ, ℤ, Bool, true, false, List, ◌++◌, Option, None, Result, Ok, Err, codes, decimal, slice_get, if◌then◌else◌}
 use Rattle.dr_base.specs.FaultLine.{fault_line, arg_part}
 use Rattle.dr_base.specs.Reading.{◌>>=◌, passed}
 use Rattle.dr_base.specs.declared.fault.Arg.{Arg}
@@ -25,15 +25,18 @@ use Rattle.dr_merge.specs.declared.purpose.Purpose.{Purpose}
 use Rattle.dr_merge.specs.declared.purpose.Purpose.TheVariants.{Merge, Publish}
 use Rattle.dr_cuts.specs.RawAnswer.{raw_answer}
 use Rattle.dr_timeline.specs.CoreState.{CoreState}
+use Rattle.dr_timeline.specs.declared.ask_error.AskError.{AskError}
+use Rattle.dr_timeline.specs.declared.ask_error.AskError.TheVariants as by_workers
 use Rattle.dr_cuts.specs.Segments.{pinned}
 use Rattle.dr_core.specs.Asking.{answer_over}
 use Rattle.dr_core.specs.Refusal as core_refusal
 use Rattle.dr_core.specs.Steps as core
 use Rattle.dr_requests.specs.declared.command_error.CommandError.{CommandError}
+use Rattle.dr_requests.specs.declared.command_error.CommandError.TheVariants.{NoMemory}
 use Rattle.dr_requests.specs.declared.request.Request.{Request}
 use Rattle.dr_requests.specs.declared.request.Request.TheVariants as line
 use Rattle.dr_script.specs.declared.script_error.ScriptError.{ScriptError}
-use Rattle.dr_script.specs.declared.script_error.ScriptError.TheVariants.{Command, Time, Core, Query as BadQuery, Answer}
+use Rattle.dr_script.specs.declared.script_error.ScriptError.TheVariants.{Command, Time, Core, Query as BadQuery, Answer, WorkerNotStarted}
 use Rattle.dr_requests.specs.Refusal.{number_of, name_of}
 use Rattle.dr_requests.specs.Refusal as command
 use Rattle.dr_requests.specs.Request.{instant_in}
@@ -55,6 +58,10 @@ refused number name arg = record { line = fault_line number name arg; is_refused
 abbrev pub refused_by : CommandError → Answered
 refused_by e = refused (number_of e) (name_of e) None
 
+-- the system refused a thread to a query
+abbrev pub not_started : Answered
+not_started = refused 80 (codes "WorkerNotStarted") None
+
 -- `unparseable NUMBER NAME`, and the column's place where there is one
 abbrev pub unparseable_line : ℕ → List ℕ → Option Arg → List ℕ
 unparseable_line number name arg = codes "unparseable " ++ decimal number ++ codes " " ++ name ++ arg_part arg
@@ -70,6 +77,7 @@ told (Time e) = refused (time.number_of e) (time.name_of e) None
 told (Core e) = refused (core_refusal.number_of e) (core_refusal.name_of e) None
 told (BadQuery e) = refused (query.number_of e) (query.name_of e) (query.arg_of e)
 told (Answer e) = refused (no_answer.number_of e) (no_answer.name_of e) None
+told WorkerNotStarted = not_started
 
 -- memory ran out
 abbrev pub is_memory : ScriptError → Bool
@@ -78,6 +86,34 @@ is_memory (Time e) = false
 is_memory (Core e) = core_refusal.is_memory e
 is_memory (BadQuery e) = query.is_memory e
 is_memory (Answer e) = no_answer.is_memory e
+is_memory WorkerNotStarted = false
+
+-- memory ran out, or a thread was refused
+abbrev pub is_lack : ScriptError → Bool
+is_lack (Command e) = command.is_memory e
+is_lack (Time e) = false
+is_lack (Core e) = core_refusal.is_memory e
+is_lack (BadQuery e) = query.is_memory e
+is_lack (Answer e) = no_answer.is_memory e
+is_lack WorkerNotStarted = true
+
+-- a thread was refused, which is so only where this holds
+abbrev pub ThreadsIf : Type 0 → ScriptError → Type 0
+ThreadsIf asks (Command e) = Unit {0}
+ThreadsIf asks (Time e) = Unit {0}
+ThreadsIf asks (Core e) = Unit {0}
+ThreadsIf asks (BadQuery e) = Unit {0}
+ThreadsIf asks (Answer e) = Unit {0}
+ThreadsIf asks WorkerNotStarted = asks
+
+-- what several workers refused
+abbrev pub asking_error : AskError → ScriptError
+asking_error (by_workers.Answer e) = Answer e
+asking_error by_workers.WorkerNotStarted = WorkerNotStarted
+
+-- a line is refused for want of memory, or of a thread
+abbrev pub IsLack : Answered → Type 0
+IsLack a = (a ≡ refused_by NoMemory) ⊎ (a ≡ not_started)
 
 -- ---- commands
 
@@ -178,6 +214,16 @@ image_at instant place c = do
   k ← chunk_named c instant
   bytes ← passed Core (core.image k place c)
   Ok (answered (encode_lower bytes), c)
+
+-- a query is asked, of the ranges as they are or of a snapshot
+abbrev pub AsksQuery : Request (List ℕ) → Type 0
+AsksQuery (line.Query text) = Unit {0}
+AsksQuery (line.At number text) = Unit {0}
+AsksQuery request = ⊥
+
+abbrev pub AsksIn : Result (Request (List ℕ)) CommandError → Type 0
+AsksIn (Ok request) = AsksQuery request
+AsksIn (Err e) = ⊥
 
 -- what a line asks for is done
 abbrev pub carried_out : CoreState → Request (List ℕ) → Result (Answered × CoreState) ScriptError

@@ -1,5 +1,5 @@
 -- What the answers of a script are, in terms of its lines and of what is written for them alone.
-use Rattle.std.specs.Prelude.{◌≡◌, ◌⊎◌, ℕ, Bool, true, nat_lt, bytes_eq, List, [], ◌∷◌, ◌++◌, length, take, Option, Some, None, Result, Ok, Err, codes, slice_get, if◌then◌else◌}
+use Rattle.std.specs.Prelude.{◌≡◌, ◌⊎◌, ℕ, Bool, true, bytes_eq, List, [], ◌∷◌, ◌++◌, length, take, Option, Some, None, Result, Ok, Err, codes, slice_get, if◌then◌else◌}
 use Rattle.dr_base.specs.declared.event.Event.{Event}
 use Rattle.dr_schema.specs.declared.schema.Schema.{Schema}
 use Rattle.dr_spec.specs.SpecOf.{spec_of}
@@ -11,19 +11,12 @@ use Rattle.dr_ask.specs.Asked.{Asked}
 use Rattle.dr_ask.specs.Matching.{is_matching}
 use Rattle.dr_ask.specs.QueryOf.{query_of}
 use Rattle.dr_cuts.specs.RawAnswer.{raw_answer}
-use Rattle.dr_lines.specs.Lines.{longest_line}
-use Rattle.dr_lines.specs.declared.line_error.LineError.TheVariants.{LineTooLong}
 use Rattle.dr_requests.specs.declared.command_error.CommandError.{CommandError}
-use Rattle.dr_requests.specs.declared.command_error.CommandError.TheVariants.{NoMemory, Line, BadCommand}
+use Rattle.dr_requests.specs.declared.command_error.CommandError.TheVariants.{BadCommand}
 use Rattle.dr_requests.specs.declared.request.Request.{Request}
 use Rattle.dr_requests.specs.declared.request.Request.TheVariants.{Add, Pin, Query, At}
-use Rattle.dr_requests.specs.Request.{request_in}
-use Rattle.dr_script.specs.Commands.{Answered, answered, refused, refused_by}
-use Rattle.dr_script.specs.Script.{Script}
-
--- what a line asks for; a line over the limit asks for nothing
-abbrev pub asked_by : List ℕ → Result (Request (List ℕ)) CommandError
-asked_by line = if nat_lt longest_line (length line) then Err (Line LineTooLong) else request_in line
+use Rattle.dr_script.specs.Commands.{Answered, IsLack, answered, refused, refused_by}
+use Rattle.dr_script.specs.Script.{Script, asked_by}
 
 -- the written line begins so
 abbrev pub begins : List ℕ → Answered → Bool
@@ -56,10 +49,10 @@ abbrev pub told_answer : Result (List ℕ) AnswerError → Answered
 told_answer (Ok text) = answered text
 told_answer (Err e) = refused (no_answer.number_of e) (no_answer.name_of e) None
 
--- what is written for a matching query over these events: the raw answer, or that memory ran out; without a snapshot 101
+-- what is written for a matching query over these events: the raw answer, or that memory or a thread was lacking; without a snapshot 101
 abbrev pub IsRaw : Schema → List ℕ → Option (List Event) → Answered → Type 0
-IsRaw schema text None a = (a ≡ refused_by BadCommand) ⊎ (a ≡ refused_by NoMemory)
-IsRaw schema text (Some es) a = (q : Asked) → query_of schema text ≡ Ok q → is_matching q ≡ true → (a ≡ told_answer (raw_answer schema q es)) ⊎ (a ≡ refused_by NoMemory)
+IsRaw schema text None a = (a ≡ refused_by BadCommand) ⊎ IsLack a
+IsRaw schema text (Some es) a = (q : Asked) → query_of schema text ≡ Ok q → is_matching q ≡ true → (a ≡ told_answer (raw_answer schema q es)) ⊎ IsLack a
 
 -- a line that asks a query, of the rows as they are or of a snapshot, is answered so
 abbrev pub AnswersRaw : Schema → List Event → List (List Event) → Result (Request (List ℕ)) CommandError → Answered → Type 0

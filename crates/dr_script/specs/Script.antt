@@ -1,4 +1,4 @@
--- A script: lines, and the line that is written for each. Which it is, is determined but for want of memory.
+-- A script: lines, and the line that is written for each. Which it is, is determined but for want of memory and of threads.
 use Rattle.std.specs.Prelude.{◌≡◌, ◌⊎◌, ℕ, Bool, nat_lt, List, [], ◌∷◌, ◌++◌, length, Result, Ok, Err, codes, if◌then◌else◌}
 use Rattle.std.specs.List.{flat_map, list_any}
 use Rattle.dr_base.specs.Reading.{◌>>=◌, passed}
@@ -9,10 +9,12 @@ use Rattle.dr_spec.specs.SpecOf.{spec_of}
 use Rattle.dr_timeline.specs.CoreState.{CoreState, empty_core}
 use Rattle.dr_lines.specs.declared.line_error.LineError.TheVariants.{LineTooLong}
 use Rattle.dr_lines.specs.Lines.{longest_line}
+use Rattle.dr_requests.specs.declared.command_error.CommandError.{CommandError}
 use Rattle.dr_requests.specs.declared.command_error.CommandError.TheVariants.{NoMemory, Line}
+use Rattle.dr_requests.specs.declared.request.Request.{Request}
 use Rattle.dr_script.specs.declared.script_error.ScriptError.{ScriptError}
 use Rattle.dr_script.specs.declared.script_error.ScriptError.TheVariants.{Command}
-use Rattle.dr_script.specs.Commands.{Answered, answered, refused, refused_by, told, carried_out}
+use Rattle.dr_script.specs.Commands.{Answered, AsksIn, answered, not_started, refused, refused_by, told, carried_out}
 use Rattle.dr_requests.specs.Request.{request_in}
 
 -- ---- the spec line
@@ -52,9 +54,15 @@ first_step line = if nat_lt longest_line (length line) then Err (refused_by (Lin
 abbrev pub Becomes : Answered × CoreState → Answered → CoreState → Type 0
 Becomes answer reply new = (reply ≡ answer.0) × (new ≡ answer.1)
 
--- a line is answered as the script says; or it is refused for want of memory, which changes nothing
+-- what a line asks for; a line over the limit asks for nothing
+abbrev pub asked_by : List ℕ → Result (Request (List ℕ)) CommandError
+asked_by line = if nat_lt longest_line (length line) then Err (Line LineTooLong) else request_in line
+
+-- a line is answered as the script says; or it is refused for want of memory, or where it asks a query for want of a thread,
+-- which changes nothing
 abbrev pub Moves : CoreState → List ℕ → Answered → CoreState → Type 0
-Moves old line reply new = Becomes (step old line) reply new ⊎ Becomes (refused_by NoMemory, old) reply new
+Moves old line reply new =
+    Becomes (step old line) reply new ⊎ (Becomes (refused_by NoMemory, old) reply new ⊎ (AsksIn (asked_by line) × (reply ≡ not_started) × (new ≡ old)))
 
 -- lines in turn, one answer each
 abbrev pub ScriptFrom : CoreState → List (List ℕ) → List Answered → CoreState → Type 0

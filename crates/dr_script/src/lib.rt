@@ -3,6 +3,7 @@
 #![tactic(auto)]
 
 mod answering;
+mod asking;
 mod hexadecimal;
 mod reply;
 mod script;

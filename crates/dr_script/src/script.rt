@@ -16,6 +16,8 @@ use dr_requests::CommandError;
 use std::alloc::{AllocError, Global};
 use std::io::{Read, Write};
 use std::mem::forget;
+use std::sync::Wait;
+use std::thread::Threads;
 
 /// Runs a script: reads lines, and writes one line for each, which is flushed where no whole line waits to be read.
 /// The answer is the status: 0 where no line was refused, else 1.
@@ -37,29 +39,31 @@ use std::mem::forget;
 /// | `image INSTANT PLACE` | the image of a sealed range of the chunk, from 0, in lower-case hexadecimal |
 /// | `stats` | `processed P unparseable U thrownAway T` |
 ///
-/// INSTANT names the chunk in which it lies. Queries are answered on one thread whatever the number of workers (1 to 16)
-/// is. A line that is refused is answered by `refused NUMBER NAME [argument]` and changes nothing: 98 `LineTooLong` for a
-/// line over 1048576 bytes, which is skipped, 101 `BadCommand` for a line that fits no command, or names no job or
-/// snapshot, 0 `NoMemory` where memory ran out, and the refusals of the command. A failed read, or 2^32 reads, is 99
-/// `ReadFault` and ends the run with status 1, and so does a failed write (100), after which nothing more is written.
+/// INSTANT names the chunk in which it lies. Queries are answered by so many workers, 1 to 16; with one, no thread is
+/// started. A line that is refused is answered by `refused NUMBER NAME [argument]` and changes nothing: 98 `LineTooLong` for
+/// a line over 1048576 bytes, which is skipped, 101 `BadCommand` for a line that fits no command, or names no job or
+/// snapshot, 0 `NoMemory` where memory ran out, 80 `WorkerNotStarted` where the system refused a thread to a query, and the
+/// refusals of the command. A failed read, or 2^32 reads, is 99 `ReadFault` and ends the run with status 1, and so does a
+/// failed write (100), after which nothing more is written.
 ///
 /// Each of these is the whole of what is written: where nothing failed, the text of the script of all lines, with its status;
 /// where a read failed, or 2^32 reads were made, the text of the lines that were read whole, and then `refused 99 ReadFault`;
-/// and where a write failed, a beginning of such a text. A line of 0 `NoMemory` leaves the state as it was, and the lines
-/// behind it are answered over that state. A count of failures or of reads stands still at 2^64-1.
+/// and where a write failed, a beginning of such a text. A line of 0 `NoMemory`, or of 80 `WorkerNotStarted` to a `query` or an
+/// `at`, leaves the state as it was, and the lines behind it are answered over that state. A count of failures or of reads
+/// stands still at 2^64-1.
 ///
 /// Whatever the lines seal, merge and publish, and however late, often or in whatever order jobs are committed: each line `query` or
 /// `at` whose query matches is answered, byte for byte, by the answer over the raw events of those `+` lines before it, or
-/// before its `pin` line, that were answered `accepted`.
+/// before its `pin` line, that were answered `accepted`, whatever the number of workers.
 ///
 /// The cost of a line is that of its command, and reading and writing take a few operations a byte. At most 2^32 reads are made.
 /// What the script made stays in memory, which goes back to the system with the program: to let go of it piece by piece would
 /// take time by the events.
-pub fn run_script<R: Read, W: Write>(
-    rt: &impl AllocGlobal,
+pub fn run_script<T: AllocGlobal + Threads + Wait + Sync, R: Read, W: Write>(
+    rt: &T,
     reader: &mut Counted<R>,
     writer: &mut Counted<W>,
-    _workers: u8,
+    workers: u8,
 ) -> u8
     ensures script { RunsScript Script
         (seen_by R.remaining reader.old) (seen_by R.remaining reader.new)
@@ -69,17 +73,19 @@ pub fn run_script<R: Read, W: Write>(
         (seen_by W.contents writer.old) (seen_by W.contents writer.new) result }
     ensures reads { reads_of reader.new ≤ reads_of reader.old + 2 ^ 32 }
 {
-    match run_all(rt.alloc(), reader, writer) {
+    match run_all(rt, rt.alloc(), reader, writer, usize::from(workers)) {
         Ok(is_refused) => u8::from(is_refused),
         Err(_) => 1,
     }
 }
 
 // Answers all lines. The answer is whether one was refused.
-fn run_all<R: Read, W: Write>(
+fn run_all<T: Threads + Wait + Sync, R: Read, W: Write>(
+    rt: &T,
     alloc: Global,
     reader: &mut Counted<R>,
     writer: &mut Counted<W>,
+    workers: usize,
 ) -> Result<bool, LineError>
     ensures script { RunsOn Script (WhereOpen Script)
         (ReadingHolds (seen_by R.remaining reader.old) (seen_by R.remaining reader.new))
@@ -91,7 +97,7 @@ fn run_all<R: Read, W: Write>(
 {
     match buffers(alloc) {
         Ok((mut lines, mut output)) => {
-            let refuses = run(alloc, &mut lines, &mut output, reader, writer)?;
+            let refuses = run(rt, alloc, &mut lines, &mut output, reader, writer, workers)?;
             output.flush(writer)?;
             Ok(refuses)
         }
@@ -116,12 +122,14 @@ fn refuse_all<W: Write>(writer: &mut Counted<W>) -> Result<bool, LineError>
 }
 
 // Answers the first line, which is the spec, and then the others. The answer is whether a line was refused.
-fn run<R: Read, W: Write>(
+fn run<T: Threads + Wait + Sync, R: Read, W: Write>(
+    rt: &T,
     alloc: Global,
     lines: &mut LineReader,
     output: &mut LineWriter,
     reader: &mut Counted<R>,
     writer: &mut Counted<W>,
+    workers: usize,
 ) -> Result<bool, LineError>
     ensures script { RunsOn Script (WhereOpen Script)
         (failures_of reader.new ≡ failures_of reader.old)
@@ -140,7 +148,8 @@ fn run<R: Read, W: Write>(
         }
         Some(Ok(mut session)) => {
             Reply::SpecOk.put(output, writer)?;
-            let refuses = answer_lines(alloc, &mut session, lines, output, reader, writer);
+            let refuses =
+                answer_lines(rt, alloc, &mut session, lines, output, reader, writer, workers);
             // To let go of events and rows one by one takes longer than to answer some lines.
             forget(session);
             refuses
@@ -170,13 +179,15 @@ fn opened<R: Read>(
 }
 
 // Answers the lines that are left.
-fn answer_lines<R: Read, W: Write>(
+fn answer_lines<T: Threads + Wait + Sync, R: Read, W: Write>(
+    rt: &T,
     alloc: Global,
     session: &mut Session,
     lines: &mut LineReader,
     output: &mut LineWriter,
     reader: &mut Counted<R>,
     writer: &mut Counted<W>,
+    workers: usize,
 ) -> Result<bool, LineError>
     ensures answers { RunsOn (AnswersFrom session.old) (AnswersFrom session.old)
         (failures_of reader.new ≡ failures_of reader.old)
@@ -189,7 +200,7 @@ fn answer_lines<R: Read, W: Write>(
     let mut is_refused = false;
     'lines: loop {
         flush_unless_line(lines, output, writer)?;
-        let reply = match next_reply(alloc, session, lines, reader) {
+        let reply = match next_reply(rt, alloc, session, lines, reader, workers) {
             Some(Ok(reply)) => reply,
             Some(Err(fault)) => {
                 Reply::Fault(CommandError::Line(fault)).put(output, writer)?;
@@ -218,11 +229,13 @@ fn flush_unless_line<W: Write>(
 }
 
 // The reply to the next line, or none at the end of the input.
-fn next_reply<R: Read>(
+fn next_reply<T: Threads + Wait + Sync, R: Read>(
+    rt: &T,
     alloc: Global,
     session: &mut Session,
     lines: &mut LineReader,
     reader: &mut Counted<R>,
+    workers: usize,
 ) -> Option<Result<Reply, LineError>>
     ensures turn { Turns
         (failures_of reader.new ≡ failures_of reader.old)
@@ -233,7 +246,7 @@ fn next_reply<R: Read>(
     ensures reads { CountsReads lines.old.reads lines.new.reads (reads_of reader.old) (reads_of reader.new) }
 {
     match lines.next_line(reader) {
-        NextLine::Line => Some(Ok(answer_line(alloc, session, lines.line()))),
+        NextLine::Line => Some(Ok(answer_line(rt, alloc, session, lines.line(), workers))),
         NextLine::TooLong => Some(Ok(Reply::Fault(CommandError::Line(LineError::LineTooLong)))),
         NextLine::End => None,
         NextLine::Failed => Some(Err(LineError::ReadFault)),

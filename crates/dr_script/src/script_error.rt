@@ -22,6 +22,8 @@ pub enum ScriptError {
     Query(QueryError),
     /// Why a query has no answer: 0, or 81.
     Answer(AnswerError),
+    /// 80: the system refused a thread to a query.
+    WorkerNotStarted,
 }
 
 impl From<CommandError> for ScriptError {

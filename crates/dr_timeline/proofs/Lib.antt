@@ -14,3 +14,4 @@ pub mod Placing
 pub mod Working
 pub mod Worked
 mod Ordered
+pub mod Asking

@@ -1,5 +1,5 @@
 -- What holds of the cuts of a timeline's chunks.
-use Rattle.std.proofs.Common.{◌≡◌, sym, ap, subst, ◌<◌, List, [], ◌∷◌, length, map}
+use Rattle.std.proofs.Common.{subst, ◌<◌, List, [], ◌∷◌, length, map}
 use Rattle.std.specs.List.{AllByRecursion}
 use Rattle.dr_base.specs.declared.event.Event.{Event}
 use Rattle.dr_schema.specs.declared.schema.Schema.{Schema}

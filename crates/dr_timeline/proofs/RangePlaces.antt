@@ -1,28 +1,23 @@
 -- The places of ranges in their chunks, found one after the other.
-use Rattle.std.proofs.Common.{◌≡◌, ◌∙◌, sym, refl, ap, subst, ℕ, ℤ, zero, suc, ◌+◌, ◌≤ℤ◌, ◌<ℤ◌, Bool, true, false, true≢false, cond, List, [], ◌∷◌, ◌++◌, length, map, filter, Option, Some, None, arith}
-use Rattle.std.specs.List.{AllByRecursion, flat_map}
+use Rattle.std.proofs.Common.{◌≡◌, ◌∙◌, sym, refl, ap, subst, ℕ, ℤ, ◌+◌, ◌≤ℤ◌, ◌<ℤ◌, Bool, true, false, true≢false, cond, List, [], ◌∷◌, ◌++◌, length, map, filter, Option, Some, None, arith}
+use Rattle.std.specs.List.{AllByRecursion}
 use Rattle.std.specs.List.Sorted.{IsStrictlySortedBy}
 use Rattle.std.specs.declared.cmp.Ordering.TheVariants.{Less, Equal, Greater}
 use Rattle.std.specs.Ordering.{int_cmp, int_eq, match_ordering}
 use Rattle.std.proofs.lemmas.Cmp.{int_ranked}
 use Rattle.std.proofs.lemmas.Int.{ints}
-use Rattle.std.proofs.lemmas.List.{length-append}
 use Rattle.dr_base.specs.declared.event.Event.{Event}
-use Rattle.dr_base.specs.declared.row.Row.{Row}
 use Rattle.dr_gran.proofs.TruncationLemmas.{truncation_bounds}
-use Rattle.dr_gran.specs.Truncation.{truncation}
 use Rattle.dr_schema.specs.declared.schema.Schema.{Schema}
 use Rattle.dr_schema.specs.Fits.{FitsSchema}
 use Rattle.dr_time.specs.Instant.{IsInstant, first_instant}
 use Rattle.dr_cuts.specs.declared.range_info.RangeInfo.{RangeInfo}
-use Rattle.dr_cuts.specs.Chunks.{chunk, chunks, with_value, values_onto}
-use Rattle.dr_cuts.specs.Segments.{infos, infos_of_cut, sealed_info, open_info, events_in}
+use Rattle.dr_cuts.specs.Chunks.{chunk, with_value, values_onto}
+use Rattle.dr_cuts.specs.Segments.{infos, infos_of_cut, sealed_info, open_info}
 use Rattle.dr_cuts.specs.State.{AreCuts, Cut, Range, open_from}
 use Rattle.dr_cuts.proofs.Parts.{int_eq-itself, is_eq-true, rising-values}
-use Rattle.dr_scan.specs.Identified.{Identified}
-use Rattle.dr_scan.specs.Identifier.{identifier_of}
 use Rattle.dr_timeline.specs.Numbered.{next_place, numbered}
-use Rattle.dr_timeline.specs.Scanning.{place_behind, segments_behind, segment_at}
+use Rattle.dr_timeline.specs.Scanning.{segments_behind, segment_at}
 use Rattle.dr_timeline.proofs.Pinning.{rows_of_range}
 
 -- ---- the chunks of events are instants

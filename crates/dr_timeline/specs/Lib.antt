@@ -1,4 +1,5 @@
 pub mod Refusal
+pub mod AskRefusal
 pub mod Steps
 pub mod Standing
 pub mod Stepping

@@ -1,13 +1,16 @@
-ghost use Rattle.std.specs.Prelude.{IfSome, bytes_eq};
+ghost use Rattle.std.specs.Prelude.{IfErr, IfSome, List, Result, bytes_eq, ℕ};
 ghost use Rattle.std.specs.List.{All, AllByRecursion, IsDistinct};
 ghost use Rattle.dr_answers.specs.AnswerRefusal.{Answers};
+ghost use Rattle.dr_answers.specs.declared.answer_error.AnswerError as one;
 ghost use Rattle.dr_ask.specs.Asked.{asked};
 ghost use Rattle.dr_ask.specs.MadeFor.{outputs};
 ghost use Rattle.dr_intervals.specs.Printable.{StartsPrintable};
 ghost use Rattle.dr_time.specs.Instant.{IsInstant};
 ghost use Rattle.dr_time.specs.Printed.{IsPrintable};
+ghost use Rattle.dr_timeline.specs.AskRefusal.{AnswersUnless, HasThreads};
 ghost use Rattle.dr_timeline.specs.Answering.{answer_from};
 
+use crate::ask_error::AskError;
 use dr_answers::AnswerError;
 use dr_ask::Query;
 use dr_finish::finish;
@@ -31,4 +34,15 @@ pub fn answer(
 {
     let groups = finish(alloc, query, partial, span)?;
     Ok(text_of(alloc, query, groups.as_slice())?)
+}
+
+/// What one worker answered, as an answer by several.
+pub fn told(answer: Result<Vec<u8>, AnswerError>) -> Result<Vec<u8>, AskError>
+    ensures told { (reading : Result (List ℕ) one.AnswerError) → Answers (λ text. text.items) answer reading → AnswersUnless (λ text. text.items) result reading }
+    ensures threads { IfErr result HasThreads }
+{
+    match answer {
+        Ok(text) => Ok(text),
+        Err(error) => Err(AskError::Answer(error)),
+    }
 }

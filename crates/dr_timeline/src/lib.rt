@@ -3,12 +3,14 @@
 #![tactic(auto)]
 
 mod answering;
+mod ask_error;
 mod chunk_of;
 mod imaging;
 mod known_texts;
 mod outcome;
 mod planned;
 mod scanning;
+mod scattering;
 mod snapshot;
 mod span;
 mod stats;
@@ -16,11 +18,13 @@ mod timeline;
 mod timeline_error;
 mod versioning;
 
+pub use ask_error::AskError;
 pub use dr_answers::AnswerError;
 pub use dr_ask::{Query, QueryError};
 pub use dr_cuts::RangeInfo;
 pub use dr_fragment::Fragment;
 pub use dr_merge::{Job, MergeError, Purpose, work};
+pub use dr_workers::{Gate, OpenGate};
 pub use outcome::Outcome;
 pub use snapshot::Snapshot;
 pub use stats::Stats;

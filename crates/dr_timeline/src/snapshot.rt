@@ -1,4 +1,4 @@
-ghost use Rattle.std.specs.Prelude.{◌≡◌, ◌↔◌, ◌++◌, IfOk, IsTrue, List, true, length, map, option_map, slice_get};
+ghost use Rattle.std.specs.Prelude.{◌≡◌, ◌<◌, ◌↔◌, ◌++◌, IfErr, IfOk, IsTrue, List, true, length, map, option_map, slice_get};
 ghost use Rattle.dr_base.specs.declared.event.Event.{Event};
 ghost use Rattle.dr_answers.specs.AnswerRefusal.{Answers};
 ghost use Rattle.dr_answers.specs.Answer.{answer};
@@ -9,8 +9,11 @@ ghost use Rattle.dr_ask.specs.MadeFor.{MadeFor};
 ghost use Rattle.dr_rollup.specs.Unrolled.{unrolled};
 ghost use Rattle.dr_cuts.specs.Segments.{rows_of};
 ghost use Rattle.dr_cuts.specs.RawAnswer.{raw_answer};
+ghost use Rattle.dr_timeline.specs.AskRefusal.{AnswersUnless, HasThreads};
 
-use crate::answering::answer;
+use crate::answering::{answer, told};
+use crate::ask_error::AskError;
+use crate::scattering::partial_by;
 use crate::span::span_of;
 use dr_answers::AnswerError;
 use dr_ask::Query;
@@ -20,8 +23,10 @@ use dr_cuts::RangeInfo;
 use dr_fragment::PinnedFragments;
 use dr_partial::Partial;
 use dr_schema::Schema;
-use dr_workers::scatter_one;
+use dr_workers::{Gate, scatter_one};
 use std::marker::Model;
+use std::sync::Wait;
+use std::thread::Threads;
 
 /// The events that were accepted before a pin, in order, and the ranges that their chunks were cut into. No later step
 /// changes it. A contract sees its schema, the list of its events, and the ranges.
@@ -104,6 +109,32 @@ impl Snapshot {
         let alloc = self.stream.allocator();
         let partial = scatter_one(alloc, query, self.fragments.as_slice())?;
         answer(alloc, query, partial, self.span())
+    }
+
+    /// What [`Snapshot::answer_one`] answers, by so many workers, 1 to 16, each of which enters the gate before it works on a
+    /// range. There are no more workers than ranges; with one worker, or fewer than two ranges, no thread is started.
+    ///
+    /// Where the query matches, it is byte for byte the answer over the raw events, truncated, filtered, grouped and
+    /// folded one by one, whatever the ranges, the workers and the gate. Refusals: 80 `WorkerNotStarted` where the system
+    /// refused a thread, and 81 `ResultTooLarge` where there are over 100000 groups. It takes the time of the slowest worker,
+    /// of starting a thread for each, of merging and of the rest of `answer_one`, and memory by the groups that each worker found.
+    #[tactic(auto, using(crate::proofs::Asking::lacking))]
+    pub fn answer<R: Threads + Wait + Sync, G: Gate + Sync>(
+        &self,
+        rt: &R,
+        query: &Query,
+        workers: usize,
+        gate: &G,
+    ) -> Result<Vec<u8>, AskError>
+        requires { MadeFor self.now.schema (asked query.now) }
+        ensures own_rows { AnswersUnless (λ text. text.items) result (answer (asked query.now) (rows_of self.now)) }
+        ensures raw_where_matching { is_matching (asked query.now) ≡ true
+            → AnswersUnless (λ text. text.items) result (raw_answer self.now.schema (asked query.now) self.now.stream) }
+        ensures alone { workers < 2 → IfErr result HasThreads }
+    {
+        let alloc = self.stream.allocator();
+        let groups = partial_by(rt, alloc, query, self.fragments.as_slice(), workers, gate)?;
+        told(answer(alloc, query, groups, self.span()))
     }
 
     /// The answer to a query that was made for the schema over the raw events, each as a row of its own: truncated,

@@ -1,13 +1,16 @@
 ghost use Rattle.dr_core.specs.Run.{FitsStep};
 
 use dr_ask::Query;
-use dr_core::{Reply, Step, run_core_one};
+use dr_core::{Reply, Step, run_core, run_core_one};
 use dr_events::read_event;
 use dr_merge::Purpose;
 use dr_spec::IngestSpec;
+use dr_timeline::OpenGate;
 use std::alloc::{AllocError, Global};
 use std::marker::Model;
+use std::sync::Wait;
 use std::test::Fail;
+use std::thread::Threads;
 
 const SPEC: &str =
     r#"{"dataSchema":{"dataSource":"w","timestampSpec":{"column":"t","format":"iso"},"dimensionsSpec":{"dimensions":["page"]},"metricsSpec":[{"type":"longSum","name":"added","fieldName":"a"}],"granularitySpec":{"segmentGranularity":"day","queryGranularity":"none"}},"tuningConfig":{"maxCommits":1}}"#;
@@ -108,6 +111,15 @@ impl Steps {
 
     fn run(self, alloc: Global) -> Result<Vec<Reply>, Fail> {
         Ok(run_core_one(alloc, self.spec, self.list.as_slice())?)
+    }
+
+    /// The replies where queries are answered by three workers.
+    fn run_by_workers<R: Threads + Wait + Sync>(
+        self,
+        rt: &R,
+        alloc: Global,
+    ) -> Result<Vec<Reply>, Fail> {
+        Ok(run_core(rt, alloc, self.spec, self.list.as_slice(), 3, &OpenGate)?)
     }
 }
 
@@ -233,6 +245,60 @@ fn asks_and_refusals(alloc: Global, steps: &mut Steps) -> Result<(), Fail> {
     steps.seal()?;
     steps.commit(2)?;
     steps.ask(alloc, 2, ADDED)
+}
+
+/// A sealed range and an open one, of which the sum is asked.
+fn two_ranges(alloc: Global, steps: &mut Steps) -> Result<(), Fail> {
+    steps.accept(alloc, EVENTS[0])?;
+    steps.seal()?;
+    steps.accept(alloc, EVENTS[1])?;
+    steps.accept(alloc, EVENTS[2])?;
+    steps.pin()?;
+    steps.ask(alloc, 0, ADDED)
+}
+
+/// The replies over two ranges, by one thread or by workers.
+fn replies_over_two<R: Threads + Wait + Sync>(
+    rt: &R,
+    alloc: Global,
+    by_workers: bool,
+) -> Result<String, Fail> {
+    let mut steps = Steps::new(alloc)?;
+    two_ranges(alloc, &mut steps)?;
+    let replies = if by_workers {
+        steps.run_by_workers(rt, alloc)?
+    } else {
+        steps.run(alloc)?
+    };
+    replies_of(alloc, &replies)
+}
+
+#[test]
+fn workers_reply_as_one_thread_does(rt: HostRuntime) -> Result<(), Fail> {
+    let wanted =
+        r#"a0; sealed; a1; a2; pin 0; [{"result":{"added":10},"timestamp":"2024-01-01T00:00:00.000Z"}]; "#;
+    let told = replies_over_two(&rt, rt.alloc(), false)?;
+    assert_eq!(rt; told.as_str(), wanted);
+    let told = replies_over_two(&rt, rt.alloc(), true)?;
+    assert_eq!(rt; told.as_str(), wanted);
+    Ok(())
+}
+
+/// Refusals, scans and audits by workers.
+fn replies_by_workers<R: Threads + Wait + Sync>(rt: &R, alloc: Global) -> Result<String, Fail> {
+    let mut steps = Steps::new(alloc)?;
+    merge_before_two_pins(alloc, &mut steps)?;
+    asks_and_refusals(alloc, &mut steps)?;
+    replies_of(alloc, &steps.run_by_workers(rt, alloc)?)
+}
+
+#[test]
+fn replies_to_each_step_by_workers(rt: HostRuntime) -> Result<(), Fail> {
+    let told = replies_by_workers(&rt, rt.alloc())?;
+    let wanted =
+        r#"a0; sealed; a1; pin 0; sealed; job 0; job 1; v0; pin 1; [{"result":{"cnt":2},"timestamp":"2024-01-01T00:00:00.000Z"}]; [{"result":{"cnt":1},"timestamp":"2024-01-01T00:00:00.000Z"}]; [{"result":{"cnt":2},"timestamp":"2024-01-01T00:00:00.000Z"}]; refused 93; refused 92; refused 91; no such; no such; "#;
+    assert_eq!(rt; told.as_str(), wanted);
+    Ok(())
 }
 
 /// Scans of both pins, and an audit of one, which there isn't.

@@ -2,7 +2,9 @@ use dr_lines::Counted;
 use dr_script::run_script;
 use std::io;
 use std::io::{ErrorKind, Read, Write};
+use std::sync::Wait;
 use std::test::Fail;
+use std::thread::Threads;
 
 /// Counts calls, and tells which of them a signal interrupts: every third.
 #[derive(Drop)]
@@ -96,7 +98,11 @@ const CASES: [(usize, usize, &[u8], u8); 6] = [
 ];
 
 // The status of a run, behind what it wrote.
-fn run(rt: &impl AllocGlobal, reads: usize, room: usize) -> Result<Vec<u8>, Fail> {
+fn run<T: AllocGlobal + Threads + Wait + Sync>(
+    rt: &T,
+    reads: usize,
+    room: usize,
+) -> Result<Vec<u8>, Fail> {
     let mut reader = Counted::new(FailingReader {
         bytes: SCRIPT.as_bytes(),
         left: reads,

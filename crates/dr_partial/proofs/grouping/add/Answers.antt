@@ -1,10 +1,10 @@
-use Rattle.std.proofs.Common.{refl, map}
+use Rattle.std.proofs.Common.{◌≡◌, ◌∙◌, ◌++◌, ◌∷◌, [], refl, sym, ap, subst, map}
 use Rattle.dr_base.specs.declared.row.Row.{Row}
 use Rattle.dr_rollup.specs.Entries.{row_of}
-use Rattle.dr_partial.specs.Grouped.{folds_alone}
+use Rattle.dr_partial.specs.Grouped.{folds_alone, Adds}
 use Rattle.dr_partial.specs.Partial.{kinds_in}
 use Rattle.dr_partial.proofs.Alone.{fits-alone}
-use Rattle.dr_partial.proofs.Adding.{known-adds, put-adds}
+use Rattle.dr_partial.proofs.Adding.{known-adds, new-adds}
 use Rattle.dr_partial.proofs.grouping.add.Goals as goal
 
 pub returns-in-Some : goal.returns-in-Some
@@ -18,6 +18,7 @@ returns c =
     let key = c.in_ok-key.ensures in
     let values = c.in_ok-values.ensures in
     let g : Row = record { key = record { time = c.args.group.now.time; dims = c.args.group.now.dims.now }; metrics = folds_alone all c.args.metrics.now } in
-    put-adds (kinds_in all) (map row_of c.args.groups.now.entries) c.requires g _ (map row_of c.put.new.groups.entries) c.put.result
-    (λ i. record { key = key i; metrics = values i })
-    (c.in_default.ensures.none refl) (fits-alone all c.args.metrics.now) c.put.ensures
+    let before = map row_of c.args.groups.now.entries in
+    let same : ◌≡◌ {A = Row} (record { key = c.in_ok-key.key; metrics = c.in_ok-values.values }) g = λ i. record { key = key i; metrics = values i } in
+    subst (Adds (kinds_in all) before g) (sym (c.in_ok-put.ensures ∙ ap (λ (x : Row). before ++ x ∷ []) same))
+    (new-adds (kinds_in all) before c.requires g (c.in_default.ensures.none refl) (fits-alone all c.args.metrics.now))

@@ -1,17 +1,24 @@
-use Rattle.std.proofs.Common.{sym, refl, map, arith}
-use Rattle.std.proofs.lemmas.Option.{get_or_from_slice_get}
-use Rattle.dr_base.specs.declared.row.Row.{Row}
+use Rattle.std.proofs.Common.{subst, map, take, slice_range, arith}
 use Rattle.dr_rollup.specs.Entries.{row_of}
 use Rattle.dr_ask.specs.Asked.{asked}
-use Rattle.dr_partial.proofs.Pieces.{no-rows, next}
+use Rattle.dr_partial.specs.Grouped.{AddsAll}
+use Rattle.dr_partial.proofs.Pieces.{no-rows, more-rows}
+use Rattle.dr_partial.proofs.Runs.{joined}
 use Rattle.dr_partial.proofs.index.add_arrived.Goals as goal
 
-pub loop-i-init : goal.loop-i-init
-loop-i-init c = no-rows (asked c.args.query.now) (map row_of c.args.groups.now.entries) c.requires.sound
+pub loop-from-init : goal.loop-from-init
+loop-from-init c = (omega arith, no-rows (asked c.args.query.now) (map row_of c.args.groups.now.entries) c.requires.sound)
 
-pub loop-i-preserved : goal.loop-i-preserved
-loop-i-preserved c =
+pub loop-from-preserved : goal.loop-from-preserved
+loop-from-preserved c =
+    let q = asked c.args.query.now in
+    let before = map row_of c.args.groups.now.entries in
+    let between = map row_of c.loop-from.groups.entries in
+    let after = map row_of c.add_from.new.groups.entries in
     let rows = c.args.rows.now in
-    let r : Row = record { key = c.row.result.0.now; metrics = c.row.result.1.now } in
-    next (asked c.args.query.now) (λ l. l) (λ a b. refl) (map row_of c.args.groups.now.entries) (map row_of c.loop-i.groups.entries) (map row_of c.add_parts.new.groups.entries)
-    rows c.loop-i.i r (omega (arith, c.loop-i-test.true, c.len-i-end.ensures)) (sym (get_or_from_slice_get rows c.loop-i.i r r c.row.ensures)) c.loop-i.invariant c.in_ok-add_parts.ensures
+    let from = c.loop-from.from in
+    let to = c.in_ok-from.from in (
+      c.in_ok-from.ensures.within,
+      subst (λ l. AddsAll q before l after) (joined rows from to (omega (arith, c.in_ok-from.ensures.more)))
+          (more-rows q before between after (take from rows) (slice_range rows from to) c.loop-from.invariant.1 c.in_ok-from.ensures.adds),
+    )

@@ -14,7 +14,7 @@ moved_all q before a b after (Ok u) so moved adds = adds-moved q before a b afte
 moved_all q before a b after (Err e) so moved adds = tt
 
 pub add_arrived-requires-clause-instants : goal.add_arrived-requires-clause-instants
-add_arrived-requires-clause-instants c = all-moved (λ (r : Row). IsInstant r.key.time) c.arrived.result c.args.index.now.rows c.arrived.ensures c.requires.instants
+add_arrived-requires-clause-instants c = all-moved (λ (r : Row). IsInstant r.key.time) c.arrived.result c.args.index.now.rows c.arrived.ensures.permuted c.requires.instants
 
 pub returns : goal.returns
-returns c = moved_all (asked c.args.query.now) (map row_of c.args.groups.now.entries) c.arrived.result c.args.index.now.rows (map row_of c.add_arrived.new.groups.entries) c.add_arrived.result c.requires.sound c.arrived.ensures c.add_arrived.ensures
+returns c = moved_all (asked c.args.query.now) (map row_of c.args.groups.now.entries) c.arrived.result c.args.index.now.rows (map row_of c.add_arrived.new.groups.entries) c.add_arrived.result c.requires.sound c.arrived.ensures.permuted c.add_arrived.ensures

@@ -1,4 +1,4 @@
-use Rattle.std.proofs.Common.{◌≡◌, ◌∙◌, ◌<◌, ◌+◌, sym, ap, subst, ℤ, ℕ, pos, false, w64, FitsSigned, rules, arith, length, get_or}
+use Rattle.std.proofs.Common.{◌≡◌, ◌∙◌, ◌<◌, ◌+◌, sym, ap, subst, pos, false, w64, FitsSigned, rules, length, get_or}
 use Rattle.std.proofs.lemmas.Int.{to_z-of_z}
 use Rattle.dr_cuts.specs.declared.range_info.RangeInfo.{RangeInfo}
 use Rattle.dr_scan.specs.Identified.{Identified}

@@ -1,4 +1,4 @@
-use Rattle.std.proofs.Common.{◌≡◌, ◌∙◌, sym, ap, subst, map, rules, ℤ, w64, FitsSigned, Option, Some, None}
+use Rattle.std.proofs.Common.{◌∙◌, sym, ap, subst, rules, w64, FitsSigned, Some}
 use Rattle.std.proofs.lemmas.Int.{to_z-of_z}
 use Rattle.dr_timeline.proofs.Times.{EndsAtInstants}
 use Rattle.dr_timeline.proofs.Spans.{ends-times, span-times, span_truncated}

@@ -1,7 +1,7 @@
 use Rattle.std.proofs.Common.{◌≡◌, ◌∙◌, sym, ap, List, length}
 use Rattle.dr_base.specs.declared.row.Row.{Row}
 use Rattle.dr_image.specs.Table.{rows_of}
-use Rattle.dr_fragment.specs.Lying.{rows_lying}
+use Rattle.dr_fragment.specs.LyingRows.{rows_lying}
 use Rattle.dr_fragment.proofs.ImageRows.{rows_long}
 use Rattle.dr_fragment.proofs.ordered_rows.OrderedRows.len.Goals as goal
 

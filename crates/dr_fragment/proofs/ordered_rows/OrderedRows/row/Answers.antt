@@ -1,7 +1,7 @@
 use Rattle.std.proofs.Common.{◌≡◌, ◌∙◌, sym, ap, subst, ◌<◌, List, Some, length, slice_get}
 use Rattle.dr_base.specs.declared.row.Row.{Row}
 use Rattle.dr_image.specs.Table.{rows_of}
-use Rattle.dr_fragment.specs.Lying.{rows_lying}
+use Rattle.dr_fragment.specs.LyingRows.{rows_lying}
 use Rattle.dr_fragment.proofs.ImageRows.{rows_long, row_of_image}
 use Rattle.dr_fragment.proofs.ordered_rows.OrderedRows.row.Goals as goal
 
@@ -25,8 +25,3 @@ returns-in-InImage c =
     let is : c.args.self.now ≡ rows_of c.in-InImage.view = sym c.self.view_is ∙ ap rows_lying c.in-InImage.is in
     let there = subst (λ n. c.args.i < n) (ap (λ (rs : List Row). length rs) is ∙ rows_long c.in-InImage.view) c.requires in
     ap (λ (rs : List Row). slice_get rs c.args.i) is ∙ row_of_image c.in-InImage.view c.args.i there ∙ ap Some (sym c.in_image.ensures)
-
-pub returns-in-Own : goal.returns-in-Own
-returns-in-Own c =
-    let is : c.args.self.now ≡ c.in-Own.rows.items = sym c.self.view_is ∙ ap rows_lying c.in-Own.is in
-    ap (λ (rs : List Row). slice_get rs c.args.i) (is ∙ sym c.deref.ensures.value) ∙ c.row_at-in-Own.ensures

@@ -1,4 +1,4 @@
-use Rattle.std.proofs.Common.{◌≡◌, ◌∙◌, ◌<◌, refl, ap, arith, length, suc, true≢false, subst, map}
+use Rattle.std.proofs.Common.{◌≡◌, ◌<◌, refl, ap, arith, length, suc, true≢false, subst}
 use Rattle.std.specs.Result.{IsErrAnd, is_ok}
 use Rattle.dr_agg.specs.Rollup.{add_row}
 use Rattle.dr_schema.specs.Columns.{kinds_of}
@@ -18,7 +18,7 @@ known c =
     let s = c.self.inside in
     let after : Combines (kinds_of s.schema) c.args.event.now.inputs (rows_in s.entries) c.in-Some.place (rows_in c.combine.new.self) =
     rw (← c.metrics.ensures, ← c.as_slice-metrics.ensures, ← c.as_slice.ensures) c.combine.ensures.entries in
-    known-adds s.schema s.limit s.entries c.self.invariant c.args.event.now c.in-Some.place c.in-Some.ensures.combined c.in-Some.ensures.found c.combine.new.self c.combine.ensures.combined after
+    known-adds s.schema s.limit s.entries c.self.invariant c.args.event.now c.in-Some.place c.in-Some.ensures.combined c.in-Some.ensures.found c.combine.new.self c.combine.ensures.width after
 
 pub invariant_of-self : goal.invariant_of-self
 invariant_of-self c = (known c).holds
@@ -44,29 +44,19 @@ counted c = let s = c.self.inside in new-count s.schema s.limit s.entries c.self
 pub returns-then-len-self-clause-full : goal.returns-then-len-self-clause-full
 returns-then-len-self-clause-full c = let more = counted (goal.at.returns-then-len-self-clause-full c).After-len in rw (← c.self.view_is) (λ h. omega (arith, more, c.len.ensures, c.if-len-self.true), λ h. refl)
 
-pub returns-in_err-row-clause-full : goal.returns-in_err-row-clause-full
-returns-in_err-row-clause-full c =
-    let more = counted (goal.at.returns-in_err-row-clause-full c).After-len in
+pub returns-in_err-put-clause-full : goal.returns-in_err-put-clause-full
+returns-in_err-put-clause-full c =
+    let more = counted (goal.at.returns-in_err-put-clause-full c).After-len in
     rw (← c.self.view_is) (
       λ h. (let same : IndexFull ≡ NoMemory = subst (λ r. IsErrAnd r (λ e. e ≡ NoMemory)) h c.from_residual.ensures.1 in absurd (omega (arith, ap number_of same))),
       λ h. absurd (omega (arith, h, more, c.len.ensures, c.if-len-self.false)),
     )
 
-pub returns-in_err-reserve-clause-full : goal.returns-in_err-reserve-clause-full
-returns-in_err-reserve-clause-full c =
-    let more = counted (goal.at.returns-in_err-reserve-clause-full c).After-len in
-    rw (← c.self.view_is) (
-      λ h. (let same : IndexFull ≡ NoMemory = subst (λ r. IsErrAnd r (λ e. e ≡ NoMemory)) h c.from_residual-in_err-reserve.ensures.1 in absurd (omega (arith, ap number_of same))),
-      λ h. absurd (omega (arith, h, more, c.len.ensures, c.if-len-self.false)),
-    )
-
-added : (c : goal.After-put) → Adds c.self.inside.schema c.self.inside.limit c.self.inside.entries c.put.new.self c.args.event.now
+added : (c : goal.In_ok-put) → Adds c.self.inside.schema c.self.inside.limit c.self.inside.entries c.put.new.self c.args.event.now
 added c =
     let s = c.self.inside in
     let lt : length (rows_in s.entries) < s.limit = omega (arith, c.if-len-self.false, c.len.ensures) in
-    let reserved = c.in_ok-reserve.ensures in
-    new-adds s.schema s.limit s.entries c.self.invariant c.args.event.now (c.in_default.ensures.none refl) lt c.put.new.self (c.put.ensures.combined ∙ reserved.combined)
-    (rw (c.put.ensures.entries, reserved.entries, c.in_ok-row.ensures) refl)
+    new-adds s.schema s.limit s.entries c.self.invariant c.args.event.now (c.in_default.ensures.none refl) lt c.put.new.self c.in_ok-put.ensures.width c.in_ok-put.ensures.entries
 
 pub invariant_of-self-2 : goal.invariant_of-self-2
 invariant_of-self-2 c = (added c).holds

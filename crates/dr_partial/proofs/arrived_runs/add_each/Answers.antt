@@ -1,0 +1,34 @@
+use Rattle.std.proofs.Common.{subst, sym, map, slice_range, ◌∷◌, [], arith, rules, FitsSigned, w64}
+use Rattle.std.proofs.lemmas.Int.{to_z-of_z}
+use Rattle.dr_base.specs.declared.row.Row.{Row}
+use Rattle.dr_rollup.specs.Entries.{row_of}
+use Rattle.dr_ask.specs.Asked.{asked}
+use Rattle.dr_partial.specs.Grouped.{AddsAll}
+use Rattle.dr_partial.specs.Runs.{LiesIn}
+use Rattle.dr_partial.proofs.Pieces.{no-rows, more-rows}
+use Rattle.dr_partial.proofs.Runs.{none, one-last, in-run}
+use Rattle.dr_partial.proofs.arrived_runs.add_each.Goals as goal
+
+pub loop-i-init : goal.loop-i-init
+loop-i-init c =
+    let before = map row_of c.args.groups.now.entries in
+    subst (λ l. AddsAll (asked c.args.query.now) before l before) (sym (none c.args.rows.now c.args.from)) (no-rows (asked c.args.query.now) before c.requires.sound)
+
+pub add_held-requires-clause-held : goal.add_held-requires-clause-held
+add_held-requires-clause-held c =
+    let q = asked c.args.query.now in
+    let r : Row = record { key = c.row.result.0.now; metrics = c.row.result.1.now } in
+    let fits : FitsSigned w64 c.args.bucket = search rules in
+    rw (to_z-of_z w64 c.args.bucket fits) (in-run (λ x. LiesIn q c.args.bucket x.key.time) c.args.rows.now c.args.from c.args.to c.loop-i.i r c.loop-i.auto.i c.loop-i-test.true c.row.ensures c.requires.same)
+
+pub loop-i-preserved : goal.loop-i-preserved
+loop-i-preserved c =
+    let q = asked c.args.query.now in
+    let before = map row_of c.args.groups.now.entries in
+    let between = map row_of c.loop-i.groups.entries in
+    let after = map row_of c.add_held.new.groups.entries in
+    let rows = c.args.rows.now in
+    let i = c.loop-i.i in
+    let r : Row = record { key = c.row.result.0.now; metrics = c.row.result.1.now } in
+    subst (λ l. AddsAll q before l after) (sym (one-last rows c.args.from i r c.loop-i.auto.i (omega (arith, c.loop-i-test.true, c.requires.within)) c.row.ensures))
+    (more-rows q before between after (slice_range rows c.args.from i) (r ∷ []) c.loop-i.invariant c.in_ok-last.ensures)

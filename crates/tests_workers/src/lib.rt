@@ -1,0 +1,14 @@
+//! Tests of answers by several workers, over `dr_scatter` and `dr_timeline`: that they are those of one worker, that workers run at
+//! once, and that each enters the gate once for each range. Each test ends by itself, and tells the same whatever threads do.
+#![tactic(auto)]
+
+#[cfg(test)]
+mod answers;
+#[cfg(test)]
+mod both_entered;
+#[cfg(test)]
+mod gated;
+#[cfg(test)]
+mod ranges;
+#[cfg(test)]
+mod scattered;
