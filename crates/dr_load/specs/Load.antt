@@ -8,6 +8,7 @@ use Rattle.dr_ask.specs.Asked.{Asked}
 use Rattle.dr_ask.specs.Matching.{is_matching}
 use Rattle.dr_ask.specs.QueryOf.{query_of}
 use Rattle.dr_cuts.specs.RawAnswer.{raw_answer}
+use Rattle.dr_timeline.specs.declared.ask_error.AskError.TheVariants as ask
 use Rattle.dr_counts.specs.CountsLine.{counts_line}
 use Rattle.dr_load.specs.Refusal.{is_memory}
 use Rattle.dr_load.specs.declared.load_error.LoadError.{LoadError}
@@ -32,7 +33,7 @@ told processed unparseable thrown_away answer = ((counts_line processed unparsea
 -- both of the raw answer over some events, or the refusal of that answer
 abbrev pub told_of : Schema → Asked → List Event → ℕ × ℕ → Result (List ℕ) LoadError
 told_of schema q es counts = do
-  answer ← passed Answer (raw_answer schema q es)
+  answer ← passed Answer (passed ask.Answer (raw_answer schema q es))
   Ok (told (length es) counts.0 counts.1 answer)
 
 -- a text that is told of some events

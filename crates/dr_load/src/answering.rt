@@ -6,37 +6,41 @@ ghost use Rattle.dr_base.specs.Reading.{GivesUnless};
 ghost use Rattle.dr_node.specs.declared.node_error.NodeError.TheVariants.{HistoryMismatch};
 ghost use Rattle.dr_load.specs.declared.load_error.LoadError.TheVariants.{Node};
 ghost use Rattle.dr_load.specs.Load.{told, told_of};
-ghost use Rattle.dr_load.specs.Refusal.{is_memory};
+ghost use Rattle.dr_load.specs.Refusal.{is_lack};
 
 use crate::load_error::LoadError;
 use dr_ask::Query;
 use dr_base::Event;
 use dr_counts::counts_line;
 use dr_node::{Closed, NodeError};
-use dr_timeline::Snapshot;
+use dr_timeline::{OpenGate, Snapshot};
 use std::alloc::{AllocError, Global};
+use std::sync::Wait;
+use std::thread::Threads;
 
-/// The counts and the answer over the last snapshot of a node, which has to show the stream that the node was closed with.
+/// The counts, and the answer by so many workers over the last snapshot of a node, which has to show the stream that the node was
+/// closed with.
 /// Refusals: 94 `HistoryMismatch` where it doesn't, and those of the answer.
-pub(crate) fn answered(
+pub(crate) fn answered<T: Threads + Wait + Sync>(
+    rt: &T,
     alloc: Global,
     query: &Query,
     snapshot: &Snapshot,
     closed: &Closed,
     counts: (u64, u64),
-    _workers: u8,
+    workers: u8,
 ) -> Result<Vec<u8>, LoadError>
     requires query { MadeFor snapshot.now.schema (asked query.now) }
     requires matching { is_matching (asked query.now) ≡ true }
     ensures text { IfOk result (λ text. told_of snapshot.now.schema (asked query.now) closed.now.stream.items counts ≡ Ok text.items) }
     ensures kept { snapshot.now.stream ≡ closed.now.stream.items
-        → GivesUnless is_memory (λ text. text.items) result (told_of snapshot.now.schema (asked query.now) closed.now.stream.items counts) }
+        → GivesUnless is_lack (λ text. text.items) result (told_of snapshot.now.schema (asked query.now) closed.now.stream.items counts) }
     ensures lost { (snapshot.now.stream ≡ closed.now.stream.items → ⊥) → result ≡ Err (Node HistoryMismatch) }
 {
     if !is_closed(snapshot, closed) {
         return Err(LoadError::Node(NodeError::HistoryMismatch));
     }
-    let answer = snapshot.answer_one(query)?;
+    let answer = snapshot.answer(rt, query, usize::from(workers), &OpenGate)?;
     Ok(told(alloc, closed.stream.len() as u64, counts, answer.as_slice())?)
 }
 

@@ -1,5 +1,6 @@
 ghost use Rattle.std.specs.Prelude.{◌≡◌};
 ghost use Rattle.dr_load.specs.declared.load_error.LoadError.TheVariants as error;
+ghost use Rattle.dr_timeline.specs.declared.ask_error.AskError.TheVariants as ask_error;
 ghost use Rattle.dr_load.specs.Refusal.{number_of, name_of, arg_of};
 
 use dr_answers::AnswerError;
@@ -7,6 +8,7 @@ use dr_ask::QueryError;
 use dr_base::Arg;
 use dr_node::NodeError;
 use dr_spec::SpecError;
+use dr_timeline::AskError;
 use std::alloc::{AllocError, AllocFailed};
 
 /// Why files weren't loaded.
@@ -20,14 +22,14 @@ pub enum LoadError {
     Query(QueryError),
     /// 97: the query doesn't match, a scan among them.
     NotMatching,
-    /// 80: the system started no thread for a file, or for a share of the last answer.
+    /// 80: the system started no thread for a file.
     WorkerNotStarted,
     /// 99: a read of a file failed, or 2^32 reads were made.
     ReadFault,
     /// A refusal of the node: 0, 90, or 94.
     Node(NodeError),
-    /// A refusal of the last answer: 0, or 81.
-    Answer(AnswerError),
+    /// A refusal of the last answer: 0, 80 where the system started no thread for a worker, or 81.
+    Answer(AskError),
 }
 
 impl LoadError {
@@ -99,11 +101,19 @@ impl From<NodeError> for LoadError {
     }
 }
 
-impl From<AnswerError> for LoadError {
+impl From<AskError> for LoadError {
     ghost from_gives = { λ e result. result ≡ error.Answer e };
 
-    fn from(error: AnswerError) -> LoadError {
+    fn from(error: AskError) -> LoadError {
         LoadError::Answer(error)
+    }
+}
+
+impl From<AnswerError> for LoadError {
+    ghost from_gives = { λ e result. result ≡ error.Answer (ask_error.Answer e) };
+
+    fn from(error: AnswerError) -> LoadError {
+        LoadError::Answer(AskError::Answer(error))
     }
 }
 

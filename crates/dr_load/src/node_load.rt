@@ -55,5 +55,5 @@ pub(crate) fn load_into<
     let counts = counts_of(told)?;
     let snapshot = node.pin(rt, &mut seats[0])?;
     let closed = node.close(seats)?;
-    answered(alloc, query, &snapshot, &closed, counts, workers)
+    answered(rt, alloc, query, &snapshot, &closed, counts, workers)
 }
