@@ -4,7 +4,8 @@
 A day of made-up page edits (five dimensions, six metrics) is cut into 24 ranges of an hour, and again into 96 of a quarter of an hour;
 each range is sealed and published. Then two queries are asked, one at a time: a timeseries by hour with five aggregations, and a groupBy
 with a filter, ordered and limited. Of each the median of the times from the write of its line to the end of its answer is told, in
-milliseconds, with how many times faster than with one worker that is. The answers have to be the same. Then the same over 24 ranges of which
+milliseconds, with how many times faster than with one worker that is, and what an answer takes of all processors together, which
+depends less on what else the machine does. The answers have to be the same. Then the same over 24 ranges of which
 the first has nine tenths of the events, since a worker's share is a share of the ranges and not of the rows. Last, what a thread costs: over
 ranges of one row each, where there is next to nothing to do, in microseconds for each worker.
 """
@@ -18,7 +19,7 @@ import threading
 import time
 
 WORKERS = (1, 2, 4)
-RUNS = 31
+RUNS = 21
 DAY = 1_704_067_200
 SUMS = ("added", "removed", "delta", "views")
 
@@ -29,7 +30,7 @@ QUERIES = {
         + [{"type": "longMin", "name": "least", "fieldName": "least"}, {"type": "longMax", "name": "most", "fieldName": "most"}],
     },
     "groupBy": {
-        "queryType": "groupBy", "dataSource": "edits", "intervals": ["2024-01-01/2024-01-02"], "granularity": "all", "dimensions": ["page", "lang"],
+        "queryType": "groupBy", "dataSource": "edits", "intervals": ["2024-01-01/2024-01-02"], "granularity": "all", "dimensions": ["page"],
         "filter": {"type": "not", "field": {"type": "selector", "dimension": "kind", "value": "bot"}},
         "aggregations": [{"type": "longSum", "name": it, "fieldName": it} for it in ("n", "added")],
         "limitSpec": {"type": "default", "limit": 10, "columns": [{"dimension": "added", "direction": "descending"}]},
@@ -100,25 +101,31 @@ class Program:
             took.append(time.perf_counter() - began)
         return took, answer
 
+    def processors(self):
+        """The seconds that all its threads had of processors."""
+        with open(f"/proc/{self.it.pid}/stat", encoding="ascii") as it:
+            words = it.read().rpartition(")")[2].split()
+        return (int(words[11]) + int(words[12])) / os.sysconf("SC_CLK_TCK")
+
     def end(self):
         self.it.stdin.close()
         self.it.wait()
 
 
 def measure(path, granularity, seconds, count, runs, workers, uneven=False):
-    """For each query the median of the seconds by each number of workers."""
+    """For each query the median of the seconds by each number of workers, and the seconds of processors."""
     fed, replies = script(granularity, seconds, count, uneven)
     programs = {it: Program(path, fed, replies, it) for it in workers}
     found = {}
     for name, query in QUERIES.items():
-        took, answers = {it: [] for it in workers}, set()
+        took, answers, before = {it: [] for it in workers}, set(), {it: programs[it].processors() for it in workers}
         for _ in range(runs):  # in turn, so that what else the machine does falls on all
             for it in workers:
                 seconds_of, answer = programs[it].ask(query, 1)
                 took[it] += seconds_of
                 answers.add(answer)
         assert len(answers) == 1 and next(iter(answers)).startswith(b"["), [it[:200] for it in answers]
-        found[name] = {it: statistics.median(took[it]) for it in workers}
+        found[name] = {it: (statistics.median(took[it]), (programs[it].processors() - before[it]) / runs) for it in workers}
     for it in programs.values():
         it.end()
     return found
@@ -130,11 +137,11 @@ def main():
     kinds = (("24", "hour", 3600, False), ("96", "fifteen_minute", 900, False), ("24 uneven", "hour", 3600, True))
     for ranges, granularity, seconds, uneven in kinds:
         for name, took in measure(path, granularity, seconds, count, RUNS, WORKERS, uneven).items():
-            told = "  ".join(f"{it}: {took[it] * 1e3:.2f} ms ({took[1] / took[it]:.2f})" for it in WORKERS)
+            told = "  ".join(f"{it}: {took[it][0] * 1e3:.1f} ms ({took[1][0] / took[it][0]:.2f}), {took[it][1] * 1e3:.1f} of processors" for it in WORKERS)
             print(f"{name} over {ranges} published ranges, by workers  {told}", flush=True)
-    few = measure(path, "hour", 3600, 24, 301, (1, 2, 4, 8, 16))["timeseries"]
-    costs = "  ".join(f"{it}: {(few[it] - few[1]) / it * 1e6:.0f}" for it in few if it > 1)
-    print(f"one row a range: {few[1] * 1e6:.0f} µs by one worker; µs for each thread, by workers  {costs}; load {os.getloadavg()[0]:.1f}")
+    few = measure(path, "hour", 3600, 24, 1001, (1, 2, 4, 8, 16))["timeseries"]
+    costs = "  ".join(f"{it}: {(few[it][0] - few[1][0]) / it * 1e6:.0f}, {(few[it][1] - few[1][1]) / it * 1e6:.0f} of processors" for it in few if it > 1)
+    print(f"one row a range: {few[1][0] * 1e6:.0f} µs by one worker; µs for each thread, by workers  {costs}; load {os.getloadavg()[0]:.1f}")
 
 
 if __name__ == "__main__":
