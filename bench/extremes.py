@@ -73,7 +73,8 @@ def many_intervals(n):
     yield spec(query="second")
     for it in range(n):
         yield event(BEGIN + it % 86400 * 1000)
-    spans = [f"2024-01-01T{it // 3600 % 24:02d}:{it // 60 % 60:02d}:{it % 60:02d}/PT1S" for it in range(0, 86400, 9)] + ["2024-01-01/2024-01-02"]
+    clock = lambda it: f"2024-01-01T{it // 3600:02d}:{it // 60 % 60:02d}:{it % 60:02d}"
+    spans = [f"{clock(it)}/{clock(it + 1)}" for it in range(0, 86399, 9)] + ["2024-01-01/2024-01-02"]
     more = [{"type": "longSum", "name": f"v{it}", "fieldName": "v"} for it in range(20)]
     for way in ("query", "seal", "query"):
         yield f"seal {instant(1)}" if way == "seal" else series(intervals=spans, aggregations=more)
