@@ -4,8 +4,13 @@ A case is a file NAME.script, which `druid-node run` gets as standard input, or 
 of the program. Beside it may lie NAME.out (wanted output; absent: none), NAME.err (wanted standard error; absent: none), NAME.status
 (absent: 0), NAME.stdin, and a folder NAME.files, whose files lie where the program runs. A script that asks a query is a second
 case by three workers, with the same of everything that is wanted.
+
+A page of docs/ is a case too, where it has blocks of code that name a file, which lies where the program runs, and blocks of
+kind `console`: each line behind `$ ` is a command of a shell, in which `druid-node` is the program, and the lines below it
+are what it prints.
 """
 import os
+import re
 import shutil
 import subprocess
 import tempfile
@@ -57,6 +62,38 @@ class Case:
         return None
 
 
+class Page:
+    """The commands that a page shows, and what it says that they print."""
+
+    def __init__(self, top, file):
+        self.label = file
+        with open(f"{top}/{file}", encoding="utf-8") as it:
+            text = it.read()
+        self.files, self.commands = {}, []
+        for kind, name, body in re.findall(r"^```(\w+) ?(\S*)\n(.*?)^```$", text, re.M | re.S):
+            if name:
+                self.files[name] = body
+            elif kind == "console":
+                for part in re.split(r"^\$ ", body, flags=re.M)[1:]:
+                    self.commands.append(part.split("\n", 1))
+
+    def fault(self, program):
+        """What a command prints otherwise than the page says, or nothing."""
+        with tempfile.TemporaryDirectory(prefix="page-") as room:
+            os.mkdir(f"{room}/bin")
+            shutil.copy(program, f"{room}/bin/druid-node")
+            os.mkdir(f"{room}/here")
+            for name, text in self.files.items():
+                with open(f"{room}/here/{name}", "w", encoding="utf-8") as it:
+                    it.write(text)
+            how = {"cwd": f"{room}/here", "env": {"PATH": f"{room}/bin:/usr/bin:/bin", "LANG": "C.UTF-8"}, "capture_output": True}
+            for command, wanted in self.commands:
+                ran = subprocess.run(["sh", "-c", command], stdin=subprocess.DEVNULL, timeout=SECONDS, **how)
+                if ran.stdout != wanted.encode() or ran.stderr:
+                    return f"{command[:60]}: {told(ran.stdout + ran.stderr, wanted.encode())}"
+        return None
+
+
 def told(got, want):
     """The first line that differs."""
     if isinstance(got, int):
@@ -76,4 +113,5 @@ def cases_of(top):
             found.append(Case(top, folder, name))
             if found[-1].asks():
                 found.append(Case(top, folder, name, BY_WORKERS))
-    return found
+    pages = sorted(it for it in os.listdir(f"{top}/docs") if it.endswith(".md")) if os.path.isdir(f"{top}/docs") else []
+    return found + [it for it in (Page(top, f"docs/{page}") for page in pages) if it.commands]

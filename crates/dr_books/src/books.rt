@@ -5,11 +5,11 @@ ghost use Rattle.dr_schema.specs.declared.schema_fields.SchemaFields.{SchemaFiel
 use std::alloc::{AllocError, Global};
 
 /// The books of some seats. A contract sees two lists of numbers, with an entry for each seat.
-pub trait Books: Drop {
+pub trait Books: Drop + Send {
     /// What a seat holds of the books: its share of each of its two ledgers.
-    type Share: Drop;
+    type Share: Drop + Send;
     /// Two ledgers for each seat that no type stands for yet.
-    type Blanks: Drop;
+    type Blanks: Drop + Send;
 
     /// The schema of the node that the seats are of.
     ghost schema: { SchemaFields };

@@ -19,7 +19,7 @@ pub struct OneShare<M: NodeLedger, F: Ledger> {
     floor: Share<F>,
 }
 
-impl<M: NodeLedger, F: Ledger> Books for OneSeat<M, F> {
+impl<M: NodeLedger + Send, F: Ledger + Send> Books for OneSeat<M, F> {
     type Share = OneShare<M, F>;
 
     type Blanks = (Blank, Blank);

@@ -1,10 +1,11 @@
 ghost use Rattle.std.specs.Prelude.{◌≡◌, ◌++◌, IfOk, codes};
 ghost use Rattle.dr_base.specs.FaultLine.{fault_line};
-ghost use Rattle.dr_cli.specs.declared.cli_error.CliError.TheVariants.{NoMemory, Dump};
+ghost use Rattle.dr_cli.specs.declared.cli_error.CliError.TheVariants.{NoMemory, Dump, Load};
 ghost use Rattle.dr_cli.specs.Refusal.{arg_of, number_of, name_of};
 
 use dr_base::{Arg, Text, fault_line};
 use dr_dump::DumpError;
+use dr_load::LoadError;
 use std::alloc::{AllocError, AllocFailed, Global};
 use thiserror::Error;
 
@@ -17,6 +18,9 @@ pub enum CliError {
     /// 0, 50 to 58, or 101: a file spells no image.
     #[error(transparent)]
     Dump(DumpError),
+    /// Why files weren't loaded: 0 to 3, 11 to 13, 20 to 27, 60 to 62, 70 to 77, 80, 81, 90, 94, 97 or 99.
+    #[error("not loaded")]
+    Load(LoadError),
     /// 96: the file of that path can't be opened or read.
     #[error("{0} can't be read")]
     FileFault(Text),
@@ -33,6 +37,7 @@ impl CliError {
         match self {
             CliError::NoMemory => 0,
             CliError::Dump(error) => error.number(),
+            CliError::Load(error) => error.number(),
             CliError::FileFault(_) => 96,
             CliError::BadUsage => 103,
         }
@@ -45,22 +50,24 @@ impl CliError {
         match self {
             CliError::NoMemory => "NoMemory",
             CliError::Dump(error) => error.name(),
+            CliError::Load(error) => error.name(),
             CliError::FileFault(_) => "FileFault",
             CliError::BadUsage => "BadUsage",
         }
     }
 
-    /// The path of the file, where the refusal carries one.
+    /// The path of the file, or the name that a load was refused for, where the refusal carries one.
     pub fn arg(self) -> Option<Arg>
         ensures { result ≡ arg_of self }
     {
         match self {
             CliError::FileFault(path) => Some(Arg::Name(path)),
-            _ => None,
+            CliError::Load(error) => error.arg(),
+            CliError::NoMemory | CliError::Dump(_) | CliError::BadUsage => None,
         }
     }
 
-    /// The line of the refusal: `refused NUMBER NAME`, the path as JSON text where there is one, and a newline. The only error
+    /// The line of the refusal: `refused NUMBER NAME`, the path or the name as JSON text where there is one, and a newline. The only error
     /// is that memory ran out.
     pub fn line(self, alloc: Global) -> Result<Vec<u8>, AllocError>
         ensures { IfOk result (λ line. line.items ≡ fault_line (number_of self) (name_of self) (arg_of self) ++ codes "\n") }
@@ -77,6 +84,14 @@ impl From<DumpError> for CliError {
 
     fn from(error: DumpError) -> CliError {
         CliError::Dump(error)
+    }
+}
+
+impl From<LoadError> for CliError {
+    ghost from_gives = { λ e result. result ≡ Load e };
+
+    fn from(error: LoadError) -> CliError {
+        CliError::Load(error)
     }
 }
 

@@ -1,21 +1,20 @@
 -- What an act leaves as it was.
-use Rattle.std.proofs.Common.{◌≡◌, ◌∙◌, sym, ap, refl, subst, ℕ, ℤ, ◌<◌, ◌≤◌, List, All, Bool, true, false, cond, length, nat_le, Result, Ok, Err, inl, inr}
-use Rattle.std.specs.Prelude.{nat_eq, ◌⊎◌, Option, Some, None}
+use Rattle.std.proofs.Common.{◌≡◌, ◌∙◌, sym, ap, refl, subst, ℕ, ℤ, ◌<◌, ◌≤◌, List, All, true, false, cond, length, nat_le, Result, Ok, Err, inl, inr}
+use Rattle.std.specs.Prelude.{nat_eq, Option, Some, None}
 use Rattle.std.specs.List.{AllByRecursion}
 use Rattle.dr_schema.specs.declared.schema_fields.SchemaFields.{SchemaFields}
 use Rattle.dr_schema.specs.declared.schema.Schema.{Schema}
 use Rattle.dr_base.specs.declared.event.Event.{Event}
-use Rattle.dr_ask.specs.Asked.{Asked}
 use Rattle.dr_ask.specs.MadeFor.{MadeFor}
 use Rattle.dr_merge.specs.declared.job.Job.{Job}
 use Rattle.dr_cuts.specs.Laws.{AnswersOverCuts}
 use Rattle.dr_cuts.specs.RawAnswer.{raw_answer}
 use Rattle.dr_cuts.specs.State.{State, AreCuts}
 use Rattle.dr_timeline.specs.declared.timeline_error.TimelineError.{TimelineError}
-use Rattle.dr_timeline.specs.declared.timeline_error.TimelineError.TheVariants.{NothingToSeal, Stale, CommitsFull}
+use Rattle.dr_timeline.specs.declared.timeline_error.TimelineError.TheVariants.{NothingToSeal, CommitsFull}
 use Rattle.dr_timeline.specs.Order.{HaveFewRows}
 use Rattle.dr_timeline.specs.Standing.{place_of}
-use Rattle.dr_timeline.specs.Stepping.{seal, commit, commit_at}
+use Rattle.dr_timeline.specs.Stepping.{seal, commit_at}
 use Rattle.dr_timeline.specs.Steps.{HasVersions, sealed_at, committed, open_in, joined_range}
 use Rattle.dr_node.specs.Acting.{IsAtMostOneStep, AnswerAlike}
 use Rattle.dr_node.specs.Kept.{Held, IsKept, SerialsDiffer}

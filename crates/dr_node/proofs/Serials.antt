@@ -1,6 +1,6 @@
 -- Serials of sealed ranges differ, step by step.
-use Rattle.std.proofs.Common.{◌≡◌, ◌∙◌, sym, ap, refl, subst, ℕ, ℤ, ◌+◌, ◌<◌, ◌≤◌, Bool, true, false, cond, List, [], ◌∷◌, ◌++◌, length, take, drop, nat_le, Result, Ok, Err, arith}
-use Rattle.std.specs.Prelude.{nat_eq, Option, Some, None}
+use Rattle.std.proofs.Common.{◌≡◌, ◌∙◌, sym, ap, refl, subst, ℕ, ℤ, ◌+◌, ◌≤◌, Bool, true, false, cond, List, [], ◌∷◌, ◌++◌, length, take, drop, nat_le, arith}
+use Rattle.std.specs.Prelude.{nat_eq}
 use Rattle.std.specs.List.{count_by}
 use Rattle.std.specs.declared.cmp.Ordering.TheVariants.{Less, Equal, Greater}
 use Rattle.std.specs.Ordering.{int_cmp, match_ordering}
@@ -13,7 +13,7 @@ use Rattle.dr_rollup.specs.Unrolled.{rolled_up}
 use Rattle.dr_cuts.specs.AtKey.{at_key}
 use Rattle.dr_cuts.specs.Chunks.{chunk, chunk_list}
 use Rattle.dr_cuts.specs.State.{State, Range, Cut, at_chunk, open_cut, open_from}
-use Rattle.dr_timeline.specs.Steps.{accepted, with_event, sealed_at, sealed_if_full, with_seal, joined_range, committed, open_in}
+use Rattle.dr_timeline.specs.Steps.{accepted, with_event, sealed_at, with_seal, joined_range, committed, open_in}
 use Rattle.dr_node.specs.Kept.{SerialsDiffer, with_serial}
 
 -- how many of some ranges have a serial

@@ -12,15 +12,16 @@ use crate::policy::Policy;
 use crate::seat::Seat;
 use crate::stop::Stop;
 use dr_books::Books;
-use dr_timeline::{TimelineError, work};
+use dr_timeline::{RangeInfo, TimelineError, work};
+use std::alloc::AllocError;
 use std::sync::Wait;
 use std::thread;
 
 impl<B: Books> Node<B> {
-    /// Merges in turns until it is stopped, and tells what it did: it pins, asks the policy, plans the job that the policy
-    /// names, tells it so, joins the fragments of the job and commits it. Where the policy names none, the turn ends. A job
-    /// whose ranges aren't there, when it is planned or when it is committed, is counted as stale. Refusals: each other one of
-    /// planning, joining and committing ends it.
+    /// Merges in turns until it is stopped, and tells what it did: it pins, asks the policy over the ranges of the snapshot, which
+    /// it has let go, plans the job that the policy names, tells it so, joins the fragments of the job and commits it. Where the
+    /// policy names none, the turn ends. A job whose ranges aren't there, when it is planned or when it is committed, is counted
+    /// as stale. Refusals: each other one of planning, joining and committing ends it.
     ///
     /// It holds the lock three times a turn, for as long as a pin, a plan and a commit take; the policy is asked and fragments
     /// are joined outside of it. It waits for the lock, and ends once it is stopped.
@@ -43,12 +44,11 @@ impl<B: Books> Node<B> {
             if stop.is_stopped() {
                 return Ok(report);
             }
-            let snapshot = self.pin(rt, seat)?;
-            let Some((chunk, lo, hi, purpose)) = policy.next(snapshot.ranges()) else {
+            let ranges = self.ranges_now(rt, seat)?;
+            let Some((chunk, lo, hi, purpose)) = policy.next(ranges.as_slice()) else {
                 thread::yield_now();
                 continue;
             };
-            drop(snapshot);
             let plan = PlanAct {
                 chunk,
                 lo,
@@ -64,6 +64,16 @@ impl<B: Books> Node<B> {
             }
         }
         unreachable!()
+    }
+
+    // The ranges of a snapshot, which is let go at once: a policy that takes its time keeps no share of the open ranges, which
+    // the next event would have to copy.
+    fn ranges_now<R: Wait>(&self, rt: &R, seat: &mut Seat<B>) -> Result<Vec<RangeInfo>, AllocError>
+        ensures floor { seat.old.floor ≤ seat.new.floor }
+        ensures same { (seat.new.number ≡ seat.old.number) × (seat.new.mine ≡ seat.old.mine) × (seat.new.own ≡ seat.old.own) }
+    {
+        let snapshot = self.pin(rt, seat)?;
+        snapshot.ranges().to_vec(self.alloc)
     }
 
     // Plans a job, joins its fragments and commits it.

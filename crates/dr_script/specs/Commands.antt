@@ -17,6 +17,7 @@ use Rattle.dr_ask.specs.declared.query_error.QueryError.TheVariants.{Unsupported
 use Rattle.dr_ask.specs.QueryOf.{query_of}
 use Rattle.dr_ask.specs.Refusal as query
 use Rattle.dr_schema.specs.declared.schema.Schema.{Schema}
+use Rattle.dr_counts.specs.CountsLine.{counts_line}
 use Rattle.dr_timeline.specs.declared.outcome.Outcome.TheVariants.{Unparseable as NotParsed}
 use Rattle.dr_timeline.specs.declared.stats.Stats.{Stats}
 use Rattle.dr_timeline.specs.Noted.{stats}
@@ -201,10 +202,6 @@ audit_now text c = do
   Ok (answered a, c)
 
 -- `stats`: what became of the events
-abbrev pub counts_line : ℕ → ℕ → ℕ → List ℕ
-counts_line processed unparseable thrown_away =
-    ((codes "processed " ++ decimal processed) ++ (codes " unparseable " ++ decimal unparseable)) ++ (codes " thrownAway " ++ decimal thrown_away)
-
 abbrev pub stats_line : Stats → List ℕ
 stats_line n = counts_line n.processed n.unparseable n.thrown_away
 

@@ -1,9 +1,10 @@
-ghost use Rattle.std.specs.Prelude.{◌≡◌, ◌++◌, decimal, IfOk, OnOk, option_map, string_bytes};
+ghost use Rattle.std.specs.Prelude.{◌≡◌, ◌++◌, IfOk, OnOk, option_map, string_bytes};
 ghost use Rattle.dr_base.specs.FaultLine.{arg_part};
 ghost use Rattle.dr_base.specs.declared.fault.Arg.TheVariants.{Index};
 ghost use Rattle.dr_events.specs.Refusal.{arg_of};
-ghost use Rattle.dr_script.specs.Commands.{counts_line, stats_line, unparseable, unparseable_line};
+ghost use Rattle.dr_script.specs.Commands.{stats_line, unparseable, unparseable_line};
 
+use dr_counts::counts_line;
 use dr_events::Unparseable;
 use dr_timeline::Stats;
 use std::alloc::{AllocError, Global};
@@ -43,28 +44,5 @@ fn push_place(alloc: Global, line: &mut String, place: Option<usize>) -> Result<
 pub fn stats_line(alloc: Global, stats: Stats) -> Result<Vec<u8>, AllocError>
     ensures { IfOk result (λ line. line.items ≡ stats_line stats) }
 {
-    let line = counts(alloc, stats.processed, stats.unparseable, stats.thrown_away)?;
-    Ok(line.into_bytes())
-}
-
-fn counts(
-    alloc: Global,
-    processed: u64,
-    unparseable: u64,
-    thrown_away: u64,
-) -> Result<String, AllocError>
-    ensures { IfOk result (λ line. string_bytes line ≡ counts_line processed unparseable thrown_away) }
-{
-    let mut line = String::new(alloc);
-    push_count(alloc, &mut line, "processed ", processed)?;
-    push_count(alloc, &mut line, " unparseable ", unparseable)?;
-    push_count(alloc, &mut line, " thrownAway ", thrown_away)?;
-    Ok(line)
-}
-
-fn push_count(alloc: Global, line: &mut String, word: &str, number: u64) -> Result<(), AllocError>
-    ensures { OnOk result (string_bytes line.new ≡ string_bytes line.old ++ (word.now ++ decimal number)) }
-{
-    line.push_str(word)?;
-    line.push_str(number.to_string(alloc)?.as_str())
+    counts_line(alloc, stats.processed, stats.unparseable, stats.thrown_away)
 }

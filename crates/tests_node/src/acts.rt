@@ -83,7 +83,7 @@ fn answer_of<B: Books>(alloc: Global, node: &Node<B>, snapshot: &Snapshot) -> Op
 }
 
 /// What the snapshots answer.
-fn answers<A: NodeLedger, B: Ledger, R: Wait>(
+fn answers<A: NodeLedger + Send, B: Ledger + Send, R: Wait>(
     rt: &R,
     alloc: Global,
     spec: IngestSpec,

@@ -1,6 +1,6 @@
 use crate::events::DAY;
 use dr_node::{Policy, Stop};
-use dr_timeline::{Purpose, RangeInfo};
+use dr_timeline::{Gate, Purpose, RangeInfo};
 use std::sync::atomic::{AtomicBool, Ordering};
 use std::thread;
 
@@ -66,5 +66,34 @@ impl Policy for Once {
         if !self.while_asked {
             self.hold();
         }
+    }
+}
+
+/// A gate that holds an answer until another thread has answered.
+#[derive(Drop)]
+pub struct Held {
+    /// Whether it was entered.
+    pub entered: AtomicBool,
+    /// Whether the other thread has answered.
+    pub answered: AtomicBool,
+    /// Whether it was held for all turns, and the other thread hadn't answered.
+    pub late: AtomicBool,
+}
+
+impl Held {
+    pub fn new() -> Held {
+        Held {
+            entered: AtomicBool::new(false),
+            answered: AtomicBool::new(false),
+            late: AtomicBool::new(false),
+        }
+    }
+}
+
+impl Gate for Held {
+    fn enter(&self, _fragment: usize) {
+        self.entered.store(true, Ordering::SeqCst);
+        let late = !wait_for(&self.answered);
+        self.late.store(late, Ordering::SeqCst);
     }
 }

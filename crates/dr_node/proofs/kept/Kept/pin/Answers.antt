@@ -55,3 +55,14 @@ invariant_of-self-2 g c =
     let most : f1 + (c.event_count-count.result - c.args.floor) ≤ length t.stream = omega arith in
     let k2 = kept-seen g.B.Books.schema g.B.Books.seats (record { timeline = t; mine = g.B.Books.mine c.add.new.self; floor = g.B.Books.floor c.add.new.self }) q (g.B.Books.own_mine c.add.new.share) f1 (c.event_count-count.result - c.args.floor) k1 c.add-2.ensures.mine_was c.add-2.ensures.floor_was most in
     rw (c.in_ok-snapshot.ensures.same, c.add-2.ensures.mine, c.add-2.ensures.floor) k2
+
+pub invariant_of-self : goal.invariant_of-self
+invariant_of-self g c =
+    let t = c.self.inside.timeline in
+    let books = c.self.inside.books in
+    let p = g.B.Books.place c.args.share.now in
+    let f = g.B.Books.own_floor c.args.share.now in
+    let l = c.self.invariant.floor p f c.add.ensures.floor_was in
+    let h : Held = record { timeline = t; mine = g.B.Books.mine books; floor = g.B.Books.floor books } in
+    let k0 = kept-seen g.B.Books.schema g.B.Books.seats h p (g.B.Books.own_mine c.args.share.now) f 0 c.self.invariant c.add.ensures.mine_was c.add.ensures.floor_was (omega arith) in
+    rw (c.in_err-snapshot.ensures.same, c.add.ensures.mine, c.add.ensures.floor) k0

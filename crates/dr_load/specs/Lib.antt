@@ -1,0 +1,5 @@
+pub mod Policy
+pub mod Refusal
+pub mod Load
+pub mod Totals
+pub mod Shown

@@ -1,0 +1,24 @@
+//! Files of events that threads ingest into one node while a merger publishes and queries are answered: one ingester per file, a
+//! merger and a query thread share the node, and the answer over all events comes after they have ended.
+#![tactic(auto)]
+
+mod answering;
+mod asking;
+mod eight;
+mod ingested;
+mod ingesting;
+mod load;
+mod load_error;
+mod loading;
+mod node_load;
+mod order;
+mod progress;
+mod publish_all;
+mod totals;
+mod waiting;
+mod watch;
+
+pub use load::{load_run, load_watched};
+pub use load_error::LoadError;
+pub use progress::Progress;
+pub use watch::{NoWatch, Watch};

@@ -1,0 +1,134 @@
+ghost use Rattle.std.specs.Prelude.{◌≡◌};
+ghost use Rattle.dr_load.specs.declared.load_error.LoadError.TheVariants as error;
+ghost use Rattle.dr_timeline.specs.declared.ask_error.AskError.TheVariants as ask_error;
+ghost use Rattle.dr_load.specs.Refusal.{number_of, name_of, arg_of};
+
+use dr_answers::AnswerError;
+use dr_ask::QueryError;
+use dr_base::Arg;
+use dr_node::NodeError;
+use dr_spec::SpecError;
+use dr_timeline::AskError;
+use std::alloc::{AllocError, AllocFailed};
+
+/// Why files weren't loaded.
+#[derive(Debug, Drop)]
+pub enum LoadError {
+    /// 0: memory ran out.
+    NoMemory,
+    /// A refusal of the spec: 0 to 3, or 20 to 27.
+    Spec(SpecError),
+    /// A refusal of the query: 0 to 3, 11 to 13, 22, 60 to 62, or 70 to 77.
+    Query(QueryError),
+    /// 97: the query doesn't match, a scan among them.
+    NotMatching,
+    /// 80: the system started no thread for a file.
+    WorkerNotStarted,
+    /// 99: a read of a file failed, or 2^32 reads were made.
+    ReadFault,
+    /// A refusal of the node: 0, 90, or 94.
+    Node(NodeError),
+    /// A refusal of the last answer: 0, 80 where the system started no thread for a worker, or 81.
+    Answer(AskError),
+}
+
+impl LoadError {
+    /// The number of the refusal.
+    pub fn number(&self) -> u16
+        ensures { result ≡ number_of self.now }
+    {
+        match self {
+            LoadError::NoMemory => 0,
+            LoadError::Spec(error) => error.number(),
+            LoadError::Query(error) => error.number(),
+            LoadError::NotMatching => 97,
+            LoadError::WorkerNotStarted => 80,
+            LoadError::ReadFault => 99,
+            LoadError::Node(error) => error.number(),
+            LoadError::Answer(error) => error.number(),
+        }
+    }
+
+    /// The name of the refusal, as `NotMatching`.
+    pub fn name(&self) -> &'static str
+        ensures { result.now ≡ name_of self.now }
+    {
+        match self {
+            LoadError::NoMemory => "NoMemory",
+            LoadError::Spec(error) => error.name(),
+            LoadError::Query(error) => error.name(),
+            LoadError::NotMatching => "NotMatching",
+            LoadError::WorkerNotStarted => "WorkerNotStarted",
+            LoadError::ReadFault => "ReadFault",
+            LoadError::Node(error) => error.name(),
+            LoadError::Answer(error) => error.name(),
+        }
+    }
+
+    /// What was refused, where the refusal carries it.
+    pub fn arg(self) -> Option<Arg>
+        ensures { result ≡ arg_of self }
+    {
+        match self {
+            LoadError::Spec(error) => error.arg(),
+            LoadError::Query(error) => error.arg(),
+            _ => None,
+        }
+    }
+}
+
+impl From<SpecError> for LoadError {
+    ghost from_gives = { λ e result. result ≡ error.Spec e };
+
+    fn from(error: SpecError) -> LoadError {
+        LoadError::Spec(error)
+    }
+}
+
+impl From<QueryError> for LoadError {
+    ghost from_gives = { λ e result. result ≡ error.Query e };
+
+    fn from(error: QueryError) -> LoadError {
+        LoadError::Query(error)
+    }
+}
+
+impl From<NodeError> for LoadError {
+    ghost from_gives = { λ e result. result ≡ error.Node e };
+
+    fn from(error: NodeError) -> LoadError {
+        LoadError::Node(error)
+    }
+}
+
+impl From<AskError> for LoadError {
+    ghost from_gives = { λ e result. result ≡ error.Answer e };
+
+    fn from(error: AskError) -> LoadError {
+        LoadError::Answer(error)
+    }
+}
+
+impl From<AnswerError> for LoadError {
+    ghost from_gives = { λ e result. result ≡ error.Answer (ask_error.Answer e) };
+
+    fn from(error: AnswerError) -> LoadError {
+        LoadError::Answer(AskError::Answer(error))
+    }
+}
+
+impl From<AllocError> for LoadError {
+    ghost from_gives = { λ _ e. e ≡ error.NoMemory };
+
+    fn from(_error: AllocError) -> LoadError {
+        LoadError::NoMemory
+    }
+}
+
+impl<T: Drop> From<AllocFailed<T>> for LoadError {
+    ghost from_gives = { λ _ e. e ≡ error.NoMemory };
+
+    fn from(_error: AllocFailed<T>) -> LoadError {
+        LoadError::NoMemory
+    }
+}

@@ -1,0 +1,11 @@
+use dr_ask::Query;
+use dr_spec::IngestSpec;
+
+/// What is loaded, and what is asked of it.
+#[derive(Drop)]
+pub(crate) struct Order<R> {
+    pub(crate) spec: IngestSpec,
+    pub(crate) query: Query,
+    pub(crate) files: Vec<R>,
+    pub(crate) workers: u8,
+}
