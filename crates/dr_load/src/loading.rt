@@ -22,7 +22,6 @@ use std::time::Clock;
 
 /// Ingests each file in a thread of its own, through a seat of its own, while a merger and a query thread share the node, and
 /// tells what became of each file, in their order. The last two seats are those of the merger and of the query thread.
-#[tactic(auto, using(crate::proofs::Crossing::query_sync))]
 pub(crate) fn ingest_all<
     B: Books,
     R: Read + Send + Drop,
