@@ -1,5 +1,5 @@
 -- Lists of truths that are narrowed.
-use Rattle.std.proofs.Common.{inl, inr, ◌≡◌, ◌∙◌, sym, refl, ap, subst, ℕ, ◌+◌, ◌<◌, ◌≤◌, ◌&&◌, Bool, false, List, length, get_or, set, arith}
+use Rattle.std.proofs.Common.{inl, inr, ◌≡◌, ◌∙◌, sym, refl, ap, subst, ℕ, ◌+◌, ◌<◌, ◌≤◌, ◌&&◌, ◌||◌, not, Bool, true, false, List, length, get_or, set, arith}
 use Rattle.std.proofs.lemmas.List.{length-set, get_or-set_same, get_or-set_other}
 use Rattle.std.proofs.lemmas.Bool.{cases_lt}
 use Rattle.dr_columns.specs.Rows.{Narrows}
@@ -40,3 +40,7 @@ pub record ToNarrow (whole left : ℕ → Bool) (before after : List Bool) : Typ
 
 pub same-test : (f g : ℕ → Bool) (before after : List Bool) → ((i : ℕ) → i < length before → f i ≡ g i) → Narrows f before after → Narrows g before after
 same-test f g before after same h = record { count = h.count; each = λ i lt. h.each i lt ∙ ap (λ b. get_or before i false && b) (same i lt) }
+
+pub neither : (a b : Bool) → (not a && not b) ≡ not (a || b)
+neither true b = refl
+neither false b = refl

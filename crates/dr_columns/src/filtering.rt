@@ -1,20 +1,22 @@
 ghost use Rattle.std.specs.Prelude.{◌≡◌, ◌<◌, ◌&&◌, ℕ, false, true, not, length, map, get_or, OnOk, IfOk};
 ghost use Rattle.dr_time.specs.Union.{union_holds};
-ghost use Rattle.dr_filter.specs.Condition.{condition_in, conditions_in, every_matches, some_matches, matches};
+ghost use Rattle.dr_filter.specs.Condition.{condition_in, conditions_in, conditions_of, members_of, every_matches, some_matches, matches};
+ghost use Rattle.dr_filter.specs.LookUps.{some_holds};
 ghost use Rattle.dr_filter.specs.Match.{holds_of, passes};
 ghost use Rattle.dr_image.specs.Checked.{column_at};
 ghost use Rattle.dr_columns.specs.Rows.{Narrows, key_at, meets};
 
 use crate::cells::{known_place, value_at};
 use crate::telling::{all_true, drop_where, keep_true};
-use dr_filter::{DimensionTest, Filter, ValueTest};
+use dr_filter::{DimensionTest, Filter, Selectors, ValueTest};
 use dr_image::SegmentView;
 use dr_time::Union;
 use std::alloc::{AllocError, Global};
 
 /// Makes false what is told of the rows of an image that a filter doesn't keep. A test of a dimension is asked once for each value
 /// of the dimension's dictionary, and the time of a row once for each run of equal times. The only error is that memory ran out.
-/// It takes time by the tests of the filter, each by the rows and as [`ValueTest::passes`] by the values.
+/// It takes time by the tests of the filter, each by the rows and as [`ValueTest::passes`] by the values; the selectors among the
+/// members of one `or` count as one test for each dimension that they name.
 #[cycle(narrowing)]
 pub fn narrow(
     alloc: Global,
@@ -32,8 +34,8 @@ pub fn narrow(
             Ok(())
         }
         Filter::And(filters) => narrow_every(alloc, view, filters.as_slice(), told),
-        Filter::Or(filters) => {
-            let none = meet_none(alloc, view, filters.as_slice())?;
+        Filter::Or(selectors, filters) => {
+            let none = meet_none(alloc, view, selectors, filters.as_slice())?;
             drop_where(told, none.as_slice());
             Ok(())
         }
@@ -63,20 +65,40 @@ fn narrow_every(
     Ok(())
 }
 
-// Of each row, whether it meets none of some filters.
+// Of each row, whether none of some selectors holds of it and it meets none of some filters, which together are the members of
+// an `or`.
 #[cycle(narrowing)]
 fn meet_none(
     alloc: Global,
     view: &SegmentView<'_>,
+    selectors: &Selectors,
     filters: &[Filter],
 ) -> Result<Vec<bool>, AllocError>
     ensures count { IfOk result (λ none. length none.items ≡ length view.now.times) }
-    ensures each { IfOk result (λ none. (i : ℕ) → i < length view.now.times → get_or none.items i false ≡ not (some_matches (key_at view.now i).time (key_at view.now i).dims (conditions_in filters.now))) }
+    ensures each { IfOk result (λ none. (i : ℕ) → i < length view.now.times → get_or none.items i false ≡ not (some_matches (key_at view.now i).time (key_at view.now i).dims (conditions_of (members_of selectors.now (map condition_in filters.now))))) }
 {
-    let mut none = all_true(alloc, view)?;
+    let mut none = pass_none(alloc, view, selectors.look_ups())?;
     for filter in filters {
         let mut met = all_true(alloc, view)?;
         narrow(alloc, view, filter, met.as_mut_slice())?;
+        drop_where(none.as_mut_slice(), met.as_slice());
+    }
+    Ok(none)
+}
+
+// Of each row, whether it passes none of some tests.
+fn pass_none(
+    alloc: Global,
+    view: &SegmentView<'_>,
+    tests: &[DimensionTest],
+) -> Result<Vec<bool>, AllocError>
+    ensures count { IfOk result (λ none. length none.items ≡ length view.now.times) }
+    ensures each { IfOk result (λ none. (i : ℕ) → i < length view.now.times → get_or none.items i false ≡ not (some_holds (key_at view.now i).dims tests.now)) }
+{
+    let mut none = all_true(alloc, view)?;
+    for test in tests {
+        let mut met = all_true(alloc, view)?;
+        keep_passing(alloc, view, test, met.as_mut_slice())?;
         drop_where(none.as_mut_slice(), met.as_slice());
     }
     Ok(none)

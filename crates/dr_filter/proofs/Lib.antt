@@ -2,3 +2,4 @@ pub mod NoBytes
 pub mod Patterns
 pub mod DistinctValues
 pub mod Levels
+pub mod LookedUp

@@ -2,6 +2,7 @@ pub mod Refusal
 pub mod Like
 pub mod Attempt
 pub mod Match
+pub mod LookUps
 pub mod Condition
 pub mod Values
 pub mod Fields

@@ -1,7 +1,8 @@
-ghost use Rattle.std.specs.Prelude.{◌≡◌};
-ghost use Rattle.dr_filter.specs.Condition.{condition_in, conditions_in, matches as matches_of, every_matches as every_matches_of, some_matches as some_matches_of};
+ghost use Rattle.std.specs.Prelude.{◌≡◌, map};
+ghost use Rattle.dr_filter.specs.Condition.{condition_in, conditions_in, conditions_of, members_of, matches as matches_of, every_matches as every_matches_of, some_matches as some_matches_of};
 
 use crate::dimension_test::DimensionTest;
+use crate::selectors::Selectors;
 use dr_base::Text;
 use dr_time::Union;
 
@@ -15,8 +16,9 @@ pub enum Filter {
     Interval(Union),
     /// `and`: all of these hold, as they do where there are none.
     And(Vec<Filter>),
-    /// `or`: one of these holds, as none does where there are none.
-    Or(Vec<Filter>),
+    /// `or`: one of these holds, as none does where there are none. The selectors among its members are looked up together,
+    /// and the others stand apart.
+    Or(Selectors, Vec<Filter>),
     /// `not`: this doesn't hold.
     Not(Box<Filter>),
 }
@@ -24,7 +26,8 @@ pub enum Filter {
 impl Filter {
     /// Whether a row of this time, in milliseconds since the epoch, and these dimension values, in the order of the schema,
     /// meets the filter. It takes no memory, and time by the tests of the filter, each as
-    /// [`ValueTest::passes`](crate::ValueTest::passes), and by its intervals.
+    /// [`ValueTest::passes`](crate::ValueTest::passes), and by its intervals. The selectors among the members of one `or` count
+    /// as one test for each dimension that they name.
     #[cycle(matching)]
     pub fn matches(&self, time: i64, dims: &[Text]) -> bool
         ensures { result ≡ matches_of time dims.now (condition_in self.now) }
@@ -33,7 +36,12 @@ impl Filter {
             Filter::Dimension(test) => test.holds_of(dims),
             Filter::Interval(union) => union.contains(time),
             Filter::And(filters) => every_matches(filters.as_slice(), time, dims),
-            Filter::Or(filters) => some_matches(filters.as_slice(), time, dims),
+            Filter::Or(selectors, filters) => some_matches(
+                selectors,
+                filters.as_slice(),
+                time,
+                dims,
+            ),
             Filter::Not(filter) => !filter.matches(time, dims),
         }
     }
@@ -51,10 +59,14 @@ fn every_matches(filters: &[Filter], time: i64, dims: &[Text]) -> bool
     true
 }
 
+// Whether one of the selectors holds, or one of the members that stand apart matches.
 #[cycle(matching)]
-fn some_matches(filters: &[Filter], time: i64, dims: &[Text]) -> bool
-    ensures { result ≡ some_matches_of time dims.now (conditions_in filters.now) }
+fn some_matches(selectors: &Selectors, filters: &[Filter], time: i64, dims: &[Text]) -> bool
+    ensures { result ≡ some_matches_of time dims.now (conditions_of (members_of selectors.now (map condition_in filters.now))) }
 {
+    if selectors.hold_of(dims) {
+        return true;
+    }
     for filter in filters {
         if filter.matches(time, dims) {
             return true;

@@ -2,6 +2,7 @@
 //! A filter looks at the time and the dimension values of a row, and a test of one dimension can be asked of its value alone.
 #![tactic(auto)]
 
+mod arranging;
 mod bounds;
 mod dimension_test;
 mod fields;
@@ -10,6 +11,8 @@ mod filter_error;
 mod letters;
 mod like;
 mod reading;
+mod selector;
+mod selectors;
 mod test_reading;
 mod value_test;
 mod values;
@@ -18,4 +21,6 @@ pub use bounds::Bounds;
 pub use dimension_test::DimensionTest;
 pub use filter::Filter;
 pub use filter_error::FilterError;
+pub use selector::Selector;
+pub use selectors::Selectors;
 pub use value_test::ValueTest;

@@ -5,6 +5,7 @@ ghost use Rattle.dr_filter.specs.Condition.{condition_in};
 ghost use Rattle.dr_filter.specs.FilterOf.{only_time, interval_filter_of, simple_by, too_deep_of, fields_of, field_of, level_of, filter_at, filter_of};
 ghost use Rattle.dr_filter.specs.Refusal.{Gives};
 
+use crate::arranging::one_of;
 use crate::fields::no_unlisted;
 use crate::filter::Filter;
 use crate::filter_error::FilterError;
@@ -86,7 +87,8 @@ fn level(
     if kind == "and" {
         Ok(Filter::And(fields(alloc, value, members, schema, inside)?))
     } else if kind == "or" {
-        Ok(Filter::Or(fields(alloc, value, members, schema, inside)?))
+        let filters = fields(alloc, value, members, schema, inside)?;
+        Ok(one_of(alloc, filters)?)
     } else if kind == "not" {
         let filter = inner(alloc, value, members, schema, inside)?;
         Ok(Filter::Not(Box::new(alloc, filter)?))

@@ -1,10 +1,11 @@
-ghost use Rattle.std.specs.Prelude.{◌≡◌};
+ghost use Rattle.std.specs.Prelude.{◌≡◌, ◌||◌, ℕ, List, true, false, IfOk, bytes_eq};
 ghost use Rattle.dr_filter.specs.Match.{passes as passes_of};
 
 use crate::bounds::Bounds;
 use crate::like::fits;
 use dr_base::Text;
 use dr_dict::TextSet;
+use std::alloc::AllocError;
 
 /// What is asked of the value of a dimension (Apache Druid documentation, query filters).
 #[derive(Drop)]
@@ -30,6 +31,20 @@ impl ValueTest {
             ValueTest::Among(texts) => texts.contains(value),
             ValueTest::Within(bounds) => bounds.hold(value),
             ValueTest::Like(pattern) => fits(pattern.as_str(), value),
+        }
+    }
+
+    // Adds a text to those of an `in`, and tells whether it is one.
+    pub(crate) fn add(&mut self, text: &Text) -> Result<bool, AllocError>
+        ensures added { IfOk result (λ added. added ≡ true → (value : List ℕ) → passes_of self.new value ≡ (passes_of self.old value || bytes_eq value text.now)) }
+        ensures same { IfOk result (λ added. added ≡ false → self.new ≡ self.old) }
+    {
+        match self {
+            ValueTest::Among(texts) => {
+                texts.add(text)?;
+                Ok(true)
+            }
+            _ => Ok(false),
         }
     }
 }

@@ -1,2 +1,3 @@
 pub mod ResultOrder
+pub mod AnyOrder
 pub mod Printing

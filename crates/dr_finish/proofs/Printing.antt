@@ -1,5 +1,5 @@
 -- The times of the groups that a query gives can be printed.
-use Rattle.std.proofs.Common.{◌≡◌, refl, sym, ℤ, List, [], ◌∷◌, map, drop, filter, reverse, length, Bool, true, false, Option, Some, None, Ok, Err, inl, arith, subst, suc}
+use Rattle.std.proofs.Common.{◌≡◌, refl, ℤ, List, [], ◌∷◌, map, drop, filter, reverse, length, Bool, true, false, Option, Some, None, Ok, Err, inl, arith, subst, suc}
 use Rattle.std.specs.Prelude.{ℕ, IfSome, nat_lt, if◌then◌else◌}
 use Rattle.std.specs.Int.{int_min}
 use Rattle.std.specs.List.{fold, All, AllByRecursion}
@@ -25,7 +25,7 @@ use Rattle.dr_answers.specs.declared.answer_error.AnswerError.TheVariants.{Resul
 use Rattle.dr_answers.specs.Groups.{filled_in, max_groups}
 use Rattle.dr_answers.specs.Given.{given_by, limited, in_order, is_kept, result_cmp}
 use Rattle.dr_partial.specs.Partial.{result_row, filled_row, groups_by, groups_from}
-use Rattle.dr_finish.specs.Finished.{few_of}
+use Rattle.dr_finish.specs.Finished.{finished}
 use Rattle.dr_answers.proofs.StableOrder.{all-in_order}
 use Rattle.dr_finish.proofs.ResultOrder.{result_total}
 
@@ -111,14 +111,14 @@ all-given_by P (group_by g) gs all =
     (All-from_recursion P ordered (all-in_order (result_cmp g.limit_spec.columns) (result_total g.limit_spec.columns) P kept (recursion_from_All P kept (All-filter (is_kept g.having) P gs all)))))
 all-given_by P (scan s) gs all = All-from_recursion P [] tt
 
-few-is : (few : Bool) (xs ys : List ResultRow) → (if few then Err ResultTooLarge else Ok xs) ≡ Ok ys → xs ≡ ys
-few-is true xs ys e = cc
-few-is false xs ys e = cc
+given-is : (few : Bool) (xs ys : List ResultRow) → (if few then Err ResultTooLarge else Ok xs) ≡ Ok ys → xs ≡ ys
+given-is true xs ys e = cc
+given-is false xs ys e = cc
 
--- the groups that a query gives, of few enough groups
-pub printable-given : (q : Asked) (span : Option (ℤ × ℤ)) (partial : List Row) (groups given : List ResultRow) → IfSome span (λ s. IsInstant s.0 × IsInstant s.1) → All StartsPrintable q.intervals
-    → AllByRecursion (λ g. IsPrintable g.key.time) partial → few_of (groups_from q span partial) ≡ Ok groups → given ≡ given_by q.shape groups → AllByRecursion (λ g. IsPrintable g.time) given
-printable-given q span partial groups given instants starts rows few is =
-    let all = printable-groups_by q.shape q span partial instants starts rows in
-    let same : groups_from q span partial ≡ groups = few-is (nat_lt max_groups (length (groups_from q span partial))) (groups_from q span partial) groups few in
-    recursion_from_All HasTime given (subst (All HasTime) (sym is) (all-given_by HasTime q.shape groups (subst (All HasTime) same all)))
+-- the groups that a query gives
+pub printable-given : (q : Asked) (span : Option (ℤ × ℤ)) (partial : List Row) (given : List ResultRow) → IfSome span (λ s. IsInstant s.0 × IsInstant s.1) → All StartsPrintable q.intervals
+    → AllByRecursion (λ g. IsPrintable g.key.time) partial → finished q span partial ≡ Ok given → AllByRecursion (λ g. IsPrintable g.time) given
+printable-given q span partial given instants starts rows is =
+    let groups = groups_from q span partial in
+    let same : given_by q.shape groups ≡ given = given-is (nat_lt max_groups (length groups)) (given_by q.shape groups) given is in
+    recursion_from_All HasTime given (subst (All HasTime) same (all-given_by HasTime q.shape groups (printable-groups_by q.shape q span partial instants starts rows)))

@@ -1,16 +1,14 @@
 ghost use Rattle.std.specs.Prelude.{◌≡◌, IfOk, IfSome};
 ghost use Rattle.std.specs.List.{All, AllByRecursion};
 ghost use Rattle.dr_answers.specs.AnswerRefusal.{Answers};
-ghost use Rattle.dr_ask.specs.Asked.{asked, asked_shape};
-ghost use Rattle.dr_finish.specs.Finished.{finished, few_of, fills_buckets};
+ghost use Rattle.dr_ask.specs.Asked.{asked};
+ghost use Rattle.dr_finish.specs.Finished.{finished};
 ghost use Rattle.dr_intervals.specs.Printable.{StartsPrintable};
-ghost use Rattle.dr_partial.specs.Partial.{groups_from};
 ghost use Rattle.dr_time.specs.Instant.{IsInstant};
 ghost use Rattle.dr_time.specs.Printed.{IsPrintable};
 
-use crate::filling::filled;
-use crate::giving::given;
-use crate::listing::listed;
+use crate::grouping::given_groups;
+use crate::series::given_buckets;
 use dr_answers::{AnswerError, ResultRow};
 use dr_ask::{Query, Shape};
 use dr_partial::Partial;
@@ -25,8 +23,9 @@ use std::alloc::Global;
 /// answer.
 ///
 /// The values of a group are moved and not copied, but for those of the buckets of a timeseries that doesn't skip empty ones.
-/// A timeseries takes time and memory by its groups or buckets, and for each bucket that is filled what looking it up takes;
-/// a groupBy takes n log n in its groups, with the columns and the bytes of the dimension values for each comparison.
+/// A timeseries takes time and memory by its groups or buckets, and for each bucket that is filled what looking it up takes.
+/// A groupBy takes time by its groups, and n log n in those that its having keeps, which are sorted once, with the columns and
+/// the bytes of the dimension values for each comparison.
 pub fn finish(
     alloc: Global,
     query: &Query,
@@ -39,35 +38,23 @@ pub fn finish(
     ensures value { Answers (λ groups. groups.items) result (finished (asked query.now) span partial) }
     ensures printable { IfOk result (λ groups. AllByRecursion (λ g. IsPrintable g.time) groups.items) }
 {
-    let groups = groups(alloc, query, partial, span)?;
-    Ok(given(&query.shape, groups)?)
+    let given = given(alloc, query, partial, span)?;
+    Ok(given)
 }
 
-/// The groups or buckets of a query; a scan has none.
-fn groups(
+// The groups that a query gives; a scan has none.
+fn given(
     alloc: Global,
     query: &Query,
     partial: Partial,
     span: Option<(i64, i64)>,
 ) -> Result<Vec<ResultRow>, AnswerError>
     requires { IfSome span (λ s. IsInstant s.0 × IsInstant s.1) }
-    ensures { Answers (λ groups. groups.items) result (few_of (groups_from (asked query.now) span partial)) }
+    ensures { Answers (λ given. given.items) result (finished (asked query.now) span partial) }
 {
-    if is_filled(&query.shape) {
-        filled(alloc, query, &partial, span)
-    } else if query.is_scan() {
-        Ok(Vec::new(alloc))
-    } else {
-        listed(alloc, partial)
-    }
-}
-
-/// Whether empty buckets are filled.
-fn is_filled(shape: &Shape) -> bool
-    ensures { result ≡ fills_buckets (asked_shape shape.now) }
-{
-    match shape {
-        Shape::Timeseries(series) => !series.skips_empty_buckets,
-        Shape::GroupBy(_) | Shape::Scan(_) => false,
+    match &query.shape {
+        Shape::Timeseries(series) => given_buckets(alloc, query, *series, partial, span),
+        Shape::GroupBy(by) => given_groups(by, partial),
+        Shape::Scan(_) => Ok(Vec::new(alloc)),
     }
 }

@@ -5,10 +5,11 @@
 mod bound;
 mod filling;
 mod finishing;
-mod giving;
+mod grouping;
 mod keeping;
 mod limiting;
 mod listing;
 mod ordering;
+mod series;
 
 pub use finishing::finish;

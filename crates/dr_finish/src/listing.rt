@@ -30,7 +30,8 @@ fn result_rows(alloc: Global, rows: Vec<Row>) -> Result<Vec<ResultRow>, AllocErr
     Ok(results)
 }
 
-fn result_row(row: Row) -> ResultRow
+/// A row of a partial result as a group.
+pub fn result_row(row: Row) -> ResultRow
     ensures { result ≡ result_row row }
 {
     let key = row.key;

@@ -80,6 +80,13 @@ module _ (q : Asked) (starts : All StartsPrintable q.intervals) where
   pub printable-partial : (rows : List Row) → AllByRecursion (λ r. IsInstant r.key.time) rows → AllByRecursion (λ g. IsPrintable g.key.time) (partial q rows)
   printable-partial rows all = onto (kinds_in q.aggregations) [] (map (alone q) (selected q rows)) tt (printable-alone rows all)
 
+  -- those of more rows, added to groups whose buckets start so
+  pub printable-added : (before after x rows : List Row) → in_order before ≡ x → AllByRecursion (λ g. IsPrintable g.key.time) x → AllByRecursion (λ r. IsInstant r.key.time) rows → AddsAll q before rows after
+      → AllByRecursion (λ g. IsPrintable g.key.time) (in_order after)
+  printable-added before after x rows is all instants adds =
+      subst (AllByRecursion (λ (g : Row). IsPrintable g.key.time)) (sym adds.groups)
+      (onto (kinds_in q.aggregations) (in_order before) (map (alone q) (selected q rows)) (subst (AllByRecursion (λ (g : Row). IsPrintable g.key.time)) (sym is) all) (printable-alone rows instants))
+
 -- the truncated times of events are instants
 pub instants : (s : Schema) (events : List Event) → AllByRecursion (FitsSchema s) events → AllByRecursion (λ r. IsInstant r.key.time) (map (unrolled s) events)
 instants s [] all = tt

@@ -16,7 +16,7 @@ use Rattle.dr_answers.specs.Fold.{reading_in, folds}
 use Rattle.dr_answers.specs.Groups.{group_of}
 use Rattle.dr_answers.specs.Selection.{selects, selected}
 use Rattle.dr_partial.specs.Grouped.{bare, folds_alone, IsSound, Adds, AddsAll, in_order, with_rows}
-use Rattle.dr_partial.specs.Partial.{kinds_in, alone}
+use Rattle.dr_partial.specs.Partial.{kinds_in, alone, partial}
 
 pub onto_append : (kinds : List Kind) (rows a b : List Row) → rollup_onto true kinds rows (a ++ b) ≡ rollup_onto true kinds (rollup_onto true kinds rows a) b
 unfolding rollup_onto
@@ -54,6 +54,10 @@ module _ (q : Asked) where
     sound = second.sound;
     groups = second.groups ∙ ap (λ l. with_rows q l b) first.groups ∙ sym (with_rows-append (in_order before) a b);
   }
+
+  -- more rows, added to the groups of some
+  pub added-behind : (before after x a rows : List Row) → in_order before ≡ x → x ≡ partial q a → AddsAll q before rows after → in_order after ≡ partial q (a ++ rows)
+  added-behind before after x a rows is also adds = adds.groups ∙ ap (λ l. with_rows q l rows) (is ∙ also) ∙ sym (with_rows-append [] a rows)
 
   -- a row that isn't selected
   pub passed-over : (before : List Row) (r : Row) → selects q r.key ≡ false → IsSound (kinds_in q.aggregations) before → AddsAll q before (r ∷ []) before

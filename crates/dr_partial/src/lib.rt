@@ -5,6 +5,7 @@
 mod arrived_runs;
 mod events;
 mod folds;
+mod fragments;
 mod grouping;
 mod index;
 mod known;

@@ -1,7 +1,8 @@
 ghost use Rattle.std.specs.Prelude.{◌≡◌, ◌++◌, true, IfOk, List, length, map, option_map};
 ghost use Rattle.std.specs.List.{All, AllByRecursion, flat_map};
-ghost use Rattle.dr_agg.specs.Rollup.{all_rows, rollup_onto, AllFit};
+ghost use Rattle.dr_agg.specs.Rollup.{all_rows, rollup_onto, rows_at, AllFit};
 ghost use Rattle.dr_ask.specs.Asked.{asked};
+ghost use Rattle.dr_base.specs.declared.key.Key.{Key};
 ghost use Rattle.dr_base.specs.declared.row.Row.{Row};
 ghost use Rattle.dr_image.specs.Table.{rows_of};
 ghost use Rattle.dr_intervals.specs.Printable.{StartsPrintable};
@@ -14,6 +15,7 @@ ghost use Rattle.dr_partial.specs.Grouped.{IsSound, in_order};
 ghost use Rattle.dr_partial.specs.Partial.{partial, values_at, kinds_in, IsPartial};
 
 use crate::events::add_event_pieces;
+use crate::fragments::add_range;
 use crate::index::add_index;
 use crate::merging::add_groups;
 use crate::rows::add_pieces;
@@ -135,6 +137,25 @@ impl Partial {
         }
     }
 
+    /// The groups of this partial result and of one range more, whose times lie from 0001-01-01 to 9999-12-31: its rows are added to
+    /// the groups that there are, or to new ones. The only error is that memory ran out. It takes what `of_fragment` takes
+    /// over the range; no group that was there is touched unless a row is of it.
+    pub fn add_fragment(
+        self,
+        query: &Query,
+        fragment: &PinnedFragment,
+    ) -> Result<Partial, AllocError>
+        requires own { IsPartial (asked query.now) self }
+        requires instants { AllByRecursion (λ r. IsInstant r.key.time) fragment.now.rows }
+        ensures value { IfOk result (λ p. (a : List Row) → self ≡ partial (asked query.now) a → p ≡ partial (asked query.now) (a ++ fragment.now.rows)) }
+        ensures printable { All StartsPrintable query.now.intervals → AllByRecursion (λ g. IsPrintable g.key.time) self → IfOk result (λ p. AllByRecursion (λ g. IsPrintable g.key.time) p) }
+    {
+        let _ = self.groups.len();
+        let mut groups = self.groups;
+        add_range(&mut groups, query, fragment)?;
+        Ok(Partial { groups })
+    }
+
     /// The groups of this partial result and another one of the same query, those of one key combined: where they are of some
     /// rows and of others, those of all of these rows. The groups of the smaller one are added to the larger. The only error is that
     /// memory ran out. It takes expected time by the groups of the smaller one and the bytes of their dimension values; no key
@@ -180,6 +201,15 @@ impl Partial {
     {
         let mut rows = entry_rows(self.groups)?;
         sort_rows(&mut rows)?;
+        Ok(rows)
+    }
+
+    /// The groups in any order: of each key the group that there is. The only error is that memory ran out. It takes time by the
+    /// groups, and sorts nothing; keys and folds aren't copied.
+    pub fn into_groups(self) -> Result<Vec<Row>, AllocError>
+        ensures { IfOk result (λ rows. (k : Key) → rows_at k rows.items ≡ rows_at k self) }
+    {
+        let rows = entry_rows(self.groups)?;
         Ok(rows)
     }
 }

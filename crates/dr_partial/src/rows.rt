@@ -33,8 +33,8 @@ pub fn add_pieces(
     Ok(())
 }
 
-/// Adds the rows of a piece.
-fn add_rows(
+/// Adds the rows of a piece. `group` is memory to use again.
+pub fn add_rows(
     groups: &mut IndexMap<Key, Numbers>,
     group: &mut Vec<Text>,
     query: &Query,

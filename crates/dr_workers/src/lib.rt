@@ -1,5 +1,5 @@
-//! The partial result of a timeseries or groupBy over the ranges of a snapshot: that of each range in turn, merged from the first to
-//! the last. A gate is entered before each.
+//! The partial result of a timeseries or groupBy over the ranges of a snapshot: the rows of each range in turn are added to those of
+//! the ranges before it. A gate is entered before each.
 #![tactic(auto)]
 
 mod gate;

@@ -16,8 +16,8 @@ use dr_partial::Partial;
 use std::alloc::{AllocError, Global};
 
 /// The groups of a timeseries or groupBy over the rows of all ranges, whose times lie from 0001-01-01 to 9999-12-31, by this
-/// thread alone: those of each range in turn, merged from the first to the last. The only error is that memory ran out. It
-/// takes the expected time that [`Partial::of_fragment`] takes for each range, and that merging takes; and memory by the groups.
+/// thread alone: the rows of each range in turn are added to the groups of those before it. The only error is that memory ran out. It
+/// takes the expected time that [`Partial::add_fragment`] takes for each range, and memory by the groups.
 pub fn scatter_one(
     alloc: Global,
     query: &Query,

@@ -9,9 +9,9 @@ use dr_fragment::PinnedFragment;
 use dr_partial::Partial;
 use std::alloc::{AllocError, Global};
 
-/// The groups of the rows of ranges that stand next to each other, of which the first has that number among all of them: those
-/// of each range in turn, before which the gate is entered, merged from the first to the last. The only error is that memory
-/// ran out.
+/// The groups of the rows of ranges that stand next to each other, of which the first has that number among all of them: the rows
+/// of each range in turn, before which the gate is entered, are added to the groups of those before it. The only error is that
+/// memory ran out.
 pub fn partial_of<G: Gate>(
     alloc: Global,
     query: &Query,
@@ -25,8 +25,7 @@ pub fn partial_of<G: Gate>(
     let mut groups = Partial::of_rows(alloc, query, &[])?;
     for i in 0..fragments.len() {
         gate.enter(first.saturating_add(i));
-        let more = Partial::of_fragment(alloc, query, &fragments[i])?;
-        groups = groups.merge(query, more)?;
+        groups = groups.add_fragment(query, &fragments[i])?;
     }
     Ok(groups)
 }

@@ -1,5 +1,5 @@
-use Rattle.std.proofs.Common.{◌≡◌, drop}
-use Rattle.dr_filter.specs.Condition.{conditions_in, every_matches, some_matches}
+use Rattle.std.proofs.Common.{◌≡◌, drop, map}
+use Rattle.dr_filter.specs.Condition.{condition_in, conditions_in, conditions_of, members_of, every_matches, some_matches}
 use Rattle.dr_filter.proofs.filter.+matching.Given as goal
 
 abbrev pub invariant-every_matches-loop-filter : goal.invariant-every_matches-loop-filter
@@ -8,4 +8,4 @@ invariant-every_matches-loop-filter l =
 
 abbrev pub invariant-some_matches-loop-filter : goal.invariant-some_matches-loop-filter
 invariant-some_matches-loop-filter l =
-    some_matches l.time l.dims (conditions_in (drop l.filter-index l.filters)) ≡ some_matches l.time l.dims (conditions_in l.filters)
+    some_matches l.time l.dims (conditions_in (drop l.filter-index l.filters)) ≡ some_matches l.time l.dims (conditions_of (members_of l.selectors (map condition_in l.filters)))

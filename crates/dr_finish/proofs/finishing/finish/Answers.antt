@@ -4,4 +4,4 @@ use Rattle.dr_finish.proofs.finishing.finish.Goals as goal
 
 pub returns-clause-printable : goal.returns-clause-printable
 returns-clause-printable c =
-    printable-given (asked c.args.query.now) c.args.span c.args.partial c.in_ok-groups.groups.items c.in_ok-given.field-0.items c.requires.instants c.requires.intervals c.requires.partial c.in_ok-groups.ensures c.in_ok-given.ensures
+    printable-given (asked c.args.query.now) c.args.span c.args.partial c.in_ok-given.given.items c.requires.instants c.requires.intervals c.requires.partial c.in_ok-given.ensures

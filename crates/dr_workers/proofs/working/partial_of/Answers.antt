@@ -8,20 +8,19 @@ use Rattle.dr_workers.specs.Shared.{rows_of, IsFoldOf}
 use Rattle.dr_workers.proofs.Rows.{rows-more, in-range}
 use Rattle.dr_workers.proofs.working.partial_of.Goals as goal
 
-pub of_fragment-requires : goal.of_fragment-requires
-of_fragment-requires g c =
+pub add_fragment-requires-clause-instants : goal.add_fragment-requires-clause-instants
+add_fragment-requires-clause-instants g c =
     in-range (λ (r : Row). IsInstant r.key.time) c.args.fragments.now c.loop-i.i c.index-fragments-i.result c.loop-i-test.true c.index-fragments-i.is c.requires
 
-pub merge-requires-clause-own : goal.merge-requires-clause-own
-merge-requires-clause-own g c = (rows_of (take c.loop-i.i c.args.fragments.now), c.loop-i.invariant.0)
+pub add_fragment-requires-clause-own : goal.add_fragment-requires-clause-own
+add_fragment-requires-clause-own g c = (rows_of (take c.loop-i.i c.args.fragments.now), c.loop-i.invariant.0)
 
 pub loop-i-preserved : goal.loop-i-preserved
 loop-i-preserved g c =
-    let before = rows_of (take c.loop-i.i c.args.fragments.now) in
-    let rows = c.index-fragments-i.result.rows in (
-      c.in_ok-groups-2.ensures.value before rows c.loop-i.invariant.0 c.in_ok-more.ensures.value
+    let before = rows_of (take c.loop-i.i c.args.fragments.now) in (
+      c.in_ok-groups-2.ensures.value before c.loop-i.invariant.0
           ∙ ap (partial (asked c.args.query.now)) (rows-more c.args.fragments.now c.loop-i.i c.index-fragments-i.result c.loop-i-test.true c.index-fragments-i.is),
-      λ starts. c.in_ok-groups-2.ensures.printable (c.loop-i.invariant.1 starts) (c.in_ok-more.ensures.printable starts),
+      λ starts. c.in_ok-groups-2.ensures.printable starts (c.loop-i.invariant.1 starts),
     )
 
 pub returns : goal.returns
