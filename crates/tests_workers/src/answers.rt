@@ -5,32 +5,15 @@ ghost use Rattle.dr_ask.specs.MadeFor.{MadeFor};
 use dr_ask::Query;
 use dr_events::read_event;
 use dr_spec::IngestSpec;
-use dr_timeline::{OpenGate, Snapshot, Timeline};
+use dr_timeline::{Snapshot, Timeline};
 use std::alloc::Global;
-use std::sync::Wait;
 use std::test::Fail;
-use std::thread::Threads;
 
 const SPEC: &str =
     r#"{"dataSchema":{"dataSource":"w","timestampSpec":{"column":"t","format":"iso"},"dimensionsSpec":{"dimensions":["page","lang"]},"metricsSpec":[{"type":"count","name":"n"},{"type":"longSum","name":"added","fieldName":"a"},{"type":"longMin","name":"lo","fieldName":"a"},{"type":"longMax","name":"hi","fieldName":"a"}],"granularitySpec":{"segmentGranularity":"day","queryGranularity":"hour"}}}"#;
 
 /// The start of the day of the events.
 const DAY: i64 = 1_704_067_200_000;
-
-/// Pages with what was added.
-const PAGES: [&str; 7] = [
-    r#"{"t":"2024-01-01","page":"A","a":3}"#,
-    r#"{"t":"2024-01-01","page":"B","a":9}"#,
-    r#"{"t":"2024-01-01","page":"C","a":5}"#,
-    r#"{"t":"2024-01-01","page":"A","a":2}"#,
-    r#"{"t":"2024-01-01","page":"E","a":4}"#,
-    r#"{"t":"2024-01-01","page":"F","a":3}"#,
-    r#"{"t":"2024-01-01","page":"D","a":-1}"#,
-];
-
-/// The second of the pages by what was added, of those above 0: a limit within a worker would leave it out.
-const SECOND: &str =
-    r#"{"queryType":"groupBy","dataSource":"w","intervals":["2024-01-01/2024-01-02"],"granularity":"all","dimensions":["page"],"aggregations":[{"type":"longSum","name":"added","fieldName":"added"}],"having":{"type":"greaterThan","aggregation":"added","value":0},"limitSpec":{"type":"default","limit":1,"offset":1,"columns":[{"dimension":"added","direction":"descending"}]}}"#;
 
 /// A snapshot of events, of which so many are sealed, each in a range of its own, and a query for it.
 pub fn pinned(
@@ -41,6 +24,13 @@ pub fn pinned(
 ) -> Result<(Snapshot, Query), Fail>
     ensures { IfOk result (λ p. MadeFor p.0.schema (asked p.1)) }
 {
+    let mut timeline = filled(alloc, events, sealed)?;
+    let query = Query::parse(alloc, text.as_bytes(), timeline.spec().schema())?;
+    Ok((timeline.pin()?, query))
+}
+
+/// A timeline of events, of which so many are sealed, each in a range of its own.
+fn filled(alloc: Global, events: &[&str], sealed: usize) -> Result<Timeline, Fail> {
     let mut timeline = new_timeline(alloc)?;
     for (i, event) in events.iter().enumerate() {
         accept(alloc, &mut timeline, event)?;
@@ -48,8 +38,7 @@ pub fn pinned(
             timeline.seal(DAY)?;
         }
     }
-    let query = Query::parse(alloc, text.as_bytes(), timeline.spec().schema())?;
-    Ok((timeline.pin()?, query))
+    Ok(timeline)
 }
 
 /// A timeline without events.
@@ -62,25 +51,4 @@ fn new_timeline(alloc: Global) -> Result<Timeline, Fail> {
 fn accept(alloc: Global, timeline: &mut Timeline, event: &str) -> Result<u64, Fail> {
     let event = read_event(alloc, timeline.spec(), 0, event.as_bytes())?;
     Ok(timeline.accept(event)?)
-}
-
-/// The second page by so many workers, over four ranges.
-fn answer_by<R: Threads + Wait + Sync>(
-    rt: &R,
-    alloc: Global,
-    workers: usize,
-) -> Result<Vec<u8>, Fail> {
-    let (snapshot, query) = pinned(alloc, &PAGES, 3, SECOND)?;
-    Ok(snapshot.answer(rt, &query, workers, &OpenGate)?)
-}
-
-#[test]
-fn a_limit_is_applied_over_what_all_workers_found(rt: HostRuntime) -> Result<(), Fail> {
-    let wanted =
-        br#"[{"event":{"added":5,"page":"A"},"timestamp":"2024-01-01T00:00:00.000Z","version":"v1"}]"#;
-    for workers in [1, 3, 16] {
-        let text = answer_by(&rt, rt.alloc(), workers)?;
-        assert!(rt; text.as_slice() == wanted.as_slice());
-    }
-    Ok(())
 }
