@@ -32,7 +32,7 @@ impl<'a, T: Clock + Eprint> Terminal<'a, T> {
     fn passed(&self) -> u64 {
         match self.begun {
             Some(begun) => match begun.elapsed(self.rt) {
-                Ok(passed) => passed.as_millis() as u64,
+                Ok(passed) => passed.as_millis().min(u128::from(u64::MAX)) as u64,
                 Err(_) => 0,
             },
             None => 0,
