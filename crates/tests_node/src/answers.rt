@@ -55,6 +55,36 @@ fn beside_answer<B: Books, R: Wait>(
     number
 }
 
+/// One thread answers by the first seat, and another one accepts an event by the second meanwhile.
+fn at_once<B: Books, R: Threads + Wait + Sync>(
+    rt: &R,
+    alloc: Global,
+    node: &Node<B>,
+    spec: &IngestSpec,
+    gate: &Held,
+    first: Seat<B>,
+    second: Seat<B>,
+) -> Option<(Vec<u8>, u64)>
+    requires { spec.now ≡ B.schema }
+{
+    let (text, number) = thread::join(
+        rt,
+        move || -> Option<Vec<u8>>
+            requires { spec.now ≡ B.schema }
+        {
+            let mut seat = first;
+            answer(rt, alloc, node, spec, &mut seat, gate)
+        },
+        move || -> Option<u64>
+            requires { spec.now ≡ B.schema }
+        {
+            let mut seat = second;
+            beside_answer(rt, alloc, node, spec, &mut seat, gate)
+        },
+    );
+    text.zip(number)
+}
+
 /// What is answered over one event, the number of an event that is accepted meanwhile, and whether the gate was held for all
 /// turns.
 fn answered<
@@ -81,24 +111,8 @@ fn answered<
     let first = seats.pop()?;
     accept(rt, alloc, &node, &copy, &mut second, FIRST)?;
     let gate = Held::new();
-    let (shared, spec, held) = (&node, &copy, &gate);
-    let (answer, number) = thread::join(
-        rt,
-        move || -> Option<Vec<u8>>
-            requires { spec.now ≡ A.schema }
-        {
-            let mut seat = first;
-            answer(rt, alloc, shared, spec, &mut seat, held)
-        },
-        move || -> Option<u64>
-            requires { spec.now ≡ A.schema }
-        {
-            let mut seat = second;
-            beside_answer(rt, alloc, shared, spec, &mut seat, held)
-        },
-    );
-    let late = gate.late.load(Ordering::SeqCst);
-    Some((answer?, number?, late))
+    let (text, number) = at_once(rt, alloc, &node, &copy, &gate, first, second)?;
+    Some((text, number, gate.late.load(Ordering::SeqCst)))
 }
 
 fn told<R: Threads + Wait + Sync>(rt: &R, alloc: Global) -> Option<(Vec<u8>, u64, bool)> {

@@ -82,6 +82,36 @@ fn beside_merger<B: Books, R: Wait>(
     answer
 }
 
+/// A merger runs by the first seat, and another thread uses the node by the second meanwhile.
+fn at_once<B: Books, R: Threads + Wait + Sync>(
+    rt: &R,
+    alloc: Global,
+    node: &Node<B>,
+    spec: &IngestSpec,
+    policy: &Once,
+    beside: Beside,
+    first: Seat<B>,
+    second: Seat<B>,
+) -> Option<(MergerReport, Seat<B>)>
+    requires { spec.now ≡ B.schema }
+{
+    let (report, second) = thread::join(
+        rt,
+        move || -> Option<MergerReport> {
+            let mut seat = first;
+            node.merger(rt, &mut seat, policy, &policy.stop).ok()
+        },
+        move || -> Option<Seat<B>>
+            requires { spec.now ≡ B.schema }
+        {
+            let mut seat = second;
+            beside_merger(rt, alloc, node, spec, &mut seat, policy, beside)?;
+            Some(seat)
+        },
+    );
+    report.zip(second)
+}
+
 /// What a merger tells that merges two ranges while another thread uses the node.
 fn merged<
     A: NodeLedger + Send + Sync,
@@ -109,23 +139,7 @@ fn merged<
     let first = seats.pop()?;
     two_ranges(rt, alloc, &node, &copy, &mut second)?;
     let policy = Once::new(while_asked);
-    let (shared, spec, held) = (&node, &copy, &policy);
-    let (report, other) = thread::join(
-        rt,
-        move || -> Option<MergerReport> {
-            let mut seat = first;
-            shared.merger(rt, &mut seat, held, &held.stop).ok()
-        },
-        move || -> Option<Seat<Two<A, B, C, D>>>
-            requires { spec.now ≡ A.schema }
-        {
-            let mut seat = second;
-            beside_merger(rt, alloc, shared, spec, &mut seat, held, beside)?;
-            Some(seat)
-        },
-    );
-    let report = report?;
-    let mut seat = other?;
+    let (report, mut seat) = at_once(rt, alloc, &node, &copy, &policy, beside, first, second)?;
     let snapshot = node.pin(rt, &mut seat).ok()?;
     Some(Seen {
         report,

@@ -70,6 +70,30 @@ fn accept_one<B: Books, R: Wait>(
     Some(seat)
 }
 
+/// Two threads accept events at once: one two events by the first seat, of which a pin of it shows the times, one an event by the
+/// second.
+fn both_accept<B: Books, R: Threads + Wait + Sync>(
+    rt: &R,
+    alloc: Global,
+    node: &Node<B>,
+    spec: &IngestSpec,
+    first: Seat<B>,
+    second: Seat<B>,
+) -> Option<((Seat<B>, Vec<i64>), Seat<B>)>
+    requires { spec.now ≡ B.schema }
+{
+    let (first, second) = thread::join(
+        rt,
+        move || -> Option<(Seat<B>, Vec<i64>)>
+            requires { spec.now ≡ B.schema }
+        { accept_two(rt, alloc, node, spec, first) },
+        move || -> Option<Seat<B>>
+            requires { spec.now ≡ B.schema }
+        { accept_one(rt, alloc, node, spec, second) },
+    );
+    first.zip(second)
+}
+
 /// What a pin of the first seat shows of its own events, and what closing the node then shows with both seats or with one.
 fn two_threads<
     A: NodeLedger + Send + Sync,
@@ -94,18 +118,7 @@ fn two_threads<
     let (node, mut seats) = Node::<Two<A, B, C, D>>::new(alloc, spec, blanks).ok()?;
     let second = seats.pop()?;
     let first = seats.pop()?;
-    let (shared, spec) = (&node, &copy);
-    let (first, second) = thread::join(
-        rt,
-        move || -> Option<(Seat<Two<A, B, C, D>>, Vec<i64>)>
-            requires { spec.now ≡ A.schema }
-        { accept_two(rt, alloc, shared, spec, first) },
-        move || -> Option<Seat<Two<A, B, C, D>>>
-            requires { spec.now ≡ A.schema }
-        { accept_one(rt, alloc, shared, spec, second) },
-    );
-    let (first, own) = first?;
-    let second = second?;
+    let ((first, own), second) = both_accept(rt, alloc, &node, &copy, first, second)?;
     seats.push(first).ok()?;
     if both {
         seats.push(second).ok()?;
