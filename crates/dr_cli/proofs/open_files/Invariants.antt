@@ -1,0 +1,6 @@
+use Rattle.std.proofs.Common.{◌≡◌, length}
+use Rattle.dr_cli.proofs.open_files.Given as goal
+
+-- a file is opened for each path that was passed
+abbrev pub invariant-loop-path : goal.invariant-loop-path
+invariant-loop-path g l = length l.files.items ≡ l.path-index
