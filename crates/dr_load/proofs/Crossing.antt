@@ -15,5 +15,5 @@ fields-send name (one ∷ captures) all = (all.0, fields-send name captures all.
 pub closure-send : (i : ℕ) (layout : Ty) (kept : Kept) (name : List ℕ) (captures : List RattleType) → AllSend captures → IsSend (param i (arg layout kept (TupleAt name captures)))
 closure-send i layout kept name captures all =
     param_send i (arg layout kept (TupleAt name captures))
-        (arg_send layout kept (TupleAt name captures)
-            (recorded_send _ _ _ ((type_at name captures).to_one) (struct_send (shape (type_at name captures)) (fields-send name captures all))))
+    (arg_send layout kept (TupleAt name captures)
+    (recorded_send _ _ _ ((type_at name captures).to_one) (struct_send (shape (type_at name captures)) (fields-send name captures all))))

@@ -26,11 +26,11 @@ spawn-asker-requires-send-F g c κs within =
     let shared : IsSync (Node.the_row (param 0 g.row.B) (param 4 g.row.B-Share) (param 5 g.row.B-Blanks) g.B.Books) = node.the_sync (param 0 g.row.B) (param 4 g.row.B-Share) (param 5 g.row.B-Blanks) g.B.Books books in
     let own : IsSend (Seat.the_row (param 0 g.row.B) (param 4 g.row.B-Share) (param 5 g.row.B-Blanks) g.B.Books) = seat.the_send (param 0 g.row.B) (param 4 g.row.B-Share) (param 5 g.row.B-Blanks) g.B.Books share in
     let captures : List RattleType = (field.shr_ref_field (record { mir = named 5; lft = κs.1.1.1.1.1.0 }) (param 2 g.row.T) tt).row
-        ∷ (field.shr_ref_field (record { mir = named 6; lft = κs.1.1.1.1.1.1.0 }) (Node.the_row (param 0 g.row.B) (param 4 g.row.B-Share) (param 5 g.row.B-Blanks) g.B.Books) tt).row
-        ∷ (field.mut_ref_field (record { mir = named 7; lft = κs.1.1.1.1.1.1.1.0 }) (Seat.the_row (param 0 g.row.B) (param 4 g.row.B-Share) (param 5 g.row.B-Blanks) g.B.Books) tt).row
-        ∷ (field.shr_ref_field (record { mir = named 8; lft = κs.1.1.1.1.1.1.1.1.0 }) Query.the_row tt).row
-        ∷ (field.shr_ref_field (record { mir = named 9; lft = κs.1.1.1.1.1.1.1.1.1.0 }) Stop.the_row tt).row
-        ∷ (field.shr_ref_field (record { mir = named 10; lft = κs.1.1.1.1.1.1.1.1.1.1.0 }) (param 3 g.row.W) tt).row
-        ∷ [] in
+    ∷ (field.shr_ref_field (record { mir = named 6; lft = κs.1.1.1.1.1.1.0 }) (Node.the_row (param 0 g.row.B) (param 4 g.row.B-Share) (param 5 g.row.B-Blanks) g.B.Books) tt).row
+    ∷ (field.mut_ref_field (record { mir = named 7; lft = κs.1.1.1.1.1.1.1.0 }) (Seat.the_row (param 0 g.row.B) (param 4 g.row.B-Share) (param 5 g.row.B-Blanks) g.B.Books) tt).row
+    ∷ (field.shr_ref_field (record { mir = named 8; lft = κs.1.1.1.1.1.1.1.1.0 }) Query.the_row tt).row
+    ∷ (field.shr_ref_field (record { mir = named 9; lft = κs.1.1.1.1.1.1.1.1.1.0 }) Stop.the_row tt).row
+    ∷ (field.shr_ref_field (record { mir = named 10; lft = κs.1.1.1.1.1.1.1.1.1.1.0 }) (param 3 g.row.W) tt).row
+    ∷ [] in
     let all : AllSend captures = (shr_send _ _ _ (param_sync 2 g.row.T handle), (shr_send _ _ _ shared, (mut_send _ _ _ own, (shr_send _ _ _ query-sync, (shr_send _ _ _ stop.the_sync, (shr_send _ _ _ (param_sync 3 g.row.W watch), tt)))))) in
     closure-send 1 _ no _ captures all
