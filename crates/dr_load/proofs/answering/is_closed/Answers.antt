@@ -1,7 +1,6 @@
-use Rattle.std.proofs.Common.{◌≡◌, ◌∙◌, sym, ap, ◌++◌, [], ◌∷◌, take, length, ◌<◌, get_or, arith}
+use Rattle.std.proofs.Common.{◌∙◌, sym, ◌++◌, [], ◌∷◌, take, length, ◌<◌, arith}
 use Rattle.std.proofs.lemmas.List.{take_more}
 use Rattle.std.proofs.lemmas.Option.{get_or_from_slice_get, slice_get_within}
-use Rattle.dr_base.specs.declared.event.Event.{Event}
 use Rattle.dr_load.proofs.answering.is_closed.Goals as goal
 
 pub events-preserved : goal.events-preserved

@@ -1,6 +1,6 @@
-use Rattle.std.proofs.Common.{◌≡◌, ◌∙◌, sym, refl, ap, subst, ◌+◌, ◌-◌, ◌^◌, ◌≤◌, ℕ, List, [], ◌∷◌, length, map, sum, arith}
-use Rattle.std.specs.Prelude.{Option, None, min}
-use Rattle.std.specs.Vec.Iter.{into_iter_items, into_iter_len}
+use Rattle.std.proofs.Common.{◌≡◌, ◌∙◌, sym, refl, ap, ◌+◌, ◌-◌, ◌^◌, ◌≤◌, ℕ, List, [], ◌∷◌, length, map, sum, arith}
+use Rattle.std.specs.Prelude.{None, min}
+use Rattle.std.specs.Vec.Iter.{into_iter_items}
 use Rattle.dr_load.specs.Totals.{first_refusal, total}
 use Rattle.dr_load.specs.declared.ingested.Ingested.{Ingested}
 use Rattle.dr_load.proofs.totals.counts_of.Goals as goal
