@@ -73,9 +73,9 @@ class Run:
         self.proved = Tree(copy_to(f"{copy}/proved", MUST_FAIL, FURTHER))
         self.sources, self.record, self.turn = Sources(self.whole), Record(self.whole), turn()
         self.lanes = min(processors(), 4)
-        # beside the proofs edits have half of the lanes, and all of them once these have ended
+        # beside the proofs edits have one lane, since each prover takes some 2 GB, and all of them once these have ended
         self.edit_lanes = ThreadPoolExecutor(self.lanes)
-        self.beside = max(self.lanes // 2, 1)
+        self.beside = 1
         self.free_lanes = threading.Semaphore(self.beside)
         self.left = {it: self.due(it) for it in self.whole.uses}
         self.proofs = Proofs(self.proved, self.lanes, self.on_proved, gate.say)

@@ -70,7 +70,7 @@ class Prover:
         self.checks += 1
         how = {"cwd": f"{self.room}/crate", "stdin": subprocess.DEVNULL, "stdout": subprocess.PIPE, "stderr": subprocess.STDOUT}
         whole = [f"{KIT}/bin/rattle", "check", *self.words, *only]
-        return Said(self.crate, subprocess.run(whole, errors="replace", preexec_fn=ends_with_us, **how))
+        return Said(self.crate, subprocess.run(whole, errors="replace", preexec_fn=behind_all_else, **how))
 
 
 _libc = ctypes.CDLL(None)
@@ -80,3 +80,9 @@ def ends_with_us():
     """Called in a child process: it is ended where this program ends, however that is."""
     _libc.prctl(1, signal.SIGKILL)
     os.nice(5)
+
+
+def behind_all_else():
+    """The same, and it takes what processors the chain of proofs leaves: no crate waits for an edit."""
+    ends_with_us()
+    os.nice(10)

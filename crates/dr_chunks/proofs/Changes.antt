@@ -10,8 +10,9 @@ use Rattle.dr_chunks.specs.declared.chunk.Chunk.{Chunk}
 use Rattle.dr_cuts.specs.AtKey.{at_key, item_at}
 use Rattle.dr_cuts.specs.Chunks.{with_value}
 use Rattle.dr_cuts.specs.State.{Cut, sealed_in, at_chunk, open_cut}
-use Rattle.dr_chunks.specs.Held.{no_chunk, at_start, chunk_at, cut_of, ranges_of, open_count, total_open, IsFirst}
+use Rattle.dr_chunks.specs.Held.{no_chunk, at_start, chunk_at, cut_of, ranges_of, open_count, total_open}
 use Rattle.dr_cuts.proofs.Parts.{has, All-below}
+use Rattle.dr_chunks.proofs.Places.{IsFirst}
 
 -- the cuts of the changed chunks
 pub cuts-at_start : (schema : Schema) (cs : List Chunk) (k : ℤ) (change : Chunk → Chunk) (alter : Cut → Cut) → cut_of (change (chunk_at schema k cs)) ≡ alter (cut_of (chunk_at schema k cs)) → map cut_of (at_start schema change k cs) ≡ at_chunk k alter (map cut_of cs)

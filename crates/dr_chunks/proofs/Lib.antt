@@ -3,5 +3,4 @@ pub mod Lengths
 pub mod Blocks
 pub mod Holding
 pub mod Changes
-pub mod Opening
 pub mod Pieces

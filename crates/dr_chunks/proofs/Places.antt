@@ -14,7 +14,17 @@ use Rattle.std.specs.BTreeMap.{insert_entry, is_at}
 use Rattle.dr_schema.specs.declared.schema.Schema.{Schema}
 use Rattle.dr_chunks.specs.declared.chunk.Chunk.{Chunk}
 use Rattle.dr_cuts.specs.AtKey.{at_key}
-use Rattle.dr_chunks.specs.Held.{no_chunk, IsBelow, IsFirst, at_start, chunk_at, chunk_in, grown, is_full, with_one, with_open_sealed}
+use Rattle.dr_chunks.specs.Held.{no_chunk, at_start, chunk_at, chunk_in, grown, is_full, with_one, with_open_sealed}
+
+-- it starts before the first of these
+abbrev pub IsBelow : ℤ → List Chunk → Type 0
+IsBelow k [] = Unit {0}
+IsBelow k (c ∷ cs) = int_cmp k c.start ≡ Less
+
+-- the first of these starts there
+abbrev pub IsFirst : ℤ → List Chunk → Type 0
+IsFirst k [] = ⊥
+IsFirst k (c ∷ cs) = int_cmp k c.start ≡ Equal
 
 -- a change where the chunk is new
 pub at_start-new : (schema : Schema) (cs : List Chunk) (k : ℤ) (i : ℕ) (change : Chunk → Chunk) → AllByRecursion (λ d. int_cmp k d.start ≡ Greater) (take i cs) → IsBelow k (drop i cs)

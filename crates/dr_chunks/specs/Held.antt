@@ -2,7 +2,6 @@
 use Rattle.std.specs.Prelude.{◌≡◌, ℕ, ℤ, ◌+◌, ◌-◌, ◌<◌, Bool, nat_le, nat_lt, true, false, Option, Some, None, List, [], ◌∷◌, ◌++◌, length, map, take, drop, if◌then◌else◌}
 use Rattle.std.specs.List.{AllByRecursion}
 use Rattle.std.specs.Ordering.{int_cmp, match_ordering}
-use Rattle.std.specs.declared.cmp.Ordering.TheVariants.{Less, Equal}
 use Rattle.dr_base.specs.declared.event.Event.{Event}
 use Rattle.dr_base.specs.declared.row.Row.{Row}
 use Rattle.dr_schema.specs.declared.schema.Schema.{Schema}
@@ -122,12 +121,3 @@ chunk_at schema k cs = item_at (λ c. c.start) (no_chunk schema k) k cs
 abbrev pub chunk_in : ℤ → List Chunk → Option Chunk
 chunk_in k [] = None
 chunk_in k (c ∷ cs) = match_ordering (int_cmp k c.start) None (Some c) (chunk_in k cs)
-
--- before that of a place, and at that place
-abbrev pub IsBelow : ℤ → List Chunk → Type 0
-IsBelow k [] = Unit {0}
-IsBelow k (c ∷ cs) = int_cmp k c.start ≡ Less
-
-abbrev pub IsFirst : ℤ → List Chunk → Type 0
-IsFirst k [] = ⊥
-IsFirst k (c ∷ cs) = int_cmp k c.start ≡ Equal

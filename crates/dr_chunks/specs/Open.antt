@@ -1,5 +1,5 @@
 -- An open range, and what it keeps. No public contract cites this file.
-use Rattle.std.specs.Prelude.{◌-◌, List, [], Option, Some, None}
+use Rattle.std.specs.Prelude.{◌≡◌, ◌<◌, List, [], Option, Some, None, length}
 use Rattle.dr_base.specs.declared.row.Row.{Row}
 use Rattle.dr_schema.specs.declared.schema.Schema.{Schema}
 use Rattle.dr_rollup.specs.OpenRows.{OpenRows}
@@ -13,6 +13,6 @@ abbrev pub rows_kept : Option OpenRows → List Row
 rows_kept None = []
 rows_kept (Some index) = index.rows
 
--- an index with these rows, which may have one row less than are held in memory
-abbrev pub kept : Schema → List Row → OpenRows
-kept schema rows = record { schema = schema; limit = schema.limits.max_rows_in_memory - 1; rows = rows }
+-- an index of the schema with room for one more row
+abbrev pub IsOpenIndex : Schema → OpenRows → Type 0
+IsOpenIndex schema index = (index ≡ index_of schema index.rows) × (length index.rows < schema.limits.max_rows_in_memory)

@@ -1,13 +1,13 @@
 ghost use Rattle.std.specs.Prelude.{◌≡◌, IfOk, IfErr};
 
-use dr_base::Event;
+use dr_fragment::SharedEvent;
 use std::alloc::{AllocError, AllocFailed, Global};
 use std::marker::Model;
 use std::sync::Arc;
 
 /// Events that a timeline and its snapshots share. A contract sees the list of the events.
 #[derive(Drop)]
-pub struct Block(Arc<Vec<Event>>);
+pub struct Block(Arc<Vec<SharedEvent>>);
 
 impl Model for Block {
     ghost use Rattle.std.specs.Prelude.{List};
@@ -21,7 +21,10 @@ impl Model for Block {
 
 impl Block {
     /// Events to share. The only error is that memory ran out, and gives them back.
-    pub fn new(alloc: Global, events: Vec<Event>) -> Result<Block, AllocFailed<Vec<Event>>>
+    pub fn new(
+        alloc: Global,
+        events: Vec<SharedEvent>,
+    ) -> Result<Block, AllocFailed<Vec<SharedEvent>>>
         ensures ok { IfOk result (λ block. block ≡ events.items) }
         ensures err { IfErr result (λ failed. failed.value ≡ events) }
     {
@@ -29,7 +32,7 @@ impl Block {
     }
 
     /// The events as a slice.
-    pub fn as_slice(&self) -> &[Event]
+    pub fn as_slice(&self) -> &[SharedEvent]
         ensures { result.now ≡ self.now }
     {
         self.0.as_slice()

@@ -8,7 +8,7 @@ use crate::chunk::Chunk;
 use crate::sealed_range::SealedRange;
 use dr_base::Event;
 use dr_cuts::RangeInfo;
-use dr_fragment::PinnedFragments;
+use dr_fragment::Fragments;
 use dr_schema::Schema;
 use std::alloc::{AllocError, Global};
 use std::collections::BTreeMap;
@@ -109,7 +109,7 @@ impl Chunks {
     pub fn pin(
         &self,
         alloc: Global,
-        pinned: &mut PinnedFragments,
+        pinned: &mut Fragments,
         ranges: &mut Vec<RangeInfo>,
     ) -> Result<(), AllocError>
         ensures pinned { OnOk result (pinned.new ≡ pinned.old ++ flat_map fragments_of_chunk self.now) }

@@ -17,14 +17,13 @@ impl SealedRange {
     pub fn info(&self) -> RangeInfo
         ensures { result ≡ info_of self.now }
     {
-        let fragment = self.fragment.fragment();
-        let (from, to) = fragment.range();
+        let (from, to) = self.fragment.range();
         RangeInfo {
-            chunk: fragment.chunk(),
+            chunk: self.fragment.chunk(),
             from,
             to,
             version: self.version,
-            rows: fragment.len(),
+            rows: self.fragment.len(),
             sealed: true,
         }
     }

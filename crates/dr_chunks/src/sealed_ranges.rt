@@ -4,13 +4,13 @@ ghost use Rattle.dr_cuts.specs.State.{open_from};
 
 use crate::sealed_range::SealedRange;
 use dr_cuts::RangeInfo;
-use dr_fragment::{PinnedFragment, PinnedFragments};
+use dr_fragment::Fragments;
 use std::alloc::{AllocError, Global};
 use std::marker::Model;
 
 /// The sealed ranges of a chunk, in order. A contract sees the list of the ranges.
 #[derive(Drop)]
-pub struct SealedRanges(Vec<SealedRange>);
+pub struct SealedRanges(pub(crate) Vec<SealedRange>);
 
 impl Model for SealedRanges {
     ghost use Rattle.std.specs.Prelude.{List};
@@ -49,7 +49,7 @@ impl SealedRanges {
     {
         match self.0.last() {
             None => 0,
-            Some(range) => range.fragment.fragment().range().1,
+            Some(range) => range.fragment.range().1,
         }
     }
 
@@ -74,17 +74,13 @@ impl SealedRanges {
 
     /// Puts the ranges behind these, as a snapshot shows them, and shares of their fragments. No row is copied. The only error is that
     /// memory ran out.
-    pub fn pin(
-        &self,
-        pinned: &mut PinnedFragments,
-        ranges: &mut Vec<RangeInfo>,
-    ) -> Result<(), AllocError>
+    pub fn pin(&self, pinned: &mut Fragments, ranges: &mut Vec<RangeInfo>) -> Result<(), AllocError>
         ensures pinned { OnOk result (pinned.new ≡ pinned.old ++ map (λ s. s.fragment) self.now) }
         ensures ranges { OnOk result (ranges.new.items ≡ ranges.old.items ++ map info_of self.now) }
     {
         for range in self.as_slice() {
             ranges.push(range.info())?;
-            pinned.push(PinnedFragment::sealed(range.fragment.share()?))?;
+            pinned.push(range.fragment.share()?)?;
         }
         Ok(())
     }

@@ -5,6 +5,7 @@ ghost use Rattle.dr_chunks.specs.Times.{times};
 use crate::block::Block;
 use crate::times::wider;
 use dr_base::Event;
+use dr_fragment::SharedEvent;
 use std::alloc::{AllocError, Global};
 use std::marker::Model;
 use std::mem::replace;
@@ -15,12 +16,12 @@ const BLOCK: usize = 256;
 /// Events in order, which are only added at the end. A contract sees the list of the events, and whether there is room for
 /// one more.
 ///
-/// Full blocks of events are shared with the copies of a stream, so that a copy takes memory for less than a block of
-/// events. An event that stands in a full block is never moved.
+/// Each event is shared with whoever else holds it, and full blocks of events with the copies of a stream, so that a copy takes
+/// memory for the places of less than a block of events.
 #[derive(Drop)]
 pub struct Stream {
     blocks: Vec<Block>,
-    last: Vec<Event>,
+    last: Vec<SharedEvent>,
     count: usize,
     // From the least to the greatest time of the events.
     times: Option<(i64, i64)>,
@@ -76,14 +77,14 @@ impl Stream {
     {
         let block = place / BLOCK;
         if block < self.blocks.len() {
-            return &self.blocks[block].as_slice()[place % BLOCK];
+            return self.blocks[block].as_slice()[place % BLOCK].event();
         }
-        &self.last[place % BLOCK]
+        self.last[place % BLOCK].event()
     }
 
     /// The events as slices, one behind the other. The only error is that memory ran out. It takes time and memory by the
     /// full blocks.
-    pub fn pieces(&self, alloc: Global) -> Result<Vec<&[Event]>, AllocError>
+    pub fn pieces(&self, alloc: Global) -> Result<Vec<&[SharedEvent]>, AllocError>
         ensures { IfOk result (λ pieces. flat_map (λ p. p.now) pieces.items ≡ self.now.items) }
     {
         let mut pieces = slices(alloc, &self.blocks)?;
@@ -108,24 +109,25 @@ impl Stream {
     }
 
     /// Adds an event at the end.
-    pub fn push(&mut self, event: Event)
+    pub fn push(&mut self, event: SharedEvent)
         requires room { self.old.room ≡ true }
         requires few { length self.old.items < 18446744073709551615 }
         ensures { self.new.items ≡ self.old.items ++ event ∷ [] }
     {
-        self.times = wider(self.times, event.time);
+        self.times = wider(self.times, event.event().time);
         self.last.push(event).unwrap();
         self.count += 1;
     }
 
-    /// The same events, of which less than a block is copied. The only error is that memory ran out.
+    /// The same events, shared. The only error is that memory ran out. It takes time and memory by the full blocks, and for less than a
+    /// block of events.
     pub fn share(&self) -> Result<Stream, AllocError>
         ensures { IfOk result (λ stream. stream.items ≡ self.now.items) }
     {
         let alloc = self.allocator();
         Ok(Stream {
             blocks: share_all(alloc, &self.blocks)?,
-            last: copy_all(alloc, &self.last)?,
+            last: share_events(alloc, &self.last)?,
             count: self.count,
             times: self.times,
         })
@@ -133,7 +135,7 @@ impl Stream {
 }
 
 // Takes the events as a block, and leaves room for the next one.
-fn take_block(alloc: Global, events: &mut Vec<Event>) -> Result<Block, AllocError>
+fn take_block(alloc: Global, events: &mut Vec<SharedEvent>) -> Result<Block, AllocError>
     ensures block { IfOk result (λ block. block ≡ events.old.items) }
     ensures empty { OnOk result (events.new.items ≡ []) }
     ensures room { OnOk result (256 ≤ events.new.cap) }
@@ -149,7 +151,7 @@ fn take_block(alloc: Global, events: &mut Vec<Event>) -> Result<Block, AllocErro
     }
 }
 
-fn slices<'a>(alloc: Global, blocks: &'a [Block]) -> Result<Vec<&'a [Event]>, AllocError>
+fn slices<'a>(alloc: Global, blocks: &'a [Block]) -> Result<Vec<&'a [SharedEvent]>, AllocError>
     ensures { IfOk result (λ slices. map (λ s. s.now) slices.items ≡ blocks.now) }
 {
     let mut slices = Vec::with_capacity(alloc, blocks.len())?;
@@ -169,12 +171,12 @@ fn share_all(alloc: Global, blocks: &[Block]) -> Result<Vec<Block>, AllocError>
     Ok(shares)
 }
 
-fn copy_all(alloc: Global, events: &[Event]) -> Result<Vec<Event>, AllocError>
-    ensures { IfOk result (λ copies. copies.items ≡ events.now) }
+fn share_events(alloc: Global, events: &[SharedEvent]) -> Result<Vec<SharedEvent>, AllocError>
+    ensures { IfOk result (λ shares. shares.items ≡ events.now) }
 {
-    let mut copies = Vec::with_capacity(alloc, events.len())?;
+    let mut shares = Vec::with_capacity(alloc, events.len())?;
     for event in events {
-        copies.push(event.copy()?)?;
+        shares.push(event.share()?)?;
     }
-    Ok(copies)
+    Ok(shares)
 }

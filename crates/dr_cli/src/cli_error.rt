@@ -1,11 +1,12 @@
 ghost use Rattle.std.specs.Prelude.{◌≡◌, ◌++◌, IfOk, codes};
 ghost use Rattle.dr_base.specs.FaultLine.{fault_line};
-ghost use Rattle.dr_cli.specs.declared.cli_error.CliError.TheVariants.{NoMemory, Dump, Load};
+ghost use Rattle.dr_cli.specs.declared.cli_error.CliError.TheVariants.{NoMemory, Usage, Dump, Load};
 ghost use Rattle.dr_cli.specs.Refusal.{arg_of, number_of, name_of};
 
 use dr_base::{Arg, Text, fault_line};
 use dr_dump::DumpError;
 use dr_load::LoadError;
+use dr_usage::UsageError;
 use std::alloc::{AllocError, AllocFailed, Global};
 use thiserror::Error;
 
@@ -15,6 +16,9 @@ pub enum CliError {
     /// 0: memory ran out.
     #[error("out of memory")]
     NoMemory,
+    /// 0 or 103: the words of the command line are none that the program takes.
+    #[error(transparent)]
+    Usage(UsageError),
     /// 0, 50 to 58, or 101: a file spells no image.
     #[error(transparent)]
     Dump(DumpError),
@@ -24,9 +28,6 @@ pub enum CliError {
     /// 96: the file of that path can't be opened or read.
     #[error("{0} can't be read")]
     FileFault(Text),
-    /// 103: the words of the command line are none that the program takes.
-    #[error("bad usage")]
-    BadUsage,
 }
 
 impl CliError {
@@ -36,23 +37,23 @@ impl CliError {
     {
         match self {
             CliError::NoMemory => 0,
+            CliError::Usage(error) => error.number(),
             CliError::Dump(error) => error.number(),
             CliError::Load(error) => error.number(),
             CliError::FileFault(_) => 96,
-            CliError::BadUsage => 103,
         }
     }
 
-    /// The name of the refusal, as `BadUsage`.
+    /// The name of the refusal, as `FileFault`.
     pub fn name(&self) -> &'static str
         ensures { result.now ≡ name_of self.now }
     {
         match self {
             CliError::NoMemory => "NoMemory",
+            CliError::Usage(error) => error.name(),
             CliError::Dump(error) => error.name(),
             CliError::Load(error) => error.name(),
             CliError::FileFault(_) => "FileFault",
-            CliError::BadUsage => "BadUsage",
         }
     }
 
@@ -63,7 +64,7 @@ impl CliError {
         match self {
             CliError::FileFault(path) => Some(Arg::Name(path)),
             CliError::Load(error) => error.arg(),
-            CliError::NoMemory | CliError::Dump(_) | CliError::BadUsage => None,
+            CliError::NoMemory | CliError::Usage(_) | CliError::Dump(_) => None,
         }
     }
 
@@ -76,6 +77,14 @@ impl CliError {
         let mut line = fault_line(alloc, number, name, self.arg())?;
         line.push(b'\n')?;
         Ok(line)
+    }
+}
+
+impl From<UsageError> for CliError {
+    ghost from_gives = { λ e result. result ≡ Usage e };
+
+    fn from(error: UsageError) -> CliError {
+        CliError::Usage(error)
     }
 }
 

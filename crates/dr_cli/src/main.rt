@@ -4,18 +4,15 @@
 ghost use Rattle.std.specs.Prelude.{◌≡◌, ◌≤◌, IfOk, length};
 
 mod cli_error;
-mod command;
-mod named;
 mod terminal;
-mod usage;
 
 use cli_error::CliError;
-use command::Command;
 use dr_base::Text;
 use dr_dump::dump_text;
 use dr_lines::{Counted, write_out};
 use dr_load::{load_run, load_watched};
 use dr_script::run_script;
+use dr_usage::{Command, USAGE, UsageError, command_of};
 use std::alloc::Global;
 use std::io::{IsTerminal, Read, Write};
 use std::process::ExitCode;
@@ -25,13 +22,12 @@ use std::thread::Threads;
 use std::time::Clock;
 use std::{env, fs, io};
 use terminal::Terminal;
-use usage::{USAGE, command_of};
 
 fn main(rt: HostRuntime) -> ExitCode {
     let is_watched = rt.stderr().is_terminal();
     match run(&rt, rt.stdin(), rt.stdout(), is_watched) {
         Ok(status) => ExitCode::from(status),
-        Err(CliError::BadUsage) => {
+        Err(CliError::Usage(UsageError::BadUsage)) => {
             let _ = rt.eprintln(USAGE);
             ExitCode::from(2)
         }
@@ -77,7 +73,7 @@ fn arguments<R: Env + AllocGlobal>(rt: &R) -> Result<Vec<String>, CliError> {
     match env::args(rt) {
         Ok(arguments) => Ok(arguments.skip(1).collect(rt.alloc())?),
         Err(error) if error.kind() == io::ErrorKind::OutOfMemory => Err(CliError::NoMemory),
-        Err(_) => Err(CliError::BadUsage),
+        Err(_) => Err(CliError::Usage(UsageError::BadUsage)),
     }
 }
 

@@ -1,10 +1,8 @@
 -- The rows of an image, and what is read of each.
-use Rattle.std.proofs.Common.{◌≡◌, ◌∙◌, refl, ap, ℕ, ℤ, pos, ◌+◌, ◌<◌, List, [], length, map, get_or, Some, slice_get, arith}
-use Rattle.std.specs.List.{range_with_len}
+use Rattle.std.proofs.Common.{◌≡◌, ◌∙◌, refl, ap, ℕ, ℤ, pos, ◌<◌, List, [], length, get_or, Some, slice_get, arith}
 use Rattle.std.proofs.lemmas.List.{get_or-map, length-map}
 use Rattle.std.proofs.lemmas.List.FromFn.{length-map-range_with_len, get_or-map-range_with_len}
 use Rattle.std.proofs.lemmas.Option.{slice_get-get_or}
-use Rattle.dr_base.specs.declared.row.Row.{Row}
 use Rattle.dr_image.specs.Table.{Table, Column, no_column, row_at, rows_of, value_at}
 use Rattle.dr_image.specs.Checked.{column_at}
 

@@ -2,4 +2,5 @@ pub mod Ranged
 pub mod Lying
 pub mod LyingRows
 pub mod Held
-pub mod Pinned
+pub mod Alike
+pub mod Shared

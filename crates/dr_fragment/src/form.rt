@@ -9,6 +9,7 @@ pub enum Form<'a> {
     Rows(&'a [Row]),
     /// The columns of an image, whose rows stand in the order of their keys.
     Image(SegmentView<'a>),
-    /// The index of an open range as it was when it was pinned. Its rows stand in the order in which their keys came.
+    /// The index of a range that was open when it was pinned, or sealed and not merged yet. Its rows stand in the order in which
+    /// their keys came.
     Index(&'a OpenIndex),
 }

@@ -6,7 +6,7 @@ ghost use Rattle.dr_fragment.specs.Ranged.{range_in, range_sealed, range_opened}
 ghost use Rattle.dr_fragment.specs.Held.{StandsFor, IsImageAt, IsRangeOpened};
 
 use crate::form::Form;
-use crate::ordered_rows::OrderedRows;
+use crate::lying_rows::{LyingRows, are_equal};
 use crate::rows::Rows;
 use dr_base::Row;
 use dr_image::{ImageError, SegmentView};
@@ -132,12 +132,13 @@ impl Fragment {
     }
 
     /// The rows in the order of their keys, lent. It takes constant time and no memory.
-    pub fn ordered(&self) -> OrderedRows<'_>
-        ensures { result ≡ self.now.rows }
+    pub fn ordered(&self) -> LyingRows<'_>
+        ensures rows { result ≡ self.now.rows }
+        ensures in_order { IsInOrder self.now.rows }
     {
         match &self.held {
-            Held::Rows(rows) => OrderedRows::lent(rows.as_slice()),
-            Held::Image(bytes) => OrderedRows::in_image(SegmentView::of_image(bytes)),
+            Held::Rows(rows) => LyingRows::lent(rows.as_slice()),
+            Held::Image(bytes) => LyingRows::in_image(SegmentView::of_image(bytes)),
         }
     }
 
@@ -201,19 +202,4 @@ fn range_of_image(bytes: &[u8]) -> (i64, usize, usize)
     let view = SegmentView::of_image(bytes);
     let (from, to) = view.range();
     (view.chunk(), from as usize, to as usize)
-}
-
-fn are_equal(rows: &OrderedRows, others: &OrderedRows) -> bool
-    ensures { IsTrue result ↔ (rows.now ≡ others.now) }
-{
-    let count = rows.len();
-    if others.len() != count {
-        return false;
-    }
-    for i in 0..count {
-        if !rows.row(i).equals(&others.row(i)) {
-            return false;
-        }
-    }
-    true
 }

@@ -4,21 +4,22 @@ ghost use Rattle.std.specs.Cmp.Lexicographic.{slice_cmp};
 ghost use Rattle.dr_base.specs.Order.{key_cmp};
 ghost use Rattle.dr_image.specs.Table.{row_at};
 
-use dr_base::{Key, Numbers, Row};
+use dr_base::{Numbers, Row, Text};
 use dr_image::SegmentView;
+use dr_rollup::KeyOf;
 use std::alloc::{AllocError, Global};
 use std::cmp::Ordering;
 use std::marker::Model;
 
-/// A row where it lies: a key and metrics that were made, or a row in the columns of an image, of which nothing is copied. A
-/// contract sees the row. Each reader takes constant time and no memory, but for those that give a copy.
+/// A row where it lies: a time, dimension values and metrics that were made, or a row in the columns of an image, of which nothing
+/// is copied. A contract sees the row. Each reader takes constant time and no memory, but for those that give a copy.
 #[derive(Drop)]
 pub struct RowRef<'a>(Lying<'a>);
 
 // Where a row lies.
 #[derive(Drop)]
 pub(crate) enum Lying<'a> {
-    Made(&'a Key, &'a [i64]),
+    Made(i64, &'a [Text], &'a [i64]),
     InImage(&'a SegmentView<'a>, usize),
 }
 
@@ -38,14 +39,18 @@ impl<'a> RowRef<'a> {
     pub fn of_row(row: &'a Row) -> RowRef<'a>
         ensures { result ≡ row.now }
     {
-        RowRef::of_parts(&row.key, row.metrics.as_slice())
+        RowRef::of_parts(
+            row.key.time,
+            row.key.dims.as_slice(),
+            row.metrics.as_slice(),
+        )
     }
 
-    /// The row of a key and metrics.
-    pub fn of_parts(key: &'a Key, metrics: &'a [i64]) -> RowRef<'a>
-        ensures { result ≡ record { key = key.now; metrics = metrics.now } }
+    /// The row of a time in milliseconds since the epoch, dimension values and metrics.
+    pub fn of_parts(time: i64, dims: &'a [Text], metrics: &'a [i64]) -> RowRef<'a>
+        ensures { result ≡ record { key = record { time = time; dims = dims.now }; metrics = metrics.now } }
     {
-        RowRef(Lying::Made(key, metrics))
+        RowRef(Lying::Made(time, dims, metrics))
     }
 
     /// The same row where it lies.
@@ -53,7 +58,7 @@ impl<'a> RowRef<'a> {
         ensures { result ≡ self.now }
     {
         match self.0 {
-            Lying::Made(key, metrics) => RowRef::of_parts(key, metrics),
+            Lying::Made(time, dims, metrics) => RowRef::of_parts(time, dims, metrics),
             Lying::InImage(view, i) => RowRef::in_image(view, i),
         }
     }
@@ -66,12 +71,12 @@ impl<'a> RowRef<'a> {
         RowRef(Lying::InImage(view, i))
     }
 
-    /// The key and the metrics, where they were made; none where the row lies in an image.
-    pub fn parts(&self) -> Option<(&Key, &[i64])>
-        ensures { IfSome result (λ parts. record { key = parts.0.now; metrics = parts.1.now } ≡ self.now) }
+    /// The time, the dimension values and the metrics, where they were made; none where the row lies in an image.
+    pub fn parts(&self) -> Option<(i64, &[Text], &[i64])>
+        ensures { IfSome result (λ parts. record { key = record { time = parts.0; dims = parts.1.now }; metrics = parts.2.now } ≡ self.now) }
     {
         match &self.0 {
-            Lying::Made(key, metrics) => Some((key, metrics)),
+            Lying::Made(time, dims, metrics) => Some((*time, dims, metrics)),
             Lying::InImage(_, _) => None,
         }
     }
@@ -81,7 +86,7 @@ impl<'a> RowRef<'a> {
         ensures { result ≡ self.now.key.time }
     {
         match &self.0 {
-            Lying::Made(key, _) => key.time,
+            Lying::Made(time, _, _) => *time,
             Lying::InImage(view, i) => view.time(*i),
         }
     }
@@ -91,7 +96,7 @@ impl<'a> RowRef<'a> {
         ensures { result ≡ length self.now.key.dims }
     {
         match &self.0 {
-            Lying::Made(key, _) => key.dims.len(),
+            Lying::Made(_, dims, _) => dims.len(),
             Lying::InImage(view, _) => view.dimension_count(),
         }
     }
@@ -102,7 +107,7 @@ impl<'a> RowRef<'a> {
         ensures { result.now ≡ get_or self.now.key.dims d [] }
     {
         match &self.0 {
-            Lying::Made(key, _) => key.dims.as_slice()[d].as_str(),
+            Lying::Made(_, dims, _) => dim_at(dims, d),
             Lying::InImage(view, i) => view.dim(d, *i),
         }
     }
@@ -112,7 +117,7 @@ impl<'a> RowRef<'a> {
         ensures { result ≡ length self.now.metrics }
     {
         match &self.0 {
-            Lying::Made(_, metrics) => metrics.len(),
+            Lying::Made(_, _, metrics) => metrics.len(),
             Lying::InImage(view, _) => view.metric_count(),
         }
     }
@@ -123,7 +128,7 @@ impl<'a> RowRef<'a> {
         ensures { result ≡ get_or self.now.metrics m (pos 0) }
     {
         match &self.0 {
-            Lying::Made(_, metrics) => metric_at(metrics, m),
+            Lying::Made(_, _, metrics) => metric_at(metrics, m),
             Lying::InImage(view, i) => view.metric(m, *i),
         }
     }
@@ -146,7 +151,7 @@ impl<'a> RowRef<'a> {
         ensures { IfOk result (λ row. row ≡ self.now) }
     {
         match &self.0 {
-            Lying::Made(key, metrics) => copied(alloc, key, metrics),
+            Lying::Made(time, dims, metrics) => copied(alloc, *time, dims, metrics),
             Lying::InImage(view, i) => view.row(alloc, *i),
         }
     }
@@ -175,6 +180,13 @@ impl<'a> RowRef<'a> {
     }
 }
 
+fn dim_at(dims: &[Text], d: usize) -> &str
+    requires { d < length dims.now }
+    ensures { result.now ≡ get_or dims.now d [] }
+{
+    dims[d].as_str()
+}
+
 fn metric_at(metrics: &[i64], m: usize) -> i64
     requires { m < length metrics.now }
     ensures { result ≡ get_or metrics.now m (pos 0) }
@@ -182,11 +194,11 @@ fn metric_at(metrics: &[i64], m: usize) -> i64
     metrics[m]
 }
 
-fn copied(alloc: Global, key: &Key, metrics: &[i64]) -> Result<Row, AllocError>
-    ensures { IfOk result (λ row. row ≡ record { key = key.now; metrics = metrics.now }) }
+fn copied(alloc: Global, time: i64, dims: &[Text], metrics: &[i64]) -> Result<Row, AllocError>
+    ensures { IfOk result (λ row. row ≡ record { key = record { time = time; dims = dims.now }; metrics = metrics.now }) }
 {
     Ok(Row {
-        key: key.copy()?,
+        key: KeyOf { time, dims }.copy(alloc)?,
         metrics: Numbers::from_vec(Vec::from_slice(alloc, metrics)?),
     })
 }

@@ -38,8 +38,8 @@ fn references<'a>(arrived: &Arrived<'a>) -> Result<Vec<RowRef<'a>>, AllocError>
 {
     let mut rows = Vec::with_capacity(arrived.allocator(), arrived.len())?;
     for i in 0..arrived.len() {
-        let (key, metrics) = arrived.row(i);
-        rows.push(RowRef::of_parts(key, metrics))?;
+        let (time, dims, metrics) = arrived.row(i);
+        rows.push(RowRef::of_parts(time, dims, metrics))?;
     }
     Ok(rows)
 }

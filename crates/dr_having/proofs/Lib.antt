@@ -1,1 +1,4 @@
 pub mod Levels
+pub mod Truths
+pub mod Narrowing
+pub mod Together

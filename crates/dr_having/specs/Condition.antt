@@ -1,5 +1,5 @@
 -- The condition that a `having` stands for, and the groups that meet it (Apache Druid documentation, groupBy queries: having).
-use Rattle.std.specs.Prelude.{ℕ, ℤ, Bool, true, false, not, ◌||◌, ◌&&◌, List, [], ◌∷◌, map, box_value}
+use Rattle.std.specs.Prelude.{ℕ, ℤ, Bool, true, false, not, ◌||◌, ◌&&◌, List, [], ◌∷◌, Option, Some, None, map, box_value}
 use Rattle.dr_having.specs.declared.group_value.GroupValue.{GroupValue}
 use Rattle.dr_having.specs.declared.dimension_value.DimensionValue.{DimensionValue}
 use Rattle.dr_having.specs.declared.having.Having.{Having, fold-Having}
@@ -40,12 +40,19 @@ abbrev mutual
   meets_some dims values no_conditions = false
   meets_some dims values (condition c cs) = meets dims values c || meets_some dims values cs
 
+-- the members of an `and` or an `or` in their order: the comparisons of aggregations among them, and the others, which stand apart
+abbrev pub members_of : List (Option GroupValue) → List Condition → List Condition
+members_of [] cs = cs
+members_of (Some c ∷ ms) cs = aggregation c ∷ members_of ms cs
+members_of (None ∷ ms) [] = members_of ms []
+members_of (None ∷ ms) (c ∷ cs) = c ∷ members_of ms cs
+
 -- one level, with the conditions inside already seen
 abbrev pub condition_step : Having-F Condition → Condition
 condition_step (Having-F.Aggregation c) = aggregation c
 condition_step (Having-F.Dimension c) = dimension c
-condition_step (Having-F.And all) = every (conditions_of all.items)
-condition_step (Having-F.Or all) = some (conditions_of all.items)
+condition_step (Having-F.And comparisons others) = every (conditions_of (members_of comparisons others.items))
+condition_step (Having-F.Or comparisons others) = some (conditions_of (members_of comparisons others.items))
 condition_step (Having-F.Not inner) = opposite (box_value inner)
 
 -- the condition that a `having` stands for

@@ -1,5 +1,7 @@
 pub mod Refusal
 pub mod Meeting
+pub mod Bounds
+pub mod Compared
 pub mod Condition
 pub mod LeafOf
 pub mod HavingOf

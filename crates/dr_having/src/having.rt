@@ -1,8 +1,10 @@
-ghost use Rattle.std.specs.Prelude.{◌≡◌};
-ghost use Rattle.dr_having.specs.Condition.{condition_in, conditions_in, meets as meets_of, meets_every as meets_every_of, meets_some as meets_some_of};
+ghost use Rattle.std.specs.Prelude.{◌≡◌, map};
+ghost use Rattle.dr_having.specs.Condition.{condition_in, conditions_of, members_of, meets as meets_of, meets_every as meets_every_of, meets_some as meets_some_of};
 
 use crate::dimension_value::DimensionValue;
+use crate::every_comparison::EveryComparison;
 use crate::group_value::GroupValue;
+use crate::some_comparison::SomeComparison;
 use dr_base::Text;
 
 /// A condition on the groups of a groupBy (Apache Druid documentation, groupBy queries: having), made for the outputs of one
@@ -13,17 +15,19 @@ pub enum Having {
     Aggregation(GroupValue),
     /// `dimSelector`: the value of a dimension is a text.
     Dimension(DimensionValue),
-    /// `and`: all of these hold, as they do where there are none.
-    And(Vec<Having>),
-    /// `or`: one of these holds, as none does where there are none.
-    Or(Vec<Having>),
+    /// `and`: all of these hold, as they do where there are none. The comparisons of aggregations among its members are asked
+    /// together, and the others stand apart.
+    And(EveryComparison, Vec<Having>),
+    /// `or`: one of these holds, as none does where there are none. Its comparisons of aggregations are asked together too.
+    Or(SomeComparison, Vec<Having>),
     /// `not`: this doesn't hold.
     Not(Box<Having>),
 }
 
 impl Having {
     /// Whether a group meets the condition: its dimension values and the values of its aggregations, each in the order of
-    /// the query. It takes no memory, and time by the conditions and the bytes of the values.
+    /// the query. It takes no memory, and expected time by the conditions and the bytes of the values. The comparisons among
+    /// the members of one `and` or `or` count as one condition for each aggregation that they name.
     #[cycle(meeting)]
     pub fn meets(&self, dims: &[Text], values: &[i64]) -> bool
         ensures { result ≡ meets_of dims.now values.now (condition_in self.now) }
@@ -31,18 +35,31 @@ impl Having {
         match self {
             Having::Aggregation(condition) => condition.holds_of(values),
             Having::Dimension(condition) => condition.holds_of(dims),
-            Having::And(conditions) => meets_every(conditions.as_slice(), dims, values),
-            Having::Or(conditions) => meets_some(conditions.as_slice(), dims, values),
+            Having::And(comparisons, others) => {
+                meets_every(comparisons, others.as_slice(), dims, values)
+            }
+            Having::Or(comparisons, others) => {
+                meets_some(comparisons, others.as_slice(), dims, values)
+            }
             Having::Not(condition) => !condition.meets(dims, values),
         }
     }
 }
 
+// Whether all the comparisons hold, and all the members that stand apart.
 #[cycle(meeting)]
-fn meets_every(conditions: &[Having], dims: &[Text], values: &[i64]) -> bool
-    ensures { result ≡ meets_every_of dims.now values.now (conditions_in conditions.now) }
+fn meets_every(
+    comparisons: &EveryComparison,
+    others: &[Having],
+    dims: &[Text],
+    values: &[i64],
+) -> bool
+    ensures { result ≡ meets_every_of dims.now values.now (conditions_of (members_of comparisons.now (map condition_in others.now))) }
 {
-    for condition in conditions {
+    if !comparisons.hold_of(values) {
+        return false;
+    }
+    for condition in others {
         if !condition.meets(dims, values) {
             return false;
         }
@@ -50,11 +67,20 @@ fn meets_every(conditions: &[Having], dims: &[Text], values: &[i64]) -> bool
     true
 }
 
+// Whether one of the comparisons holds, or one of the members that stand apart.
 #[cycle(meeting)]
-fn meets_some(conditions: &[Having], dims: &[Text], values: &[i64]) -> bool
-    ensures { result ≡ meets_some_of dims.now values.now (conditions_in conditions.now) }
+fn meets_some(
+    comparisons: &SomeComparison,
+    others: &[Having],
+    dims: &[Text],
+    values: &[i64],
+) -> bool
+    ensures { result ≡ meets_some_of dims.now values.now (conditions_of (members_of comparisons.now (map condition_in others.now))) }
 {
-    for condition in conditions {
+    if comparisons.hold_of(values) {
+        return true;
+    }
+    for condition in others {
         if condition.meets(dims, values) {
             return true;
         }

@@ -2,16 +2,25 @@
 //! a group.
 #![tactic(auto)]
 
+mod arranging;
 mod comparison;
 mod dimension_value;
+mod every_bound;
+mod every_comparison;
+mod extremes;
 mod group_value;
 mod having;
 mod having_error;
 mod leaf_reading;
+mod number_set;
 mod reading;
+mod some_bound;
+mod some_comparison;
 
 pub use comparison::Comparison;
 pub use dimension_value::{DimensionValue, text_at};
+pub use every_comparison::EveryComparison;
 pub use group_value::{GroupValue, number_at};
 pub use having::Having;
 pub use having_error::HavingError;
+pub use some_comparison::SomeComparison;

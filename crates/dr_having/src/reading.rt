@@ -5,6 +5,7 @@ ghost use Rattle.dr_having.specs.Condition.{condition_in};
 ghost use Rattle.dr_having.specs.HavingOf.{other_by, simple_by, too_deep_of, specs_of, spec_of, level_of, having_at, having_of};
 ghost use Rattle.dr_having.specs.Refusal.{Gives};
 
+use crate::arranging::{every_of, some_of};
 use crate::having::Having;
 use crate::having_error::HavingError;
 use crate::leaf_reading::{aggregation, comparison_of, dimension, no_unlisted};
@@ -29,8 +30,8 @@ impl Having {
     /// - 76 with the first key in byte order that is not one of these.
     ///
     /// A field that is required and absent or null is 2 `Missing` with its name, and one of another kind 3 `WrongKind`. 0
-    /// `NoMemory` may come in the place of any other answer. It takes memory for the conditions, and time by the bytes of
-    /// the value and, condition by condition, by the outputs.
+    /// `NoMemory` may come in the place of any other answer. It takes memory for the conditions, and expected time by
+    /// the bytes of the value and, condition by condition, by the outputs.
     #[tactic(auto, unfolding(crate::specs::HavingOf::having_of))]
     pub fn parse(
         alloc: Global,
@@ -95,10 +96,10 @@ fn level(
     let kind = text_field(alloc, value, "type")?;
     if kind == "and" {
         let conditions = specs(alloc, value, members, dimensions, aggregations, inside)?;
-        Ok(Having::And(conditions))
+        Ok(every_of(alloc, conditions)?)
     } else if kind == "or" {
         let conditions = specs(alloc, value, members, dimensions, aggregations, inside)?;
-        Ok(Having::Or(conditions))
+        Ok(some_of(alloc, conditions)?)
     } else if kind == "not" {
         let condition = spec(alloc, value, members, dimensions, aggregations, inside)?;
         Ok(Having::Not(Box::new(alloc, condition)?))

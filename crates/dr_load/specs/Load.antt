@@ -18,13 +18,18 @@ use Rattle.dr_load.specs.declared.load_error.LoadError.TheVariants.{Spec, Query,
 abbrev pub only_matching : Asked → Result Asked LoadError
 only_matching q = if is_matching q then Ok q else Err NotMatching
 
+-- the query of a text, which has to match
+abbrev pub matching_of : Schema → List ℕ → Result Asked LoadError
+matching_of schema query = do
+  q ← passed Query (query_of schema query)
+  only_matching q
+
 -- the schema and the query, or the first refusal: that of the spec, that of the query, or that it doesn't match
 abbrev pub asked_of : List ℕ → List ℕ → Result (Schema × Asked) LoadError
 asked_of spec query = do
   schema ← passed Spec (spec_of spec)
-  q ← passed Query (query_of schema query)
-  matching ← only_matching q
-  Ok (schema, matching)
+  q ← matching_of schema query
+  Ok (schema, q)
 
 -- the line of the counts, and the line of the answer
 abbrev pub told : ℕ → ℕ → ℕ → List ℕ → List ℕ

@@ -12,13 +12,14 @@ use dr_node::{Node, Seat, Stop};
 use std::sync::Wait;
 use std::time::{Clock, Instant};
 
-/// The shortest and the longest wait between two queries, in microseconds.
-const SHORTEST_WAIT: u64 = 2_000;
+/// The shortest and the longest wait between two queries, in microseconds. While a snapshot is asked, the next event of each chunk
+/// copies that chunk's open index, so the shortest is what a person would not notice, and no less.
+const SHORTEST_WAIT: u64 = 25_000;
 
 const LONGEST_WAIT: u64 = 100_000;
 
-/// Pins and answers the query until it is stopped, and tells each time how far the load is. Between two queries it waits some
-/// tenths of what the last one took. A refusal ends it.
+/// Pins and answers the query until it is stopped, and tells each time how far the load is. Between two queries it waits nine
+/// tenths of what the last one took, and a moment at least. A refusal ends it.
 pub(crate) fn ask<B: Books, T: Wait + Clock, W: Watch>(
     rt: &T,
     node: &Node<B>,
@@ -44,7 +45,7 @@ pub(crate) fn ask<B: Books, T: Wait + Clock, W: Watch>(
             (Ok(begun), Ok(ended)) => ended.saturating_duration_since(begun).as_micros(),
             _ => 0,
         };
-        let rest = ((took / 3).min(u128::from(LONGEST_WAIT)) as u64).max(SHORTEST_WAIT);
+        let rest = ((took / 10 * 9).min(u128::from(LONGEST_WAIT)) as u64).max(SHORTEST_WAIT);
         wait(rt, stop, rest);
     }
     unreachable!()

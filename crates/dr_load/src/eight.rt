@@ -1,4 +1,5 @@
 ghost use Rattle.std.specs.Prelude.{◌≡◌, ◌+◌, ◌<◌, ◌≤◌, true, IfOk, length};
+ghost use Rattle.std.specs.Box.{box_value};
 ghost use Rattle.dr_ask.specs.Asked.{asked};
 ghost use Rattle.dr_ask.specs.MadeFor.{MadeFor};
 ghost use Rattle.dr_ask.specs.Matching.{is_matching};
@@ -9,8 +10,9 @@ use crate::node_load::load_into;
 use crate::order::Order;
 use crate::watch::Watch;
 use dr_books::{Books, Joined, NodeLedger, OneSeat};
-use dr_node::Node;
-use std::alloc::Global;
+use dr_node::{Node, Seat};
+use dr_spec::IngestSpec;
+use std::alloc::{AllocError, Global};
 use std::io::Read;
 use std::marker::Brand;
 use std::sync::Wait;
@@ -24,10 +26,10 @@ pub(crate) fn on_eight_seats<
     Q: Threads + Wait + Clock + Sync,
     N: Watch + Sync,
 >(rt: &Q, alloc: Global, order: Order<R>, watch: &N) -> Result<Vec<u8>, LoadError>
-    requires query { MadeFor order.spec (asked order.query) }
-    requires matching { is_matching (asked order.query) ≡ true }
+    requires query { MadeFor order.spec (asked (box_value order.query)) }
+    requires matching { is_matching (asked (box_value order.query)) ≡ true }
     requires files { length order.files.items ≤ 6 }
-    ensures { IfOk result (λ text. TellsRaw order.spec (asked order.query) text.items) }
+    ensures { IfOk result (λ text. TellsRaw order.spec (asked (box_value order.query)) text.items) }
 {
     of_eight::<
         Brand,
@@ -101,8 +103,8 @@ fn of_eight<
     seat_7: (Blank, Blank),
 ) -> Result<Vec<u8>, LoadError>
     requires schema { order.spec ≡ A.schema }
-    requires query { MadeFor A.schema (asked order.query) }
-    requires matching { is_matching (asked order.query) ≡ true }
+    requires query { MadeFor A.schema (asked (box_value order.query)) }
+    requires matching { is_matching (asked (box_value order.query)) ≡ true }
     requires files { length order.files.items ≤ 6 }
     requires seat_0 { (seat_0.0.name ≡ A.name) × (seat_0.0.parts ≡ A.parts) × (0 < A.parts) × (seat_0.1.name ≡ B.name) × (seat_0.1.parts ≡ B.parts) × (0 < B.parts) }
     requires seat_1 { (seat_1.0.name ≡ C.name) × (seat_1.0.parts ≡ C.parts) × (0 < C.parts) × (seat_1.1.name ≡ D.name) × (seat_1.1.parts ≡ D.parts) × (0 < D.parts) }
@@ -112,7 +114,7 @@ fn of_eight<
     requires seat_5 { (seat_5.0.name ≡ K.name) × (seat_5.0.parts ≡ K.parts) × (0 < K.parts) × (seat_5.1.name ≡ L.name) × (seat_5.1.parts ≡ L.parts) × (0 < L.parts) }
     requires seat_6 { (seat_6.0.name ≡ M.name) × (seat_6.0.parts ≡ M.parts) × (0 < M.parts) × (seat_6.1.name ≡ N2.name) × (seat_6.1.parts ≡ N2.parts) × (0 < N2.parts) }
     requires seat_7 { (seat_7.0.name ≡ O.name) × (seat_7.0.parts ≡ O.parts) × (0 < O.parts) × (seat_7.1.name ≡ P.name) × (seat_7.1.parts ≡ P.parts) × (0 < P.parts) }
-    ensures { IfOk result (λ text. TellsRaw A.schema (asked order.query) text.items) }
+    ensures { IfOk result (λ text. TellsRaw A.schema (asked (box_value order.query)) text.items) }
 {
     of_pairs::<
         OneSeat<A, B>,
@@ -162,15 +164,15 @@ fn of_pairs<
     fourth: (Y::Blanks, Z::Blanks),
 ) -> Result<Vec<u8>, LoadError>
     requires schema { order.spec ≡ S.schema }
-    requires query { MadeFor S.schema (asked order.query) }
-    requires matching { is_matching (asked order.query) ≡ true }
+    requires query { MadeFor S.schema (asked (box_value order.query)) }
+    requires matching { is_matching (asked (box_value order.query)) ≡ true }
     requires files { length order.files.items ≤ 6 }
     requires first { S.are_blank first.0 × T.are_blank first.1 }
     requires second { U.are_blank second.0 × V.are_blank second.1 }
     requires third { W.are_blank third.0 × X.are_blank third.1 }
     requires fourth { Y.are_blank fourth.0 × Z.are_blank fourth.1 }
     requires seats { ((S.seats + T.seats) + (U.seats + V.seats)) + ((W.seats + X.seats) + (Y.seats + Z.seats)) ≡ 8 }
-    ensures { IfOk result (λ text. TellsRaw S.schema (asked order.query) text.items) }
+    ensures { IfOk result (λ text. TellsRaw S.schema (asked (box_value order.query)) text.items) }
 {
     of_four::<Joined<S, T>, Joined<U, V>, Joined<W, X>, Joined<Y, Z>, R, Q, N>(
         rt,
@@ -200,13 +202,13 @@ fn of_four<
     second: (U::Blanks, V::Blanks),
 ) -> Result<Vec<u8>, LoadError>
     requires schema { order.spec ≡ S.schema }
-    requires query { MadeFor S.schema (asked order.query) }
-    requires matching { is_matching (asked order.query) ≡ true }
+    requires query { MadeFor S.schema (asked (box_value order.query)) }
+    requires matching { is_matching (asked (box_value order.query)) ≡ true }
     requires files { length order.files.items ≤ 6 }
     requires first { S.are_blank first.0 × T.are_blank first.1 }
     requires second { U.are_blank second.0 × V.are_blank second.1 }
     requires seats { (S.seats + T.seats) + (U.seats + V.seats) ≡ 8 }
-    ensures { IfOk result (λ text. TellsRaw S.schema (asked order.query) text.items) }
+    ensures { IfOk result (λ text. TellsRaw S.schema (asked (box_value order.query)) text.items) }
 {
     of_two::<Joined<S, T>, Joined<U, V>, R, Q, N>(rt, alloc, order, watch, (first, second))
 }
@@ -226,12 +228,12 @@ fn of_two<
     blanks: (S::Blanks, T::Blanks),
 ) -> Result<Vec<u8>, LoadError>
     requires schema { order.spec ≡ S.schema }
-    requires query { MadeFor S.schema (asked order.query) }
-    requires matching { is_matching (asked order.query) ≡ true }
+    requires query { MadeFor S.schema (asked (box_value order.query)) }
+    requires matching { is_matching (asked (box_value order.query)) ≡ true }
     requires files { length order.files.items ≤ 6 }
     requires blanks { S.are_blank blanks.0 × T.are_blank blanks.1 }
     requires seats { S.seats + T.seats ≡ 8 }
-    ensures { IfOk result (λ text. TellsRaw S.schema (asked order.query) text.items) }
+    ensures { IfOk result (λ text. TellsRaw S.schema (asked (box_value order.query)) text.items) }
 {
     of_books::<Joined<S, T>, R, Q, N>(rt, alloc, order, watch, blanks)
 }
@@ -245,12 +247,12 @@ fn of_books<B: Books, R: Read + Send + Drop, Q: Threads + Wait + Clock + Sync, N
     blanks: B::Blanks,
 ) -> Result<Vec<u8>, LoadError>
     requires schema { order.spec ≡ B.schema }
-    requires query { MadeFor B.schema (asked order.query) }
-    requires matching { is_matching (asked order.query) ≡ true }
+    requires query { MadeFor B.schema (asked (box_value order.query)) }
+    requires matching { is_matching (asked (box_value order.query)) ≡ true }
     requires files { length order.files.items ≤ 6 }
     requires blanks { B.are_blank blanks }
     requires seats { B.seats ≡ 8 }
-    ensures { IfOk result (λ text. TellsRaw B.schema (asked order.query) text.items) }
+    ensures { IfOk result (λ text. TellsRaw B.schema (asked (box_value order.query)) text.items) }
 {
     let Order {
         spec,
@@ -258,7 +260,23 @@ fn of_books<B: Books, R: Read + Send + Drop, Q: Threads + Wait + Clock + Sync, N
         files,
         workers,
     } = order;
+    let (node, seats, spec) = opened::<B>(alloc, spec, blanks)?;
+    load_into(rt, alloc, node, seats, &spec, &query, files, workers, watch)
+}
+
+// A node of the books with its seats, and the spec once more.
+fn opened<B: Books>(
+    alloc: Global,
+    spec: IngestSpec,
+    blanks: B::Blanks,
+) -> Result<(Node<B>, Vec<Seat<B>>, IngestSpec), AllocError>
+    requires schema { spec ≡ B.schema }
+    requires blanks { B.are_blank blanks }
+    requires seats { B.seats ≡ 8 }
+    ensures seats { IfOk result (λ r. length r.1.items ≡ 8) }
+    ensures spec { IfOk result (λ r. r.2 ≡ B.schema) }
+{
     let copy = spec.copy()?;
     let (node, seats) = Node::<B>::new(alloc, spec, blanks)?;
-    load_into(rt, alloc, node, seats, &copy, &query, files, workers, watch)
+    Ok((node, seats, copy))
 }

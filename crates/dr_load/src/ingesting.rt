@@ -1,13 +1,14 @@
-ghost use Rattle.std.specs.Prelude.{◌≡◌, IfOk};
+ghost use Rattle.std.specs.Prelude.{◌≡◌};
 
 use crate::ingested::Ingested;
 use crate::load_error::LoadError;
+use crate::tally::Tally;
 use dr_books::Books;
 use dr_events::{EventReader, Unparseable};
 use dr_lines::{Counted, LineReader, NextLine};
 use dr_node::{Node, Seat};
 use dr_spec::IngestSpec;
-use std::alloc::{AllocError, Global};
+use std::alloc::Global;
 use std::io::Read;
 use std::sync::Wait;
 
@@ -23,35 +24,34 @@ pub(crate) fn ingest<B: Books, R: Read + Drop, T: Wait>(
 ) -> Ingested
     requires { spec.now ≡ B.schema }
 {
-    let mut told = Ingested {
+    let mut tally = Tally {
         unparseable: 0,
         thrown_away: 0,
-        refusal: None,
     };
     let mut file = Counted::new(file);
-    match readers(alloc, spec) {
-        Ok((mut lines, mut events)) => {
-            let ended = ingest_lines(
-                rt,
-                alloc,
-                node,
-                seat,
-                &mut file,
-                &mut lines,
-                &mut events,
-                &mut told,
-            );
-            told.refusal = ended.err();
-        }
-        Err(_) => told.refusal = Some(LoadError::NoMemory),
+    let ended = ingest_file(rt, alloc, node, spec, seat, &mut file, &mut tally);
+    Ingested {
+        unparseable: tally.unparseable,
+        thrown_away: tally.thrown_away,
+        refusal: ended.err(),
     }
-    told
 }
 
-fn readers(alloc: Global, spec: &IngestSpec) -> Result<(LineReader, EventReader), AllocError>
-    ensures { IfOk result (λ r. r.1 ≡ spec.now) }
+// The same, with the lines counted that became no event of the node.
+fn ingest_file<B: Books, R: Read, T: Wait>(
+    rt: &T,
+    alloc: Global,
+    node: &Node<B>,
+    spec: &IngestSpec,
+    seat: &mut Seat<B>,
+    file: &mut Counted<R>,
+    tally: &mut Tally,
+) -> Result<(), LoadError>
+    requires { spec.now ≡ B.schema }
 {
-    Ok((LineReader::new(alloc)?, EventReader::new(alloc, spec)?))
+    let mut lines = LineReader::new(alloc)?;
+    let mut events = EventReader::new(alloc, spec)?;
+    ingest_lines(rt, alloc, node, seat, file, &mut lines, &mut events, tally)
 }
 
 // Accepts the event of each line that is left.
@@ -63,7 +63,7 @@ fn ingest_lines<B: Books, R: Read, T: Wait>(
     file: &mut Counted<R>,
     lines: &mut LineReader,
     events: &mut EventReader,
-    told: &mut Ingested,
+    tally: &mut Tally,
 ) -> Result<(), LoadError>
     requires { events.old ≡ B.schema }
 {
@@ -74,13 +74,13 @@ fn ingest_lines<B: Books, R: Read, T: Wait>(
                     if node.keeps(&event) {
                         node.accept(rt, seat, event)?;
                     } else {
-                        told.thrown_away = told.thrown_away.saturating_add(1);
+                        tally.thrown_away = tally.thrown_away.saturating_add(1);
                     }
                 }
                 Err(Unparseable::NoMemory) => return Err(LoadError::NoMemory),
-                Err(_) => told.unparseable = told.unparseable.saturating_add(1),
+                Err(_) => tally.unparseable = tally.unparseable.saturating_add(1),
             },
-            NextLine::TooLong => told.unparseable = told.unparseable.saturating_add(1),
+            NextLine::TooLong => tally.unparseable = tally.unparseable.saturating_add(1),
             NextLine::End => return Ok(()),
             NextLine::Failed => return Err(LoadError::ReadFault),
         }

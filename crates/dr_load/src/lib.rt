@@ -14,6 +14,7 @@ mod node_load;
 mod order;
 mod progress;
 mod publish_all;
+mod tally;
 mod totals;
 mod waiting;
 mod watch;

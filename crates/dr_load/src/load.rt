@@ -1,5 +1,11 @@
-ghost use Rattle.std.specs.Prelude.{◌≤◌, IfOk, length};
-ghost use Rattle.dr_load.specs.Load.{asked_of, RefusesFirst, Tells};
+ghost use Rattle.std.specs.Prelude.{◌≡◌, ◌≤◌, true, IfOk, length};
+ghost use Rattle.std.specs.Box.{box_value};
+ghost use Rattle.dr_ask.specs.Asked.{asked};
+ghost use Rattle.dr_ask.specs.MadeFor.{MadeFor};
+ghost use Rattle.dr_ask.specs.Matching.{is_matching};
+ghost use Rattle.dr_base.specs.Reading.{GivesUnless};
+ghost use Rattle.dr_load.specs.Load.{asked_of, matching_of, RefusesFirst, Tells};
+ghost use Rattle.dr_load.specs.Refusal.{is_memory};
 
 use crate::eight::on_eight_seats;
 use crate::load_error::LoadError;
@@ -7,6 +13,7 @@ use crate::order::Order;
 use crate::watch::{NoWatch, Watch};
 use dr_ask::Query;
 use dr_spec::IngestSpec;
+use std::alloc::Global;
 use std::io::Read;
 use std::sync::Wait;
 use std::thread::Threads;
@@ -57,10 +64,7 @@ pub fn load_watched<
 {
     let alloc = rt.alloc();
     let spec = IngestSpec::parse(alloc, spec)?;
-    let query = Query::parse(alloc, query, spec.schema())?;
-    if !query.is_matching() {
-        return Err(LoadError::NotMatching);
-    }
+    let query = matching(alloc, query, &spec)?;
     let order = Order {
         spec,
         query,
@@ -68,4 +72,17 @@ pub fn load_watched<
         workers,
     };
     on_eight_seats(rt, alloc, order, watch)
+}
+
+// The query of a text, which has to match.
+fn matching(alloc: Global, text: &[u8], spec: &IngestSpec) -> Result<Box<Query>, LoadError>
+    ensures value { GivesUnless is_memory (λ q. asked (box_value q)) result (matching_of spec.now text.now) }
+    ensures made { IfOk result (λ q. MadeFor spec.now (asked (box_value q))) }
+    ensures matching { IfOk result (λ q. is_matching (asked (box_value q)) ≡ true) }
+{
+    let query = Query::parse(alloc, text, spec.schema())?;
+    if !query.is_matching() {
+        return Err(LoadError::NotMatching);
+    }
+    Ok(Box::new(alloc, query)?)
 }

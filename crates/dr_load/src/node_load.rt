@@ -53,7 +53,6 @@ pub(crate) fn load_into<
         watch,
     )?;
     let counts = counts_of(told)?;
-    let snapshot = node.pin(rt, &mut seats[0])?;
     let closed = node.close(seats)?;
-    answered(rt, alloc, query, &snapshot, &closed, counts, workers)
+    answered(rt, alloc, query, &closed, counts, workers)
 }

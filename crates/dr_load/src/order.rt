@@ -5,7 +5,7 @@ use dr_spec::IngestSpec;
 #[derive(Drop)]
 pub(crate) struct Order<R> {
     pub(crate) spec: IngestSpec,
-    pub(crate) query: Query,
+    pub(crate) query: Box<Query>,
     pub(crate) files: Vec<R>,
     pub(crate) workers: u8,
 }

@@ -2,19 +2,19 @@ ghost use Rattle.std.specs.Prelude.{◌≡◌, ◌++◌, IfOk, OnOk, map};
 ghost use Rattle.dr_agg.specs.Rollup.{all_rows};
 
 use dr_base::Row;
-use dr_fragment::{OrderedRows, RowRef, SharedFragment};
+use dr_fragment::{LyingRows, RowRef, SharedFragment};
 use std::alloc::{AllocError, Global};
 
 // The rows of each input, ready to be read.
 pub(crate) fn ordered_inputs(
     alloc: Global,
     inputs: &[SharedFragment],
-) -> Result<Vec<OrderedRows<'_>>, AllocError>
+) -> Result<Vec<LyingRows<'_>>, AllocError>
     ensures { IfOk result (λ ordered. ordered.items ≡ map (λ f. f.rows) inputs.now) }
 {
     let mut ordered = Vec::with_capacity(alloc, inputs.len())?;
     for input in inputs {
-        ordered.push(input.fragment().ordered())?;
+        ordered.push(input.ordered()?)?;
     }
     Ok(ordered)
 }
@@ -22,7 +22,7 @@ pub(crate) fn ordered_inputs(
 // References to all rows, one input after another.
 pub(crate) fn rows_of_all<'a>(
     alloc: Global,
-    inputs: &'a [OrderedRows<'_>],
+    inputs: &'a [LyingRows<'_>],
 ) -> Result<Vec<RowRef<'a>>, AllocError>
     ensures { IfOk result (λ rows. rows.items ≡ all_rows inputs.now) }
 {
@@ -33,7 +33,7 @@ pub(crate) fn rows_of_all<'a>(
     Ok(rows)
 }
 
-fn push_rows<'a>(rows: &mut Vec<RowRef<'a>>, input: &'a OrderedRows<'_>) -> Result<(), AllocError>
+fn push_rows<'a>(rows: &mut Vec<RowRef<'a>>, input: &'a LyingRows<'_>) -> Result<(), AllocError>
     ensures { OnOk result (rows.new.items ≡ rows.old.items ++ input.now) }
 {
     rows.reserve(input.len())?;

@@ -59,7 +59,7 @@ fn rows_alone(inputs: &[SharedFragment]) -> Option<&[Row]>
     if inputs.len() != 1 {
         return None;
     }
-    match inputs[0].fragment().form() {
+    match inputs[0].form() {
         Form::Rows(rows) => Some(rows),
         Form::Image(_) => None,
         Form::Index(_) => None,
@@ -100,7 +100,7 @@ fn first_from(inputs: &[SharedFragment]) -> usize
 {
     match inputs.first() {
         None => 0,
-        Some(input) => input.fragment().range().0,
+        Some(input) => input.range().0,
     }
 }
 
@@ -109,7 +109,7 @@ fn last_to(inputs: &[SharedFragment]) -> usize
 {
     match inputs.last() {
         None => 0,
-        Some(input) => input.fragment().range().1,
+        Some(input) => input.range().1,
     }
 }
 

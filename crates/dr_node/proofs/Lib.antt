@@ -4,3 +4,4 @@ pub mod Serials
 pub mod Acts
 pub mod Keeping
 pub mod Closings
+mod Dropped

@@ -1,10 +1,10 @@
-use dr_base::Event;
+use dr_timeline::Snapshot;
 
 /// What closing a node shows.
-#[derive(Debug, Drop)]
+#[derive(Drop)]
 pub struct Closed {
-    /// The accepted events, in order.
-    pub stream: Vec<Event>,
+    /// The last snapshot, whose stream has all accepted events.
+    pub snapshot: Snapshot,
     /// How many of them each seat accepted, by the numbers of the seats.
     pub mine: Vec<u64>,
 }

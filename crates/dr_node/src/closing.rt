@@ -8,18 +8,19 @@ ghost use Rattle.dr_node.specs.Closing.{AreAllSeats, IsClosed};
 use crate::closed::Closed;
 use crate::node::Node;
 use crate::node_error::NodeError;
-use crate::seat::Seat;
-use dr_base::Event;
+use crate::seat::{Seat, event_at};
 use dr_books::Books;
+use dr_timeline::Snapshot;
 use std::alloc::{AllocError, Global};
 
 impl<B: Books> Node<B> {
-    /// Closes the node, and gives its stream and how many events each seat accepted: the events of the stream with the mark of
-    /// a seat are those that the seat accepted, in its order. Refusals: 94 `HistoryMismatch` where the seats aren't all seats of
-    /// the node, each once, or the events of a seat aren't those of the stream with its mark. It takes time and memory by the
-    /// events, and time by the seats times the events.
+    /// Closes the node, and gives its last snapshot and how many events each seat accepted: the events of the stream with the mark
+    /// of a seat are those that the seat accepted, in its order. Refusals: 94 `HistoryMismatch` where the seats aren't all seats
+    /// of the node, each once, or the events of a seat aren't those of the stream with its mark. It takes time by the events
+    /// once, and once more for each seat that accepted some, and copies none; memory for what `Timeline::pin` takes.
     pub fn close(self, seats: Vec<Seat<B>>) -> Result<Closed, NodeError>
-        ensures closed { IfOk result (λ closed. IsClosed B.seats seats.items closed.stream.items closed.mine.items) }
+        ensures closed { IfOk result (λ closed. IsClosed B.seats seats.items closed.snapshot.stream closed.mine.items) }
+        ensures schema { IfOk result (λ closed. closed.snapshot.schema ≡ B.schema) }
         ensures not_all { (AreAllSeats B.seats seats.items → ⊥) → result ≡ Err error.HistoryMismatch }
         ensures refusals { IfErr result (λ e. (e ≡ error.Timeline NoMemory) ⊎ (e ≡ error.HistoryMismatch)) }
     {
@@ -32,12 +33,12 @@ impl<B: Books> Node<B> {
         if !are_all(count, &seats) {
             return Err(NodeError::HistoryMismatch);
         }
-        let stream = kept.into_inner().events(alloc)?;
-        if !own_theirs(&seats, &stream) {
+        let snapshot = kept.into_inner().last()?;
+        let mine = counts(alloc, count, &snapshot)?;
+        if !own_theirs(&seats, &snapshot, mine.as_slice()) {
             return Err(NodeError::HistoryMismatch);
         }
-        let mine = counts(alloc, count, &stream)?;
-        Ok(Closed { stream, mine })
+        Ok(Closed { snapshot, mine })
     }
 }
 
@@ -69,13 +70,14 @@ fn times<B: Books>(number: usize, seats: &[Seat<B>]) -> usize
     times
 }
 
-// Whether the events of the stream with the mark of each seat are its own.
-fn own_theirs<B: Books>(seats: &[Seat<B>], stream: &[Event]) -> bool
-    ensures own { IsTrue result ↔ All (λ s. marked s.number stream.now ≡ s.own) seats.now }
+// Whether the events of the stream with the mark of each seat, of which there are so many, are its own.
+fn own_theirs<B: Books>(seats: &[Seat<B>], snapshot: &Snapshot, counts: &[u64]) -> bool
+    requires { counts.now ≡ map (λ k. length (marked k snapshot.now.stream)) (range_with_len 0 B.seats) }
+    ensures own { IsTrue result ↔ All (λ s. marked s.number snapshot.now.stream ≡ s.own) seats.now }
     ensures seats { IsTrue result → All (λ s. (s.mine ≡ length s.own) × (s.number < B.seats)) seats.now }
 {
     for seat in seats {
-        if !seat.owns(stream) {
+        if !seat.owns(snapshot, counts) {
             return false;
         }
     }
@@ -83,25 +85,14 @@ fn own_theirs<B: Books>(seats: &[Seat<B>], stream: &[Event]) -> bool
 }
 
 // How many events of the stream have the mark of each of so many seats.
-fn counts(alloc: Global, seats: usize, stream: &[Event]) -> Result<Vec<u64>, AllocError>
-    ensures { IfOk result (λ counts. counts.items ≡ map (λ k. length (marked k stream.now)) (range_with_len 0 seats)) }
+fn counts(alloc: Global, seats: usize, snapshot: &Snapshot) -> Result<Vec<u64>, AllocError>
+    requires { All (λ e. e.seat < seats) snapshot.now.stream }
+    ensures { IfOk result (λ counts. counts.items ≡ map (λ k. length (marked k snapshot.now.stream)) (range_with_len 0 seats)) }
 {
-    let mut counts = Vec::with_capacity(alloc, seats)?;
-    for mark in 0..seats {
-        counts.push(count_of(mark, stream))?;
+    let mut counts = vec![in alloc; 0u64; seats]?;
+    for number in 0..snapshot.event_count() {
+        let mark = usize::from(event_at(snapshot, number).seat);
+        counts[mark] += 1;
     }
     Ok(counts)
-}
-
-// How many events of the stream have a mark.
-fn count_of(mark: usize, stream: &[Event]) -> u64
-    ensures { result ≡ length (marked mark stream.now) }
-{
-    let mut count = 0;
-    for event in stream {
-        if usize::from(event.seat) == mark {
-            count += 1;
-        }
-    }
-    count
 }

@@ -1,4 +1,4 @@
-ghost use Rattle.std.specs.Prelude.{◌≡◌, ◌+◌, ◌<◌, ◌≤◌, ◌⊎◌, ◌∷◌, [], true, Some, replicate, length, slice_get, All, IfOk, IfErr, OnOk, OnErr};
+ghost use Rattle.std.specs.Prelude.{◌≡◌, ◌+◌, ◌<◌, ◌≤◌, ◌⊎◌, ◌∷◌, [], true, replicate, length, All, IfOk, IfErr, OnOk, OnErr};
 ghost use Rattle.dr_cuts.specs.State.{empty_state};
 ghost use Rattle.dr_timeline.specs.declared.timeline_error.TimelineError.TheVariants.{NoMemory, StreamFull};
 ghost use Rattle.dr_schema.specs.Fits.{FitsSchema};
@@ -6,11 +6,10 @@ ghost use Rattle.dr_node.specs.Seats.{marked};
 ghost use Rattle.dr_node.specs.Acting.{IsActed};
 
 use crate::act::Act;
-use dr_base::Event;
 use dr_books::Books;
 use dr_cuts::answers_over_cuts;
-use dr_timeline::{Snapshot, Timeline, TimelineError};
-use std::alloc::{AllocError, Global};
+use dr_timeline::{SharedEvent, Snapshot, Timeline, TimelineError};
+use std::alloc::AllocError;
 use std::marker::Model;
 
 /// What lies behind the lock of a node: the timeline, and the books of its seats. A contract sees the timeline, and for each
@@ -46,7 +45,7 @@ impl<B: Books> Kept<B> {
         &mut self,
         share: &mut B::Share,
         floor: u64,
-        event: Event,
+        event: SharedEvent,
     ) -> Result<u64, TimelineError>
         requires whole { B.is_whole share.old ≡ true }
         requires place { B.place share.old ≡ event.seat }
@@ -62,7 +61,7 @@ impl<B: Books> Kept<B> {
         ensures refusals { IfErr result (λ e. (e ≡ NoMemory) ⊎ (e ≡ StreamFull)) }
     {
         self.books.add(share, 0, 0);
-        self.timeline.accept(event)?;
+        self.timeline.accept_shared(event)?;
         self.timeline.in_order();
         self.timeline.versions_are_publications();
         let count = self.timeline.stats().processed;
@@ -103,29 +102,11 @@ impl<B: Books> Kept<B> {
         answer
     }
 
-    /// Copies of the events of the stream, in order. The only error is that memory ran out.
-    pub(crate) fn events(&mut self, alloc: Global) -> Result<Vec<Event>, AllocError>
-        ensures { IfOk result (λ events. All (λ e. e.seat < B.seats) events.items) }
+    /// The last snapshot.
+    pub(crate) fn last(&mut self) -> Result<Snapshot, AllocError>
+        ensures schema { IfOk result (λ snapshot. snapshot.schema ≡ B.schema) }
+        ensures marks { IfOk result (λ snapshot. All (λ e. e.seat < B.seats) snapshot.stream) }
     {
-        let snapshot = self.timeline.pin()?;
-        copies(alloc, &snapshot)
+        self.timeline.pin()
     }
-}
-
-fn copies(alloc: Global, snapshot: &Snapshot) -> Result<Vec<Event>, AllocError>
-    ensures { IfOk result (λ events. events.items ≡ snapshot.now.stream) }
-{
-    let count = snapshot.event_count();
-    let mut events = Vec::with_capacity(alloc, count)?;
-    for number in 0..count {
-        events.push(event_at(snapshot, number).copy()?)?;
-    }
-    Ok(events)
-}
-
-fn event_at(snapshot: &Snapshot, number: usize) -> &Event
-    requires { number < length snapshot.now.stream }
-    ensures { slice_get snapshot.now.stream number ≡ Some result.now }
-{
-    snapshot.event(number as u64).unwrap()
 }

@@ -16,7 +16,7 @@ use dr_base::Event;
 use dr_books::Books;
 use dr_schema::Schema;
 use dr_spec::IngestSpec;
-use dr_timeline::{Snapshot, Timeline};
+use dr_timeline::{SharedEvent, Snapshot, Timeline};
 use std::alloc::{AllocError, Global};
 use std::sync::{Mutex, Wait};
 
@@ -77,7 +77,7 @@ impl<B: Books> Node<B> {
     }
 
     /// Accepts an event with the mark of the seat that fits the node's schema. The seat has then seen the stream up to that
-    /// event, and keeps a copy of it. An error leaves the node and the seat as they were. Refusals: those of
+    /// event, and keeps a share of it. An error leaves the node and the seat as they were. Refusals: those of
     /// `Timeline::accept`. It may wait for the lock, and takes what `Timeline::accept` takes.
     pub fn accept<R: Wait>(
         &self,
@@ -93,12 +93,13 @@ impl<B: Books> Node<B> {
         ensures err { OnErr result (seat.new ≡ seat.old) }
         ensures refusals { IfErr result (λ e. (e ≡ error.Timeline NoMemory) ⊎ (e ≡ error.Timeline StreamFull)) }
     {
-        let copy = event.copy()?;
+        let event = SharedEvent::new(self.alloc, event)?;
+        let own = event.share()?;
         seat.own.reserve(1)?;
         let floor = seat.floor;
         let answer = self.kept.lock(rt).accept(&mut seat.share, floor, event);
         let count = answer?;
-        seat.own.push(copy).unwrap();
+        seat.own.push(own).unwrap();
         seat.floor = count;
         Ok(Receipt::new(count - 1))
     }

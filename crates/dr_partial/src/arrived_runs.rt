@@ -29,8 +29,8 @@ pub fn run_end(rows: &Arrived<'_>, window: &Window, from: usize) -> usize
     ensures inside { AllByRecursion (IsWithin window.now) (slice_range rows.now from result) }
 {
     for i in from..rows.len() {
-        let (key, _) = rows.row(i);
-        if !window.holds(key.time) {
+        let (time, _, _) = rows.row(i);
+        if !window.holds(time) {
             return i;
         }
     }
@@ -86,8 +86,9 @@ fn add_each(
 {
     let mut last = 0;
     for i in from..to {
-        let (key, metrics) = rows.row(i);
-        last = add_held(groups, group, last, query, bucket, key, metrics)?;
+        let (time, dims, metrics) = rows.row(i);
+        let key = KeyOf { time, dims };
+        last = add_held(groups, group, last, query, bucket, &key, metrics)?;
     }
     Ok(())
 }
@@ -145,7 +146,7 @@ fn fold_between(aggregation: &Aggregation, rows: &Arrived<'_>, from: usize, to: 
 {
     let mut folded = aggregation.kind.unit();
     for i in from..to {
-        let (_, metrics) = rows.row(i);
+        let (_, _, metrics) = rows.row(i);
         folded = aggregation
             .kind
             .combine(folded, value_read(aggregation, metrics));

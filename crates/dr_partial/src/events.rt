@@ -11,6 +11,7 @@ use crate::rows::add_selected;
 use crate::selecting::is_selected;
 use dr_ask::Query;
 use dr_base::{Event, Key, Numbers, Text};
+use dr_fragment::SharedEvent;
 use dr_rollup::push_contributions;
 use dr_schema::{Metric, Schema};
 use indexmap::IndexMap;
@@ -22,7 +23,7 @@ pub fn add_event_pieces(
     group: &mut Vec<Text>,
     query: &Query,
     schema: &Schema,
-    pieces: &[&[Event]],
+    pieces: &[&[SharedEvent]],
 ) -> Result<(), AllocError>
     requires fit { AllByRecursion (FitsSchema schema.now) (flat_map (λ p. p.now) pieces.now) }
     requires sound { IsSound (kinds_in query.now.aggregations) (map row_of groups.old.entries) }
@@ -42,14 +43,14 @@ fn add_events(
     metrics: &mut Vec<i64>,
     query: &Query,
     schema: &Schema,
-    events: &[Event],
+    events: &[SharedEvent],
 ) -> Result<(), AllocError>
     requires fit { AllByRecursion (FitsSchema schema.now) events.now }
     requires sound { IsSound (kinds_in query.now.aggregations) (map row_of groups.old.entries) }
     ensures { OnOk result (AddsAll (asked query.now) (map row_of groups.old.entries) (map (unrolled schema.now) events.now) (map row_of groups.new.entries)) }
 {
-    for event in events {
-        add_event(groups, group, metrics, query, schema, event)?;
+    for shared in events {
+        add_event(groups, group, metrics, query, schema, shared.event())?;
     }
     Ok(())
 }

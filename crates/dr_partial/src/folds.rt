@@ -5,7 +5,7 @@ ghost use Rattle.dr_rollup.specs.Entries.{row_of};
 ghost use Rattle.dr_partial.specs.Grouped.{IsSound, Adds, CombinesAt};
 ghost use Rattle.dr_partial.specs.Partial.{kinds_in};
 
-use crate::grouping::{find, key_of, put};
+use crate::grouping::{find, put};
 use dr_ask::Aggregation;
 use dr_base::{Key, Numbers};
 use dr_rollup::KeyOf;
@@ -28,7 +28,7 @@ pub fn add_folds(
         return Ok(());
     }
     let alloc = *groups.allocator();
-    let key = key_of(alloc, group)?;
+    let key = group.copy(alloc)?;
     put(groups, key, folds)
 }
 

@@ -11,7 +11,7 @@ use crate::rows::add_rows;
 use crate::views::add_view;
 use dr_ask::Query;
 use dr_base::{Key, Numbers};
-use dr_fragment::{Form, PinnedFragment};
+use dr_fragment::{Form, SharedFragment};
 use indexmap::IndexMap;
 use std::alloc::AllocError;
 
@@ -19,7 +19,7 @@ use std::alloc::AllocError;
 pub fn add_range(
     groups: &mut IndexMap<Key, Numbers>,
     query: &Query,
-    fragment: &PinnedFragment,
+    fragment: &SharedFragment,
 ) -> Result<(), AllocError>
     requires instants { AllByRecursion (λ r. IsInstant r.key.time) fragment.now.rows }
     requires sound { IsSound (kinds_in query.now.aggregations) (map row_of groups.old.entries) }

@@ -9,10 +9,10 @@ ghost use Rattle.dr_partial.specs.Partial.{kinds_in};
 use crate::reading::{combine_reading, readings};
 use crate::selecting::are_values;
 use dr_ask::{Aggregation, Dimension};
-use dr_base::{Key, Numbers, Text, Texts};
+use dr_base::{Key, Numbers, Text};
 use dr_rollup::KeyOf;
 use indexmap::IndexMap;
-use std::alloc::{AllocError, Global};
+use std::alloc::AllocError;
 
 /// Adds a row of these metrics to its group, or to a new one, and answers the place of the group. A known group takes no memory.
 pub fn add(
@@ -29,7 +29,7 @@ pub fn add(
         return Ok(place);
     }
     let alloc = *groups.allocator();
-    let key = key_of(alloc, group)?;
+    let key = group.copy(alloc)?;
     let values = readings(alloc, aggregations, metrics)?;
     let place = groups.len();
     put(groups, key, values)?;
@@ -52,16 +52,6 @@ pub fn is_group_at(
         }
         None => false,
     }
-}
-
-// The key of a group. It shares the long texts.
-pub fn key_of(alloc: Global, group: &KeyOf<'_>) -> Result<Key, AllocError>
-    ensures { IfOk result (λ key. key ≡ record { time = group.now.time; dims = group.now.dims.now }) }
-{
-    Ok(Key {
-        time: group.time,
-        dims: copies(alloc, group.dims)?,
-    })
 }
 
 // The place of a group, where there is one.
@@ -93,15 +83,4 @@ pub fn put(groups: &mut IndexMap<Key, Numbers>, key: Key, values: Numbers) -> Re
 {
     groups.insert(key, values)?;
     Ok(())
-}
-
-// Copies of texts, which share what is long.
-fn copies(alloc: Global, texts: &[Text]) -> Result<Texts, AllocError>
-    ensures { IfOk result (λ copies. copies ≡ texts.now) }
-{
-    let mut copies = Vec::with_capacity(alloc, texts.len())?;
-    for text in texts {
-        copies.push(text.copy()?)?;
-    }
-    Ok(Texts::from_vec(copies))
 }

@@ -64,11 +64,11 @@ fn add_from(
     ensures adds { IfOk result (λ to. AddsAll (asked query.now) (map row_of groups.old.entries) (slice_range rows.now from to) (map row_of groups.new.entries)) }
 {
     let _ = rows.len();
-    let (key, _) = rows.row(from);
-    if !query.intervals.contains(key.time) {
+    let (time, _, _) = rows.row(from);
+    if !query.intervals.contains(time) {
         return Ok(from + 1);
     }
-    let window = Window::around(query, key.time);
+    let window = Window::around(query, time);
     let to = run_end(rows, &window, from + 1);
     add_run(groups, group, query, rows, window.bucket, from, to)?;
     Ok(to)

@@ -22,8 +22,8 @@ use crate::rows::add_pieces;
 use crate::views::add_view;
 use dr_agg::sort_rows;
 use dr_ask::Query;
-use dr_base::{Event, Key, Numbers, Row};
-use dr_fragment::{Form, PinnedFragment};
+use dr_base::{Key, Numbers, Row};
+use dr_fragment::{Form, SharedEvent, SharedFragment};
 use dr_image::SegmentView;
 use dr_rollup::{KeyOf, OpenIndex};
 use dr_schema::Schema;
@@ -73,7 +73,7 @@ impl Partial {
         alloc: Global,
         query: &Query,
         schema: &Schema,
-        pieces: &[&[Event]],
+        pieces: &[&[SharedEvent]],
     ) -> Result<Partial, AllocError>
         requires { AllByRecursion (FitsSchema schema.now) (flat_map (λ p. p.now) pieces.now) }
         ensures value { IfOk result (λ p. p ≡ partial (asked query.now) (map (unrolled schema.now) (flat_map (λ p. p.now) pieces.now))) }
@@ -124,7 +124,7 @@ impl Partial {
     pub fn of_fragment(
         alloc: Global,
         query: &Query,
-        fragment: &PinnedFragment,
+        fragment: &SharedFragment,
     ) -> Result<Partial, AllocError>
         requires { AllByRecursion (λ r. IsInstant r.key.time) fragment.now.rows }
         ensures value { IfOk result (λ p. p ≡ partial (asked query.now) fragment.now.rows) }
@@ -143,7 +143,7 @@ impl Partial {
     pub fn add_fragment(
         self,
         query: &Query,
-        fragment: &PinnedFragment,
+        fragment: &SharedFragment,
     ) -> Result<Partial, AllocError>
         requires own { IsPartial (asked query.now) self }
         requires instants { AllByRecursion (λ r. IsInstant r.key.time) fragment.now.rows }

@@ -11,7 +11,7 @@ ghost use Rattle.dr_partial.specs.Grouped.{IsSound, Adds, CombinesAt};
 ghost use Rattle.dr_partial.specs.Known.{AreKnown, KeepsKeys, group_in, folds_read};
 ghost use Rattle.dr_partial.specs.Partial.{kinds_in, alone};
 
-use crate::grouping::{find, key_of, put};
+use crate::grouping::{find, put};
 use crate::known::Known;
 use crate::selecting::dimensions;
 use crate::source::Source;
@@ -141,7 +141,7 @@ fn put_read(
     ensures { OnOk result (map row_of groups.new.entries ≡ map row_of groups.old.entries ++ record { key = record { time = group.now.time; dims = group.now.dims.now }; metrics = folds source.now.query.now.aggregations (row_at source.now.view.now i ∷ []) } ∷ []) }
 {
     let alloc = *groups.allocator();
-    let key = key_of(alloc, group)?;
+    let key = group.copy(alloc)?;
     let values = values_read(alloc, source, i)?;
     put(groups, key, values)
 }

@@ -116,18 +116,17 @@ pub fn add_held(
     last: usize,
     query: &Query,
     bucket: i64,
-    key: &Key,
+    key: &KeyOf<'_>,
     metrics: &[i64],
 ) -> Result<usize, AllocError>
     requires held { LiesIn (asked query.now) bucket key.now.time }
     requires sound { IsSound (kinds_in query.now.aggregations) (map row_of groups.old.entries) }
-    ensures { OnOk result (AddsAll (asked query.now) (map row_of groups.old.entries) (record { key = key.now; metrics = metrics.now } ∷ []) (map row_of groups.new.entries)) }
+    ensures { OnOk result (AddsAll (asked query.now) (map row_of groups.old.entries) (record { key = record { time = key.now.time; dims = key.now.dims.now }; metrics = metrics.now } ∷ []) (map row_of groups.new.entries)) }
 {
-    let dims = key.dims.as_slice();
-    if !passes(&query.filter, key.time, dims) {
+    if !passes(&query.filter, key.time, key.dims) {
         return Ok(last);
     }
-    add_passed(groups, group, last, query, bucket, dims, metrics)
+    add_passed(groups, group, last, query, bucket, key.dims, metrics)
 }
 
 // Adds a row of these dimension values and these metrics to its group in a bucket.

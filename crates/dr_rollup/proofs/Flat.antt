@@ -1,23 +1,15 @@
 -- Rows whose values lie in one list, row after row.
-use Rattle.std.proofs.Common.{◌≡◌, ◌∙◌, sym, refl, ap, ℕ, zero, suc, ◌+◌, ◌-◌, ◌*◌, ◌<◌, ◌≤◌, ℤ, true, false, true≢false, List, [], ◌∷◌, ◌++◌, map, length, take, drop, slice_get, slice_set, Some, None, is_some, unwrap_or, arith, append_assoc, min, get_or, ◌||◌, if◌then◌else◌}
+use Rattle.std.proofs.Common.{◌≡◌, ◌∙◌, sym, refl, ap, ℕ, zero, suc, ◌+◌, ◌-◌, ◌*◌, ◌<◌, ◌≤◌, ℤ, true≢false, List, [], ◌∷◌, ◌++◌, length, take, drop, slice_get, slice_set, Some, is_some, unwrap_or, arith, append_assoc, min, get_or}
 use Rattle.std.proofs.Math.Nat.{suc-mul}
 use Rattle.std.proofs.Math.Seq.{take-add}
 use Rattle.std.proofs.lemmas.List.{take_all, take_at, drop_at, take-append-le, drop-append-le, drop-drop, length-drop, length-take, length-append}
-use Rattle.std.specs.List.{position, list_any, AllByRecursion, IsDistinct}
 use Rattle.dr_base.specs.declared.key.Key.{Key}
-use Rattle.dr_rollup.specs.WideRows.{rows_from, written}
-use Rattle.dr_base.proofs.Equality.{keys_decide}
-use Rattle.dr_rollup.specs.Entries.{same_keys, HasKeyAt, NoneHas, Combines, combined_row}
+use Rattle.dr_rollup.specs.WideRows.{keys_from, rows_from, written}
+use Rattle.dr_rollup.specs.Entries.{Combines, combined_row}
 use Rattle.dr_rollup.specs.Unrolled.{contributions}
 use Rattle.dr_agg.specs.declared.kind.Kind.{Kind}
 use Rattle.dr_agg.specs.Combination.{combine_columns}
 use Rattle.dr_agg.proofs.ColumnLaws.{length-combine_columns}
-use Rattle.dr_rollup.specs.Lookup.{same_parts}
-use Rattle.dr_rollup.proofs.Keys.{none-any, parts-same_keys}
-use Rattle.dr_rollup.proofs.Rows.{same_keys-comm}
-use Rattle.indexmap.specs.IndexSet.{insert_key}
-use Rattle.std.proofs.lemmas.Bool.{or_parts}
-use Rattle.std.proofs.lemmas.List.Quantifiers.{position-Some}
 
 -- ---- places
 
@@ -32,40 +24,50 @@ pub counted : (w : ℕ) (ks : List Key) (vs : List ℤ) → length (rows_from w 
 counted w [] vs = refl
 counted w (k ∷ ks) vs = ap suc (counted w ks (drop w vs))
 
-pub keys-of : (w : ℕ) (ks : List Key) (vs : List ℤ) → map (λ r. r.key) (rows_from w ks vs) ≡ ks
-keys-of w [] vs = refl
-keys-of w (k ∷ ks) vs = ap (λ l. k ∷ l) (keys-of w ks (drop w vs))
+pub keys-counted : (n : ℕ) (ts : List ℤ) (ds : List (List ℕ)) → length (keys_from n ts ds) ≡ length ts
+keys-counted n [] ds = refl
+keys-counted n (t ∷ ts) ds = ap suc (keys-counted n ts (drop n ds))
 
-pub row-at : (w : ℕ) (ks : List Key) (vs : List ℤ) (p : ℕ) (k : Key) → slice_get ks p ≡ Some k → slice_get (rows_from w ks vs) p ≡ Some (record { key = k; metrics = take w (drop (p * w) vs) })
-row-at w [] vs p k at = absurd (true≢false (sym (ap is_some at)))
-row-at w (x ∷ ks) vs zero k at = ap (λ o. Some (record { key = unwrap_or o k; metrics = take w vs })) at ∙ ap (λ n. Some (record { key = k; metrics = take w (drop n vs) })) (none-of-none w)
-  where
-    none-of-none : (w : ℕ) → 0 ≡ 0 * w
-    none-of-none w = omega arith
-row-at w (x ∷ ks) vs (suc p) k at =
-    row-at w ks (drop w vs) p k at
-    ∙ ap (λ l. Some (record { key = k; metrics = take w l })) (drop-drop (p * w) w vs ∙ ap (λ n. drop n vs) (turned (p * w) w ∙ sym (suc-mul p w)))
+pub rows-counted : (n w : ℕ) (ts : List ℤ) (ds : List (List ℕ)) (vs : List ℤ) → length (rows_from w (keys_from n ts ds) vs) ≡ length ts
+rows-counted n w ts ds vs = counted w (keys_from n ts ds) vs ∙ keys-counted n ts ds
+
+-- what lies behind one more piece
+behind : {X : Type 0} (w p : ℕ) (vs : List X) → drop (p * w) (drop w vs) ≡ drop (suc p * w) vs
+behind w p vs = drop-drop (p * w) w vs ∙ ap (λ n. drop n vs) (turned (p * w) w ∙ sym (suc-mul p w))
   where
     turned : (m n : ℕ) → n + m ≡ m + n
     turned m n = omega arith
 
-pub none-of : (k : Key) (w : ℕ) (ks : List Key) (vs : List ℤ) → NoneHas k (rows_from w ks vs) → AllByRecursion (λ j. same_keys k j ≡ false) ks
-none-of k w [] vs all = tt
-none-of k w (j ∷ ks) vs all = (all.0, none-of k w ks (drop w vs) all.1)
+first-piece : {X : Type 0} (w : ℕ) (vs : List X) → take w vs ≡ take w (drop (0 * w) vs)
+first-piece w vs = ap (λ n. take w (drop n vs)) (none-of-none w)
+  where
+    none-of-none : (w : ℕ) → 0 ≡ 0 * w
+    none-of-none w = omega arith
 
-pub none-has : (k : Key) (w : ℕ) (ks : List Key) (vs : List ℤ) → AllByRecursion (λ j. same_keys k j ≡ false) ks → NoneHas k (rows_from w ks vs)
-none-has k w [] vs all = tt
-none-has k w (j ∷ ks) vs all = (all.0, none-has k w ks (drop w vs) all.1)
+pub key-at : (n : ℕ) (ts : List ℤ) (ds : List (List ℕ)) (p : ℕ) (t : ℤ) → slice_get ts p ≡ Some t → slice_get (keys_from n ts ds) p ≡ Some (record { time = t; dims = take n (drop (p * n) ds) })
+key-at n [] ds p t at = absurd (true≢false (sym (ap is_some at)))
+key-at n (x ∷ ts) ds zero t at = ap (λ o. Some (record { time = unwrap_or o t; dims = take n ds })) at ∙ ap (λ l. Some (record { time = t; dims = l })) (first-piece n ds)
+key-at n (x ∷ ts) ds (suc p) t at = key-at n ts (drop n ds) p t at ∙ ap (λ l. Some (record { time = t; dims = take n l })) (behind n p ds)
+
+pub row-at : (w : ℕ) (ks : List Key) (vs : List ℤ) (p : ℕ) (k : Key) → slice_get ks p ≡ Some k → slice_get (rows_from w ks vs) p ≡ Some (record { key = k; metrics = take w (drop (p * w) vs) })
+row-at w [] vs p k at = absurd (true≢false (sym (ap is_some at)))
+row-at w (x ∷ ks) vs zero k at = ap (λ o. Some (record { key = unwrap_or o k; metrics = take w vs })) at ∙ ap (λ l. Some (record { key = k; metrics = l })) (first-piece w vs)
+row-at w (x ∷ ks) vs (suc p) k at = row-at w ks (drop w vs) p k at ∙ ap (λ l. Some (record { key = k; metrics = take w l })) (behind w p vs)
+
+-- the row at a place, of three lists
+pub row-there : (n w : ℕ) (ts : List ℤ) (ds : List (List ℕ)) (vs : List ℤ) (p : ℕ) (t : ℤ) → slice_get ts p ≡ Some t
+    → slice_get (rows_from w (keys_from n ts ds) vs) p ≡ Some (record { key = record { time = t; dims = take n (drop (p * n) ds) }; metrics = take w (drop (p * w) vs) })
+row-there n w ts ds vs p t at = row-at w (keys_from n ts ds) vs p (record { time = t; dims = take n (drop (p * n) ds) }) (key-at n ts ds p t at)
 
 -- ---- one row more
 
-fewer : (w n : ℕ) (vs : List ℤ) → length vs ≡ suc n * w → length (drop w vs) ≡ n * w
+fewer : {X : Type 0} (w n : ℕ) (vs : List X) → length vs ≡ suc n * w → length (drop w vs) ≡ n * w
 fewer w n vs is = length-drop w vs ∙ ap (λ m. m - w) (is ∙ suc-mul n w) ∙ less (n * w) w
   where
     less : (a b : ℕ) → a + b - b ≡ a
     less a b = omega arith
 
-enough : (w n : ℕ) (vs : List ℤ) → length vs ≡ suc n * w → w ≤ length vs
+enough : {X : Type 0} (w n : ℕ) (vs : List X) → length vs ≡ suc n * w → w ≤ length vs
 enough w n vs is = let long = is ∙ suc-mul n w in omega (arith, long)
 
 pub pushed : (w : ℕ) (ks : List Key) (vs : List ℤ) (k : Key) (cs : List ℤ) → length vs ≡ length ks * w → length cs ≡ w
@@ -77,7 +79,24 @@ pushed w (x ∷ ks) vs k cs all each =
     (λ i. record { key = x; metrics = take-append-le w vs cs le i } ∷ rows_from w (ks ++ k ∷ []) (drop-append-le w vs cs le i))
     ∙ ap (λ l. record { key = x; metrics = take w vs } ∷ l) (pushed w ks (drop w vs) k cs (fewer w (length ks) vs all) each)
 
-pub length-pushed : (w n : ℕ) (vs cs : List ℤ) → length vs ≡ n * w → length cs ≡ w → length (vs ++ cs) ≡ suc n * w
+pub keys-pushed : (n : ℕ) (ts : List ℤ) (ds : List (List ℕ)) (t : ℤ) (cs : List (List ℕ)) → length ds ≡ length ts * n → length cs ≡ n
+    → keys_from n (ts ++ t ∷ []) (ds ++ cs) ≡ keys_from n ts ds ++ record { time = t; dims = cs } ∷ []
+keys-pushed n [] [] t cs all each = ap (λ l. record { time = t; dims = l } ∷ []) (take_all n cs (omega (arith, each)))
+keys-pushed n [] (d ∷ ds) t cs all each = absurd (omega (arith, all))
+keys-pushed n (x ∷ ts) ds t cs all each =
+    let le = enough n (length ts) ds all in
+    (λ i. record { time = x; dims = take-append-le n ds cs le i } ∷ keys_from n (ts ++ t ∷ []) (drop-append-le n ds cs le i))
+    ∙ ap (λ l. record { time = x; dims = take n ds } ∷ l) (keys-pushed n ts (drop n ds) t cs (fewer n (length ts) ds all) each)
+
+-- one row more, in three lists
+pub row-pushed : (n w : ℕ) (ts : List ℤ) (ds : List (List ℕ)) (vs : List ℤ) (t : ℤ) (texts : List (List ℕ)) (cs : List ℤ)
+    → length ds ≡ length ts * n → length vs ≡ length ts * w → length texts ≡ n → length cs ≡ w
+    → rows_from w (keys_from n (ts ++ t ∷ []) (ds ++ texts)) (vs ++ cs) ≡ rows_from w (keys_from n ts ds) vs ++ record { key = record { time = t; dims = texts }; metrics = cs } ∷ []
+row-pushed n w ts ds vs t texts cs deep wide texts-fit cs-fit =
+    ap (λ ks. rows_from w ks (vs ++ cs)) (keys-pushed n ts ds t texts deep texts-fit)
+    ∙ pushed w (keys_from n ts ds) vs (record { time = t; dims = texts }) cs (wide ∙ ap (λ m. m * w) (sym (keys-counted n ts ds))) cs-fit
+
+pub length-pushed : {X : Type 0} (w n : ℕ) (vs cs : List X) → length vs ≡ n * w → length cs ≡ w → length (vs ++ cs) ≡ suc n * w
 length-pushed w n vs cs all each = length-append vs cs ∙ (λ i. all i + each i) ∙ sym (suc-mul n w)
 
 -- ---- other values of one row
@@ -133,32 +152,17 @@ replaced w (x ∷ ks) vs (suc p) k new all at each =
 pub lent : (vs new : List ℤ) (n : ℕ) → length new ≡ n → take n (new ++ drop (length new) vs) ≡ new
 lent vs new n is = take_at new (drop (length new) vs) n is
 
--- ---- finding a key
+-- ---- a place
 
 pub got : {X : Type 0} (xs : List X) (i : ℕ) (x : X) → slice_get xs i ≡ Some x → get_or xs i x ≡ x
 got [] i x at = refl
 got (y ∷ xs) zero x at = ap (λ o. unwrap_or o y) at
 got (y ∷ xs) (suc i) x at = got xs i x at
 
-member : {X : Type 0} (xs : List X) (i : ℕ) → i < length xs → (x : X) × (slice_get xs i ≡ Some x)
+pub member : {X : Type 0} (xs : List X) (i : ℕ) → i < length xs → (x : X) × (slice_get xs i ≡ Some x)
 member [] i lt = absurd (omega (arith, lt))
 member (x ∷ xs) zero lt = (x, refl)
 member (x ∷ xs) (suc i) lt = member xs i (omega (arith, lt))
-
--- the row at the place where a key is found has that key
-pub found-key : (k : Key) (w : ℕ) (ks : List Key) (vs : List ℤ) (i : ℕ) → position (same_parts k.time k.dims) ks ≡ Some i → i < length ks → HasKeyAt k (rows_from w ks vs) i
-found-key k w ks vs i h lt =
-    let e = member ks i lt in
-    let passes : same_parts k.time k.dims e.0 ≡ true = sym (ap (same_parts k.time k.dims) (got ks i e.0 e.1)) ∙ (position-Some (same_parts k.time k.dims) ks i e.0 h).1 in
-    (record { key = e.0; metrics = take w (drop (i * w) vs) }, row-at w ks vs i e.0 e.1, sym ((keys_decide k e.0).0 passes))
-
-other-keys : (k : Key) (ks : List Key) → list_any (same_parts k.time k.dims) ks ≡ false → AllByRecursion (λ j. same_keys k j ≡ false) ks
-other-keys k [] none = tt
-other-keys k (j ∷ ks) none = let parts = or_parts (same_parts k.time k.dims j) (list_any (same_parts k.time k.dims) ks) none in (sym (parts-same_keys k j) ∙ parts.0, other-keys k ks parts.1)
-
-no-key : (k : Key) (ks : List Key) → AllByRecursion (λ j. same_keys k j ≡ false) ks → list_any (same_parts k.time k.dims) ks ≡ false
-no-key k [] all = refl
-no-key k (j ∷ ks) all = ap (λ b. b || list_any (same_parts k.time k.dims) ks) (parts-same_keys k j ∙ all.0) ∙ no-key k ks all.1
 
 -- what an event adds is combined into the values of the row at a place
 pub combined-there : (kinds : List Kind) (inputs : List ℤ) (w : ℕ) (ks : List Key) (vs : List ℤ) (p : ℕ) → length vs ≡ length ks * w → p < length ks → length kinds ≡ w
@@ -169,21 +173,3 @@ combined-there kinds inputs w ks vs p all lt count row at =
     let is : row ≡ record { key = e.0; metrics = old } = ap (λ o. unwrap_or o row) (sym at ∙ row-at w ks vs p e.0 e.1) in
     replaced w ks vs p e.0 (combine_columns kinds old (contributions kinds inputs)) all e.1 (length-combine_columns kinds old (contributions kinds inputs) ∙ count)
     ∙ ap (λ r. slice_set (rows_from w ks vs) p (combined_row kinds inputs r)) (sym is)
-
--- where it isn't found no row has it
-pub found-no_key : (k : Key) (w : ℕ) (ks : List Key) (vs : List ℤ) → position (same_parts k.time k.dims) ks ≡ None → NoneHas k (rows_from w ks vs)
-found-no_key k w ks vs h = none-has k w ks vs (other-keys k ks (none-any (same_parts k.time k.dims) ks h))
-
--- a key that no other equals goes last
-pub key-last : (k : Key) (ks : List Key) → AllByRecursion (λ j. same_keys k j ≡ false) ks → insert_key (λ a b. same_parts a.time a.dims b) ks k ≡ ks ++ k ∷ []
-key-last k ks all = ap (λ b. if b then ks else (ks ++ k ∷ [])) (no-key k ks all)
-
--- a key behind others that differ is none of theirs
-pub key-behind : (a : List Key) (k : Key) (b : List Key) → IsDistinct same_keys (a ++ k ∷ b) → AllByRecursion (λ j. same_keys k j ≡ false) a
-unfolding IsDistinct
-key-behind [] k b d = tt
-key-behind (x ∷ a) k b d = (same_keys-comm k x ∙ at a d.0, key-behind a k b d.1)
-  where
-    at : (c : List Key) → AllByRecursion (λ j. same_keys x j ≡ false) (c ++ k ∷ b) → same_keys x k ≡ false
-    at [] all = all.0
-    at (y ∷ c) all = at c all.1

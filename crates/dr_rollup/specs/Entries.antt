@@ -1,5 +1,5 @@
 -- Rows in the order in which they came. No public contract cites this file.
-use Rattle.std.specs.Prelude.{◌≡◌, ℕ, ℤ, Bool, false, List, Option, None, Some, is_some, slice_get, slice_set}
+use Rattle.std.specs.Prelude.{◌≡◌, ℕ, ℤ, Bool, false, List, Some, slice_get, slice_set}
 use Rattle.std.specs.List.{AllByRecursion}
 use Rattle.std.specs.Ordering.{eq_by_cmp}
 use Rattle.dr_base.specs.declared.key.Key.{Key}
@@ -8,24 +8,10 @@ use Rattle.dr_base.specs.Order.{key_cmp}
 use Rattle.dr_agg.specs.declared.kind.Kind.{Kind}
 use Rattle.dr_agg.specs.Combination.{combine_columns}
 use Rattle.dr_rollup.specs.Unrolled.{contributions}
-use Rattle.dr_rollup.specs.declared.entries.Entries.{Entries}
-use Rattle.dr_rollup.specs.declared.entries.Entries.TheVariants.{Combined, Apart}
 
 -- a key and its metrics, as a row
 abbrev pub row_of : Key × List ℤ → Row
 row_of e = record { key = e.0; metrics = e.1 }
-
-abbrev pub rows_in : Entries → List Row
-rows_in (Combined rows) = rows.rows
-rows_in (Apart rows) = rows.items
-
--- how many values each row has, where rows of one key are combined
-abbrev pub width_in : Entries → Option ℕ
-width_in (Combined rows) = Some rows.width
-width_in (Apart rows) = None
-
-abbrev pub is_combined : Entries → Bool
-is_combined entries = is_some (width_in entries)
 
 -- the keys are the same
 abbrev pub same_keys : Key → Key → Bool

@@ -3,5 +3,8 @@ pub mod Unrolled
 pub mod OpenRows
 pub mod Lookup
 pub mod WideRows
+pub mod HeldRows
+pub mod Hashes
+pub mod Places
 pub mod Entries
 pub mod Sound

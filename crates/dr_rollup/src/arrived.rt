@@ -1,8 +1,7 @@
 ghost use Rattle.std.specs.Prelude.{◌≡◌, ◌<◌, Some, length, slice_get};
-ghost use Rattle.dr_rollup.specs.Entries.{rows_in};
 
 use crate::entries::Entries;
-use dr_base::Key;
+use dr_base::Text;
 use std::alloc::Global;
 use std::marker::Model;
 
@@ -16,16 +15,15 @@ pub struct Arrived<'a> {
 impl<'a> Model for Arrived<'a> {
     ghost use Rattle.std.specs.Prelude.{List};
     ghost use Rattle.dr_base.specs.declared.row.Row.{Row};
-    ghost use Rattle.dr_rollup.specs.Entries.{rows_in};
 
     ghost Value = { List Row };
 
-    ghost view = { λ a. rows_in a.entries.now };
+    ghost view = { λ a. a.entries.now.rows };
 }
 
 impl<'a> Arrived<'a> {
     pub(crate) fn of(entries: &'a Entries) -> Arrived<'a>
-        ensures { result ≡ rows_in entries.now }
+        ensures { result ≡ entries.now.rows }
     {
         Arrived { entries }
     }
@@ -43,11 +41,11 @@ impl<'a> Arrived<'a> {
         self.entries.len()
     }
 
-    /// The key and the metrics of a row, by its place from 0.
+    /// The time of a row in milliseconds since the epoch, its dimension values and its metrics, by its place from 0.
     #[inline]
-    pub fn row(&self, place: usize) -> (&'a Key, &'a [i64])
+    pub fn row(&self, place: usize) -> (i64, &'a [Text], &'a [i64])
         requires { place < length self.now }
-        ensures { slice_get self.now place ≡ Some (record { key = result.0.now; metrics = result.1.now }) }
+        ensures { slice_get self.now place ≡ Some (record { key = record { time = result.0; dims = result.1.now }; metrics = result.2.now }) }
     {
         self.entries.row(place)
     }

@@ -1,147 +1,203 @@
-ghost use Rattle.std.specs.Prelude.{◌≡◌, ◌<◌, ◌++◌, ◌∷◌, [], true, None, Some, length, map, slice_get, IfSome, IfOk, OnOk, OnErr, if◌then◌else◌};
-ghost use Rattle.std.specs.List.{IsDistinct};
-ghost use Rattle.dr_schema.specs.Columns.{kinds_of};
-ghost use Rattle.dr_schema.specs.Fits.{FitsSchema};
-ghost use Rattle.dr_rollup.specs.Entries.{rows_in, width_in, is_combined, same_keys, HasKeyAt, NoneHas, Combines};
-ghost use Rattle.dr_rollup.specs.Unrolled.{unrolled};
+ghost use Rattle.std.specs.Prelude.{◌≡◌, ◌<◌, ◌++◌, ◌∷◌, [], ℕ, List, true, None, Some, is_some, length, map, slice_get, IfSome, IfOk, OnOk, OnErr};
+ghost use Rattle.dr_rollup.specs.Unrolled.{contributions};
+ghost use Rattle.dr_rollup.specs.HeldRows.{HeldRows, held_with};
+ghost use Rattle.dr_rollup.specs.Hashes.{key_hash, hashes_of};
+ghost use Rattle.dr_rollup.specs.Places.{ArePlaces, HasRoom};
+ghost use Rattle.dr_rollup.specs.Entries.{HasKeyAt, NoneHas, Combines};
 
+use crate::flat_rows::FlatRows;
 use crate::key_of::KeyOf;
-use crate::keyed_rows::KeyedRows;
-use crate::unrolled::{unrolled_key, unrolled_row};
-use dr_base::{Event, Key, Row};
-use dr_schema::{Metric, Schema};
+use crate::places::Places;
+use dr_base::{Row, Text};
+use dr_schema::Metric;
 use std::alloc::{AllocError, Global};
+use std::marker::Model;
 
-// Rows in the order in which they came.
+/// Rows in the order in which they came. Where those of one key are combined, the row of a key is found by hashing it. A contract
+/// sees whether they are, how many dimension values and metrics a row has, and the rows.
 #[derive(Drop)]
-pub enum Entries {
-    // One row for each key, which is found by hashing.
-    Combined(KeyedRows),
-    // Rows that stay apart.
-    Apart(Vec<Row>),
+pub struct Entries {
+    rows: FlatRows,
+    places: Option<Places>,
+}
+
+impl Model for Entries {
+    ghost use Rattle.std.specs.Prelude.{is_some, IfSome};
+    ghost use Rattle.dr_rollup.specs.HeldRows.{HeldRows};
+    ghost use Rattle.dr_rollup.specs.Hashes.{hashes_of};
+    ghost use Rattle.dr_rollup.specs.Places.{ArePlaces};
+
+    ghost Value = { HeldRows };
+
+    ghost view = { λ e. record { combines = is_some e.places; dimensions = e.rows.dimensions; width = e.rows.width; rows = e.rows.rows } };
+
+    ghost invariant = { λ e. IfSome e.places (ArePlaces (hashes_of e.rows.rows)) };
 }
 
 impl Entries {
-    pub fn new(alloc: Global, combines: bool, width: usize) -> Entries
-        ensures entries { rows_in result ≡ [] }
-        ensures width { width_in result ≡ (if combines then Some width else None) }
+    /// No row, of so many dimension values and metrics each.
+    pub fn new(alloc: Global, combines: bool, dimensions: usize, width: usize) -> Entries
+        ensures { result ≡ record { combines = combines; dimensions = dimensions; width = width; rows = [] } }
     {
-        if combines {
-            Entries::Combined(KeyedRows::new(alloc, width))
-        } else {
-            Entries::Apart(Vec::new(alloc))
+        Entries {
+            rows: FlatRows::new(alloc, dimensions, width),
+            places: no_places(alloc, combines),
         }
     }
 
     pub fn allocator(&self) -> Global {
-        match self {
-            Entries::Combined(rows) => rows.allocator(),
-            Entries::Apart(rows) => *rows.allocator(),
-        }
+        self.rows.allocator()
     }
 
-    pub fn len(&self) -> usize
-        ensures { result ≡ length (rows_in self.now) }
-    {
-        match self {
-            Entries::Combined(rows) => rows.len(),
-            Entries::Apart(rows) => rows.len(),
-        }
-    }
-
-    // The key and the metrics of the row at a place.
     #[inline]
-    pub fn row(&self, place: usize) -> (&Key, &[i64])
-        requires { place < length (rows_in self.now) }
-        ensures { slice_get (rows_in self.now) place ≡ Some (record { key = result.0.now; metrics = result.1.now }) }
+    pub fn len(&self) -> usize
+        ensures { result ≡ length self.now.rows }
     {
-        match self {
-            Entries::Combined(rows) => rows.row(place),
-            Entries::Apart(rows) => {
-                let row = &rows[place];
-                (&row.key, row.metrics.as_slice())
-            }
+        self.rows.len()
+    }
+
+    /// The time, the dimension values and the metrics of the row at a place.
+    #[inline]
+    pub fn row(&self, place: usize) -> (i64, &[Text], &[i64])
+        requires { place < length self.now.rows }
+        ensures { slice_get self.now.rows place ≡ Some (record { key = record { time = result.0; dims = result.1.now }; metrics = result.2.now }) }
+    {
+        self.rows.row(place)
+    }
+
+    /// The hash by which the row of a key is found; 0 where rows stay apart, which are never looked for.
+    pub fn hash(&self, key: &KeyOf<'_>) -> u64
+        ensures { self.now.combines ≡ true → result ≡ key_hash (record { time = key.now.time; dims = key.now.dims.now }) }
+    {
+        match &self.places {
+            Some(_) => key.hashed(),
+            None => 0,
         }
     }
 
-    // The place of the row of a key, where rows of one key are combined.
-    pub fn find(&self, key: &KeyOf<'_>) -> Option<usize>
-        ensures combined { IfSome result (λ i. is_combined self.now ≡ true) }
-        ensures found { IfSome result (HasKeyAt (record { time = key.now.time; dims = key.now.dims.now }) (rows_in self.now)) }
-        ensures none { result ≡ None → is_combined self.now ≡ true → NoneHas (record { time = key.now.time; dims = key.now.dims.now }) (rows_in self.now) }
+    /// The place of the row of a key with this hash, where rows of one key are combined.
+    pub fn find(&self, hash: u64, key: &KeyOf<'_>) -> Option<usize>
+        requires { self.now.combines ≡ true → hash ≡ key_hash (record { time = key.now.time; dims = key.now.dims.now }) }
+        ensures combined { IfSome result (λ i. self.now.combines ≡ true) }
+        ensures found { IfSome result (HasKeyAt (record { time = key.now.time; dims = key.now.dims.now }) self.now.rows) }
+        ensures none { result ≡ None → self.now.combines ≡ true → NoneHas (record { time = key.now.time; dims = key.now.dims.now }) self.now.rows }
     {
-        match self {
-            Entries::Combined(rows) => rows.find(key),
-            Entries::Apart(_) => None,
+        match &self.places {
+            Some(places) => find(places, &self.rows, hash, key),
+            None => None,
         }
     }
 
-    // Combines what an event adds to each column into the row at a place.
+    /// Combines what an event adds to each column into the row at a place.
     pub fn combine(&mut self, place: usize, metrics: &[Metric], inputs: &[i64])
-        requires combined { is_combined self.old ≡ true }
-        requires wide { IfSome (width_in self.old) (λ width. width ≡ length metrics.now) }
-        requires place { place < length (rows_in self.old) }
+        requires width { self.old.width ≡ length metrics.now }
+        requires place { place < length self.old.rows }
         requires inputs { length inputs.now ≡ length metrics.now }
-        ensures width { width_in self.new ≡ width_in self.old }
-        ensures entries { Combines (map (λ m. m.kind) metrics.now) inputs.now (rows_in self.old) place (rows_in self.new) }
+        ensures same { self.new ≡ held_with self.old self.new.rows }
+        ensures rows { Combines (map (λ m. m.kind) metrics.now) inputs.now self.old.rows place self.new.rows }
     {
-        match self {
-            Entries::Combined(rows) => rows.combine(place, metrics, inputs),
-            Entries::Apart(_) => unreachable!(),
-        }
+        self.rows.combine(place, metrics, inputs);
     }
 
-    // Adds the row of an event, which has a new key where rows of one key are combined. An error leaves the rows as they were.
-    pub fn put(&mut self, schema: &Schema, event: &Event) -> Result<(), AllocError>
-        requires fits { FitsSchema schema.now event.now }
-        requires wide { IfSome (width_in self.old) (λ width. width ≡ length (kinds_of schema.now)) }
-        requires new { is_combined self.old ≡ true → NoneHas (unrolled schema.now event.now).key (rows_in self.old) }
-        ensures width { width_in self.new ≡ width_in self.old }
-        ensures entries { OnOk result (rows_in self.new ≡ rows_in self.old ++ unrolled schema.now event.now ∷ []) }
-        ensures err { OnErr result (rows_in self.new ≡ rows_in self.old) }
+    /// Adds the row of a key with this hash, with what an event adds to each column. An error leaves the rows as they were.
+    pub fn put(
+        &mut self,
+        hash: u64,
+        key: &KeyOf<'_>,
+        metrics: &[Metric],
+        inputs: &[i64],
+    ) -> Result<(), AllocError>
+        requires hash { self.old.combines ≡ true → hash ≡ key_hash (record { time = key.now.time; dims = key.now.dims.now }) }
+        requires dimensions { self.old.dimensions ≡ length key.now.dims.now }
+        requires width { self.old.width ≡ length metrics.now }
+        ensures ok { OnOk result (self.new ≡ held_with self.old (self.old.rows ++ record { key = record { time = key.now.time; dims = key.now.dims.now }; metrics = contributions (map (λ m. m.kind) metrics.now) inputs.now } ∷ [])) }
+        ensures err { OnErr result (self.new ≡ self.old) }
     {
-        match self {
-            Entries::Combined(rows) => {
-                let key = unrolled_key(schema, event)?;
-                rows.put(key, schema.metrics().as_slice(), event.inputs.as_slice())
-            }
-            Entries::Apart(rows) => {
-                let row = unrolled_row(*rows.allocator(), schema, event)?;
-                rows.push(row)?;
-                Ok(())
-            }
-        }
+        make_room(&mut self.places)?;
+        self.rows.put(key, metrics, inputs)?;
+        push(&mut self.places, hash);
+        Ok(())
     }
 
-    // The same rows in memory of their own.
+    /// The same rows in memory of their own, list by list.
     pub fn copy(&self) -> Result<Entries, AllocError>
-        requires { is_combined self.now ≡ true → IsDistinct same_keys (map (λ row. row.key) (rows_in self.now)) }
-        ensures rows { IfOk result (λ entries. rows_in entries ≡ rows_in self.now) }
-        ensures width { IfOk result (λ entries. width_in entries ≡ width_in self.now) }
+        ensures { IfOk result (λ entries. entries ≡ self.now) }
     {
-        match self {
-            Entries::Combined(rows) => Ok(Entries::Combined(rows.copy()?)),
-            Entries::Apart(rows) => Ok(Entries::Apart(copy_apart(rows)?)),
-        }
+        Ok(Entries {
+            rows: self.rows.copy()?,
+            places: copy_of(&self.places)?,
+        })
     }
 
-    // Copies of the rows, each in memory of its own.
+    /// Copies of the rows, each in memory of its own.
     pub fn copy_rows(&self) -> Result<Vec<Row>, AllocError>
-        ensures { IfOk result (λ rows. rows.items ≡ rows_in self.now) }
+        ensures { IfOk result (λ rows. rows.items ≡ self.now.rows) }
     {
-        match self {
-            Entries::Combined(rows) => rows.copy_rows(),
-            Entries::Apart(rows) => copy_apart(rows),
-        }
+        self.rows.copy_rows()
     }
 }
 
-fn copy_apart(rows: &Vec<Row>) -> Result<Vec<Row>, AllocError>
-    ensures { IfOk result (λ copies. copies.items ≡ rows.now.items) }
+// The place of the row of a key with this hash. It goes from the last row with that hash to the one before, and in each compares the
+// key itself.
+fn find(places: &Places, rows: &FlatRows, hash: u64, key: &KeyOf<'_>) -> Option<usize>
+    requires places { ArePlaces (hashes_of rows.now.rows) places.now }
+    requires hash { hash ≡ key_hash (record { time = key.now.time; dims = key.now.dims.now }) }
+    ensures found { IfSome result (HasKeyAt (record { time = key.now.time; dims = key.now.dims.now }) rows.now.rows) }
+    ensures none { result ≡ None → NoneHas (record { time = key.now.time; dims = key.now.dims.now }) rows.now.rows }
 {
-    let mut copies = Vec::with_capacity(*rows.allocator(), rows.len())?;
-    for row in rows.iter() {
-        copies.push(row.copy()?)?;
+    let mut end = places.end(hash);
+    while end > 0 {
+        if rows.has_key(end - 1, key) {
+            return Some(end - 1);
+        }
+        end = places.end_before(end - 1);
     }
-    Ok(copies)
+    None
+}
+
+// The places of no row, where rows of one key are combined.
+fn no_places(alloc: Global, combines: bool) -> Option<Places>
+    ensures combines { is_some result ≡ combines }
+    ensures places { IfSome result (ArePlaces []) }
+{
+    if combines {
+        Some(Places::new(alloc))
+    } else {
+        None
+    }
+}
+
+// Makes room for the place of one more row.
+fn make_room(places: &mut Option<Places>) -> Result<(), AllocError>
+    ensures combines { is_some places.new ≡ is_some places.old }
+    ensures places { (hashes : List ℕ) → IfSome places.old (ArePlaces hashes) → IfSome places.new (ArePlaces hashes) }
+    ensures room { OnOk result (IfSome places.new HasRoom) }
+{
+    match places {
+        Some(places) => places.reserve(),
+        None => Ok(()),
+    }
+}
+
+// Adds the place of a row with a hash.
+fn push(places: &mut Option<Places>, hash: u64)
+    requires { IfSome places.old HasRoom }
+    ensures combines { is_some places.new ≡ is_some places.old }
+    ensures places { (hashes : List ℕ) → IfSome places.old (ArePlaces hashes) → IfSome places.new (ArePlaces (hashes ++ hash ∷ [])) }
+{
+    match places {
+        Some(places) => places.push(hash),
+        None => {}
+    }
+}
+
+// The same places in memory of their own.
+fn copy_of(places: &Option<Places>) -> Result<Option<Places>, AllocError>
+    ensures combines { IfOk result (λ copy. is_some copy ≡ is_some places.now) }
+    ensures places { IfOk result (λ copy. (hashes : List ℕ) → IfSome places.now (ArePlaces hashes) → IfSome copy (ArePlaces hashes)) }
+{
+    match places {
+        Some(places) => Ok(Some(places.copy()?)),
+        None => Ok(None),
+    }
 }

@@ -4,12 +4,14 @@
 
 mod arrived;
 mod entries;
+mod flat_rows;
 mod key_of;
-mod keyed_rows;
 mod open_index;
 mod pieces;
+mod places;
 mod rollup_error;
 mod sorted_rows;
+mod text_lists;
 mod unrolled;
 
 pub use arrived::Arrived;

@@ -4,15 +4,13 @@ ghost use Rattle.dr_schema.specs.Fits.{FitsSchema};
 ghost use Rattle.dr_agg.specs.Rollup.{IsInOrder};
 ghost use Rattle.dr_rollup.specs.OpenRows.{OpenRows, rows_with, with_rows, in_order, RollsUp};
 ghost use Rattle.dr_rollup.specs.Unrolled.{unrolled};
-ghost use Rattle.dr_rollup.specs.Entries.{rows_in, is_combined, HasKeyAt, NoneHas};
 
 use crate::arrived::Arrived;
 use crate::entries::Entries;
 use crate::key_of::KeyOf;
 use crate::rollup_error::RollupError;
 use crate::sorted_rows::sorted_rows;
-use crate::unrolled::{columns_of, row_time, unrolled_row};
-use dr_agg::add_row;
+use crate::unrolled::row_time;
 use dr_base::{Event, Row};
 use dr_schema::Schema;
 use std::alloc::{AllocError, Global};
@@ -51,7 +49,12 @@ impl OpenIndex {
         Ok(OpenIndex {
             schema: schema.copy()?,
             limit,
-            entries: Entries::new(alloc, schema.rollup(), schema.metrics().len()),
+            entries: Entries::new(
+                alloc,
+                schema.rollup(),
+                schema.dimensions().len(),
+                schema.metrics().len(),
+            ),
         })
     }
 
@@ -73,16 +76,18 @@ impl OpenIndex {
         ensures err { OnErr result (self.new ≡ self.old) }
         ensures full { IsErrOf result RollupError.IndexFull ↔ (self.old.limit < length (rows_with self.old event.now)) }
     {
-        if let Some(place) = locate(&self.schema, &self.entries, event) {
-            let metrics = self.schema.metrics().as_slice();
-            self.entries
-                .combine(place, metrics, event.inputs.as_slice());
+        let metrics = self.schema.metrics().as_slice();
+        let inputs = event.inputs.as_slice();
+        let key = row_key(&self.schema, event);
+        let hash = self.entries.hash(&key);
+        if let Some(place) = self.entries.find(hash, &key) {
+            self.entries.combine(place, metrics, inputs);
             return Ok(());
         }
         if self.entries.len() >= self.limit {
             return Err(RollupError::IndexFull);
         }
-        self.entries.put(&self.schema, event)?;
+        self.entries.put(hash, &key, metrics, inputs)?;
         Ok(())
     }
 
@@ -104,21 +109,6 @@ impl OpenIndex {
         Arrived::of(&self.entries)
     }
 
-    /// The rows with one more event that fits the schema, which isn't added, in the order of their keys and in memory of
-    /// their own. The only error is that memory ran out.
-    pub fn rows_with(&self, event: &Event) -> Result<Vec<Row>, AllocError>
-        requires { FitsSchema self.now.schema event.now }
-        ensures rows { IfOk result (λ rows. rows.items ≡ rows_with self.now event.now) }
-        ensures ordered { IfOk result (λ rows. IsInOrder rows.items) }
-    {
-        let alloc = self.entries.allocator();
-        let kinds = columns_of(alloc, &self.schema)?;
-        let row = unrolled_row(alloc, &self.schema, event)?;
-        let mut rows = self.rows()?;
-        add_row(self.schema.rollup(), &kinds, &mut rows, row)?;
-        Ok(rows)
-    }
-
     /// An equal index in memory of its own, but for the schema and texts of more than 14 bytes, which are shared. The only
     /// error is that memory ran out. It takes time by the rows, and sorts none.
     pub fn copy(&self) -> Result<OpenIndex, AllocError>
@@ -132,15 +122,13 @@ impl OpenIndex {
     }
 }
 
-// The place of the row of an event's key; none where it is new or rows stay apart.
-fn locate(schema: &Schema, entries: &Entries, event: &Event) -> Option<usize>
+// The key of the row of an event.
+fn row_key<'a>(schema: &Schema, event: &'a Event) -> KeyOf<'a>
     requires { FitsSchema schema.now event.now }
-    ensures combined { IfSome result (λ i. is_combined entries.now ≡ true) }
-    ensures found { IfSome result (HasKeyAt (unrolled schema.now event.now).key (rows_in entries.now)) }
-    ensures none { result ≡ None → is_combined entries.now ≡ true → NoneHas (unrolled schema.now event.now).key (rows_in entries.now) }
+    ensures { record { time = result.time; dims = result.dims.now } ≡ (unrolled schema.now event.now).key }
 {
-    entries.find(&KeyOf {
+    KeyOf {
         time: row_time(schema, event.time),
         dims: event.dims.as_slice(),
-    })
+    }
 }

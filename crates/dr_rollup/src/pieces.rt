@@ -8,7 +8,7 @@ use dr_schema::Metric;
 
 /// The values of a row in a list of those of all rows, as many for each.
 #[inline]
-pub fn piece(values: &[i64], width: usize, place: usize) -> &[i64]
+pub fn piece<T>(values: &[T], width: usize, place: usize) -> &[T]
     requires { place * width + width ≤ length values.now }
     ensures { result.now ≡ take width (drop (place * width) values.now) }
 {

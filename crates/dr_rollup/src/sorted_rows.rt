@@ -2,7 +2,6 @@ ghost use Rattle.std.specs.Prelude.{IfOk};
 ghost use Rattle.std.specs.List.Sorted.{IsSortedBy, IsStableBy};
 ghost use Rattle.std.specs.Ordering.{is_lt};
 ghost use Rattle.dr_base.specs.Order.{key_cmp};
-ghost use Rattle.dr_rollup.specs.Entries.{rows_in};
 
 use crate::entries::Entries;
 use dr_agg::sort_rows;
@@ -12,7 +11,7 @@ use std::alloc::AllocError;
 // Copies of the rows, in the order of their keys; rows of one key stay in the order in which they came.
 pub fn sorted_rows(entries: &Entries) -> Result<Vec<Row>, AllocError>
     ensures sorted { IfOk result (λ rows. IsSortedBy (λ a b. is_lt (key_cmp a.key b.key)) rows.items) }
-    ensures stable { IfOk result (λ rows. IsStableBy (λ a b. is_lt (key_cmp a.key b.key)) (rows_in entries.now) rows.items) }
+    ensures stable { IfOk result (λ rows. IsStableBy (λ a b. is_lt (key_cmp a.key b.key)) entries.now.rows rows.items) }
 {
     let mut rows = entries.copy_rows()?;
     sort_rows(&mut rows)?;

@@ -1,5 +1,5 @@
 -- The tokens of entries, put together from those of their rows.
-use Rattle.std.proofs.Common.{◌≡◌, ◌∙◌, sym, refl, ap, ap₂, ℕ, zero, suc, ◌-◌, Bool, true, false, true≢false, List, [], ◌∷◌, ◌++◌, length, map, take, drop, codes, Option, Some, None, append_assoc, arith}
+use Rattle.std.proofs.Common.{◌≡◌, ◌∙◌, sym, refl, ap, ap₂, ℕ, zero, suc, ◌-◌, false, true≢false, List, [], ◌∷◌, ◌++◌, length, map, drop, codes, Option, Some, None, append_assoc, arith}
 use Rattle.std.specs.List.{flat_map}
 use Rattle.std.specs.Prelude.{nat_lt}
 use Rattle.json.specs.Token.{Token, begin_object, end_object, begin_array, end_array, key}
@@ -25,7 +25,7 @@ use Rattle.dr_scan.specs.Entries.{Entry, batches, by_time, entries_by, entries_o
 use Rattle.dr_scan.specs.Places.{all_selected}
 use Rattle.dr_scan.specs.Window.{has_left}
 use Rattle.dr_scan.specs.ScanText.{row_data, identifier_data, entry_data}
-use Rattle.dr_scan.specs.Written.{written_row, row_tokens, entry_front, entry_back, entry_tokens as written_entry, one_entry_tokens, rows_on, segment_tokens, segments_tokens}
+use Rattle.dr_scan.specs.Written.{written_row, row_tokens, entry_front, entry_back, entry_tokens as written_entry, one_entry_tokens, segment_tokens, segments_tokens}
 use Rattle.dr_scan.proofs.Batches.{rows_on-batches}
 use Rattle.dr_scan.proofs.Pieces.{three-pieces}
 

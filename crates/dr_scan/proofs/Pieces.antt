@@ -1,5 +1,5 @@
 -- Tokens and texts that are added piece by piece.
-use Rattle.std.proofs.Common.{◌≡◌, ◌∙◌, ap, ℕ, List, [], ◌∷◌, ◌++◌, append_assoc}
+use Rattle.std.proofs.Common.{◌≡◌, ◌∙◌, ap, List, [], ◌∷◌, ◌++◌, append_assoc}
 use Rattle.json.specs.Token.{Token, end_array, end_object}
 
 pub back-tokens : (t0 t1 t2 t3 t4 id : List Token) (k : Token) → t1 ≡ t0 ++ end_array ∷ [] → t2 ≡ t1 ++ k ∷ [] → t3 ≡ t2 ++ id → t4 ≡ t3 ++ end_object ∷ []

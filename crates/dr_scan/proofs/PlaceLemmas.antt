@@ -1,7 +1,7 @@
 -- The places of rows that are selected, and such places in order.
-use Rattle.std.proofs.Common.{◌≡◌, ◌∙◌, sym, refl, ap, subst, ℕ, zero, suc, ◌+◌, ◌<◌, Bool, true, false, cond, List, [], ◌∷◌, ◌++◌, map, length, take, drop, get_or, Option, Some, None, append_assoc, arith}
-use Rattle.std.proofs.lemmas.List.{append-nil, length-append}
-use Rattle.std.specs.List.{AllByRecursion, fold, flat_map}
+use Rattle.std.proofs.Common.{◌≡◌, ◌∙◌, sym, refl, ap, subst, ℕ, zero, suc, ◌+◌, ◌<◌, true, false, cond, List, [], ◌∷◌, ◌++◌, map, length, take, drop, get_or, Option, Some, None, append_assoc, arith}
+use Rattle.std.proofs.lemmas.List.{length-append}
+use Rattle.std.specs.List.{AllByRecursion, fold}
 use Rattle.std.specs.Ordering.{match_ordering}
 use Rattle.std.specs.declared.cmp.Ordering.{Ordering}
 use Rattle.std.specs.declared.cmp.Ordering.TheVariants.{Less, Equal, Greater}
@@ -13,8 +13,8 @@ use Rattle.dr_ask.specs.declared.time_order.TimeOrder.{TimeOrder}
 use Rattle.dr_base.specs.declared.row.Row.{Row}
 use Rattle.dr_scan.specs.declared.row_place.RowPlace.{RowPlace}
 use Rattle.dr_scan.specs.Entries.{by_time, times_cmp}
-use Rattle.dr_scan.specs.Places.{all_selected, places_cmp, places_in, places_over, row_of, rows_at, ArePlaces, IsPlace}
-use Rattle.dr_scan.specs.Rows.{row_in, no_row}
+use Rattle.dr_scan.specs.Places.{all_selected, places_cmp, places_in, places_over, row_of, rows_at, IsPlace}
+use Rattle.dr_scan.specs.Rows.{row_in}
 
 -- ---- a row behind others, and a segment behind others
 
@@ -38,6 +38,11 @@ rows_at-get_or (g ∷ gs) zero d less = refl
 rows_at-get_or (g ∷ gs) (suc i) d less = rows_at-get_or gs i d (omega arith)
 
 -- ---- the places of the rows of segments
+
+-- the places of these rows
+pub record ArePlaces (segments : List (List Row)) (ps : List RowPlace) (found : List Row) : Type 0 where
+  pub rows : map (row_of segments) ps ≡ found
+  pub there : AllByRecursion (IsPlace segments) ps
 
 module _ (q : Asked) (segments : List (List Row)) where
   together : (ps qs : List RowPlace) (rs ss : List Row) → ArePlaces segments ps rs → ArePlaces segments qs ss → ArePlaces segments (ps ++ qs) (rs ++ ss)

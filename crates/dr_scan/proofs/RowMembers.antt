@@ -1,9 +1,9 @@
 -- Columns put in by their names are the members of a row in the order of the names.
-use Rattle.std.proofs.Common.{◌≡◌, ◌∙◌, refl, sym, ap, ℕ, List, [], ◌∷◌, map, nat_cmp, Ordering, Less, Equal, Greater}
+use Rattle.std.proofs.Common.{◌≡◌, ◌∙◌, refl, ap, ℕ, List, [], ◌∷◌, map, nat_cmp, Ordering, Less, Equal, Greater}
 use Rattle.std.specs.Ordering.{match_ordering}
 use Rattle.std.specs.Cmp.Lexicographic.{slice_cmp}
 use Rattle.std.specs.BTreeMap.{insert_entry}
-use Rattle.serde_json.specs.Data.{Data, Members, no_members, member, object, put}
+use Rattle.serde_json.specs.Data.{Data, Members, member, object, put}
 use Rattle.dr_base.specs.declared.row.Row.{Row}
 use Rattle.dr_ask.specs.declared.column_source.ColumnSource.{ColumnSource}
 use Rattle.dr_ask.specs.declared.result_format.ResultFormat.TheVariants as format

@@ -26,11 +26,6 @@ pub record IsPlace (segments : List (List Row)) (p : RowPlace) : Type 0 where
   pub row : p.row < length (rows_at segments p.segment)
   pub time : p.time ≡ (row_of segments p).key.time
 
--- the places of these rows
-pub record ArePlaces (segments : List (List Row)) (ps : List RowPlace) (found : List Row) : Type 0 where
-  pub rows : map (row_of segments) ps ≡ found
-  pub there : AllByRecursion (IsPlace segments) ps
-
 abbrev pub places_cmp : TimeOrder → RowPlace → RowPlace → Ordering
 places_cmp order a b = times_cmp order a.time b.time
 

@@ -14,7 +14,7 @@ use crate::row_place::RowPlace;
 use crate::row_writing::write_row;
 use crate::segment::Segment;
 use dr_ask::{Query, ResultFormat, Scan, ScanColumn, TimeOrder};
-use dr_fragment::OrderedRows;
+use dr_fragment::LyingRows;
 use json::Writer;
 use std::alloc::{AllocError, Global};
 
@@ -39,7 +39,7 @@ pub(crate) fn write_ordered(
 fn rows_of_each<'a>(
     alloc: Global,
     segments: &'a [Segment<'_>],
-) -> Result<Vec<OrderedRows<'a>>, AllocError>
+) -> Result<Vec<LyingRows<'a>>, AllocError>
     ensures { IfOk result (λ rows. rows.items ≡ map (λ g. g.rows) segments.now) }
 {
     let mut rows = Vec::with_capacity(alloc, segments.len())?;
@@ -56,7 +56,7 @@ fn write_by_time(
     query: &Query,
     scan: &Scan,
     columns: &[ScanColumn],
-    segments: &[OrderedRows<'_>],
+    segments: &[LyingRows<'_>],
     order: TimeOrder,
 ) -> Result<(), AllocError>
     ensures { Adds result out.old out.new (one_entry_tokens scan.now columns.now (limited scan.now.limit (drop scan.now.offset (by_time_of order (all_selected (asked query.now) segments.now))))) }
@@ -71,7 +71,7 @@ fn write_one_entry(
     out: &mut Writer,
     scan: &Scan,
     columns: &[ScanColumn],
-    segments: &[OrderedRows<'_>],
+    segments: &[LyingRows<'_>],
     places: &[RowPlace],
 ) -> Result<(), AllocError>
     requires { AllByRecursion (IsPlace segments.now) places.now }
@@ -89,7 +89,7 @@ fn write_rows(
     out: &mut Writer,
     format: ResultFormat,
     columns: &[ScanColumn],
-    segments: &[OrderedRows<'_>],
+    segments: &[LyingRows<'_>],
     places: &[RowPlace],
 ) -> Result<(), AllocError>
     requires { AllByRecursion (IsPlace segments.now) places.now }
@@ -105,7 +105,7 @@ fn write_place(
     out: &mut Writer,
     format: ResultFormat,
     columns: &[ScanColumn],
-    segments: &[OrderedRows<'_>],
+    segments: &[LyingRows<'_>],
     place: &RowPlace,
 ) -> Result<(), AllocError>
     requires { IsPlace segments.now place.now }

@@ -9,7 +9,7 @@ use crate::row_place::RowPlace;
 use crate::selecting::is_selected;
 use dr_ask::{Query, TimeOrder};
 use dr_base::Text;
-use dr_fragment::OrderedRows;
+use dr_fragment::LyingRows;
 use std::alloc::{AllocError, Global};
 use std::cmp::Ordering;
 
@@ -17,7 +17,7 @@ use std::cmp::Ordering;
 pub(crate) fn selected_places(
     alloc: Global,
     query: &Query,
-    segments: &[OrderedRows<'_>],
+    segments: &[LyingRows<'_>],
 ) -> Result<Vec<RowPlace>, AllocError>
     ensures { IfOk result (λ ps. ps.items ≡ places_over (asked query.now) 0 segments.now) }
 {
@@ -34,7 +34,7 @@ fn add_places(
     places: &mut Vec<RowPlace>,
     dims: &mut Vec<Text>,
     query: &Query,
-    rows: &OrderedRows<'_>,
+    rows: &LyingRows<'_>,
     segment: usize,
 ) -> Result<(), AllocError>
     ensures { OnOk result (places.new.items ≡ places.old.items ++ places_in (asked query.now) segment 0 rows.now) }

@@ -36,8 +36,8 @@ pub(crate) fn meets(
 ) -> Result<bool, AllocError>
     ensures { IfOk result (λ b. b ≡ matches row.now.key.time row.now.key.dims (condition_in filter.now)) }
 {
-    if let Some((key, _)) = row.parts() {
-        return Ok(filter.matches(key.time, key.dims.as_slice()));
+    if let Some((time, dims, _)) = row.parts() {
+        return Ok(filter.matches(time, dims));
     }
     read_dims(row, dims)?;
     Ok(filter.matches(row.time(), dims.as_slice()))

@@ -1,7 +1,7 @@
 ghost use Rattle.std.specs.Prelude.{◌≡◌, IfOk};
 
 use dr_base::Text;
-use dr_fragment::{OrderedRows, PinnedFragment};
+use dr_fragment::{LyingRows, SharedFragment};
 use std::alloc::AllocError;
 use std::marker::Model;
 
@@ -10,7 +10,7 @@ use std::marker::Model;
 #[derive(Drop)]
 pub struct Segment<'a> {
     pub identifier: Text,
-    pub fragment: &'a PinnedFragment,
+    pub fragment: &'a SharedFragment,
 }
 
 impl<'a> Model for Segment<'a> {
@@ -30,7 +30,7 @@ impl<'a> Segment<'a> {
     }
 
     /// The rows, ready to be read. The only error is that memory ran out.
-    pub(crate) fn rows(&self) -> Result<OrderedRows<'_>, AllocError>
+    pub(crate) fn rows(&self) -> Result<LyingRows<'_>, AllocError>
         ensures { IfOk result (λ rows. rows ≡ self.now.rows) }
     {
         self.fragment.ordered()

@@ -13,7 +13,7 @@ use crate::selecting::is_selected;
 use crate::window::Window;
 use dr_ask::{Query, Scan, ScanColumn};
 use dr_base::Text;
-use dr_fragment::OrderedRows;
+use dr_fragment::LyingRows;
 use json::Writer;
 use std::alloc::{AllocError, Global};
 
@@ -45,7 +45,7 @@ fn write_given(
     scan: &Scan,
     columns: &[ScanColumn],
     identifier: &Text,
-    rows: &OrderedRows<'_>,
+    rows: &LyingRows<'_>,
 ) -> Result<(), AllocError>
     ensures tokens { Adds result out.old out.new (segment_tokens scan.now columns.now identifier.now 0 (given window.old (selected (asked query.now) rows.now))) }
     ensures window { OnOk result (window.new ≡ after window.old (length (selected (asked query.now) rows.now))) }

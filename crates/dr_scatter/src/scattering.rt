@@ -12,7 +12,7 @@ use crate::scatter_error::ScatterError;
 use crate::sharing::worker_count;
 use crate::threads::partials;
 use dr_ask::Query;
-use dr_fragment::PinnedFragment;
+use dr_fragment::SharedFragment;
 use dr_partial::Partial;
 use dr_workers::Gate;
 use std::alloc::Global;
@@ -31,7 +31,7 @@ pub fn scatter<R: Threads + Wait + Sync, G: Gate + Sync>(
     rt: &R,
     alloc: Global,
     query: &Query,
-    fragments: &[PinnedFragment],
+    fragments: &[SharedFragment],
     workers: usize,
     gate: &G,
 ) -> Result<Partial, ScatterError>

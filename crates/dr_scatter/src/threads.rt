@@ -8,7 +8,7 @@ ghost use Rattle.dr_scatter.specs.Folds.{AreFoldsOver, AreFoldsOverWhereOk};
 use crate::scatter_error::ScatterError;
 use crate::sharing::begin_of;
 use dr_ask::Query;
-use dr_fragment::PinnedFragment;
+use dr_fragment::SharedFragment;
 use dr_partial::Partial;
 use dr_workers::{Gate, partial_of};
 use std::alloc::{AllocError, Global};
@@ -20,7 +20,7 @@ use std::thread::{Promise, Threads};
 #[derive(Clone, Copy)]
 struct FoldOf<'a> {
     query: &'a Query,
-    share: &'a [PinnedFragment],
+    share: &'a [SharedFragment],
 }
 
 impl<'a> Promise<Result<Partial, AllocError>> for FoldOf<'a> {
@@ -33,7 +33,7 @@ pub fn partials<R: Threads + Wait, G: Gate + Sync>(
     rt: &R,
     alloc: Global,
     query: &Query,
-    fragments: &[PinnedFragment],
+    fragments: &[SharedFragment],
     workers: usize,
     gate: &G,
 ) -> Result<Vec<Partial>, ScatterError>
@@ -54,7 +54,7 @@ fn results<R: Threads + Wait, G: Gate + Sync>(
     rt: &R,
     alloc: Global,
     query: &Query,
-    fragments: &[PinnedFragment],
+    fragments: &[SharedFragment],
     workers: usize,
     gate: &G,
 ) -> Result<Vec<Result<Partial, AllocError>>, ScatterError>

@@ -1,6 +1,8 @@
 ghost use Rattle.std.specs.Prelude.{◌≡◌, IfErr, IfOk, OnErr};
+ghost use Rattle.std.specs.Box.{box_value};
 ghost use Rattle.dr_ask.specs.Asked.{asked};
 ghost use Rattle.dr_ask.specs.MadeFor.{MadeFor};
+ghost use Rattle.dr_ask.specs.QueryOf.{query_of};
 ghost use Rattle.dr_base.specs.Reading.{GivesUnless, passed};
 ghost use Rattle.dr_cuts.specs.RawAnswer.{raw_answer};
 ghost use Rattle.dr_cuts.specs.Segments.{pinned};
@@ -184,7 +186,7 @@ impl Session {
         ensures step { GivesUnless is_lack (λ reply. (seen reply, self.new)) result (ask_now text.now self.old) }
         ensures same { self.new ≡ self.old }
     {
-        let query = Query::parse(alloc, text, self.core.spec().schema())?;
+        let query = self.query_of(alloc, text)?;
         Ok(Reply::Said(answer_now(rt, &mut self.core, &query, workers)?))
     }
 
@@ -201,7 +203,7 @@ impl Session {
         let Some(snapshot) = self.core.snapshot(number as usize) else {
             return Err(ScriptError::Core(CoreError::NoSuch));
         };
-        let query = Query::parse(alloc, text, self.core.spec().schema())?;
+        let query = self.query_of(alloc, text)?;
         Ok(Reply::Said(ask(rt, snapshot, &query, workers)?))
     }
 
@@ -230,13 +232,23 @@ impl Session {
         Ok(Reply::Said(stats_line(alloc, self.core.stats())?))
     }
 
-    // The query of a text that can be audited, which a scan can't.
-    fn grouping(&self, alloc: Global, text: &[u8]) -> Result<Query, ScriptError>
-        ensures value { GivesUnless is_lack asked result (passed BadQuery (grouping_of self.now.timeline.schema text.now)) }
+    // The query of a text.
+    fn query_of(&self, alloc: Global, text: &[u8]) -> Result<Box<Query>, ScriptError>
+        ensures value { GivesUnless is_lack (λ q. asked (box_value q)) result (passed BadQuery (query_of self.now.timeline.schema text.now)) }
         ensures threads { IfErr result (ThreadsIf ⊥) }
-        ensures made { IfOk result (λ q. MadeFor self.now.timeline.schema (asked q)) }
+        ensures made { IfOk result (λ q. MadeFor self.now.timeline.schema (asked (box_value q))) }
     {
         let query = Query::parse(alloc, text, self.core.spec().schema())?;
+        Ok(Box::new(alloc, query)?)
+    }
+
+    // The query of a text that can be audited, which a scan can't.
+    fn grouping(&self, alloc: Global, text: &[u8]) -> Result<Box<Query>, ScriptError>
+        ensures value { GivesUnless is_lack (λ q. asked (box_value q)) result (passed BadQuery (grouping_of self.now.timeline.schema text.now)) }
+        ensures threads { IfErr result (ThreadsIf ⊥) }
+        ensures made { IfOk result (λ q. MadeFor self.now.timeline.schema (asked (box_value q))) }
+    {
+        let query = self.query_of(alloc, text)?;
         if query.is_scan() {
             let name = Text::from_str(alloc, "scan")?;
             return Err(ScriptError::Query(QueryError::Unsupported(name)));

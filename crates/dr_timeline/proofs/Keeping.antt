@@ -18,11 +18,11 @@ use Rattle.dr_cuts.specs.Chunks.{chunk, chunk_list, chunks, with_value}
 use Rattle.dr_cuts.specs.AtKey.{at_key}
 use Rattle.dr_cuts.specs.State.{State, Cut, Range, open_from, open_events, sealed_in, at_chunk, open_cut}
 use Rattle.dr_timeline.specs.Steps.{with_seal, open_in, with_event, sealed_at, accepted}
-use Rattle.dr_chunks.specs.Held.{range_of, ranges_of, cut_of, index_of, Holds, HasFewRows, open_count, no_chunk, with_one, with_open_sealed, is_full, seals_of, sealed_if_full, grown, at_start, chunk_at, has_open, IsFirst, chunk_in}
+use Rattle.dr_chunks.specs.Held.{range_of, ranges_of, cut_of, index_of, Holds, HasFewRows, open_count, no_chunk, with_one, with_open_sealed, is_full, seals_of, sealed_if_full, grown, at_start, chunk_at, has_open, chunk_in}
 use Rattle.dr_timeline.specs.Kept.{Keeps, HasTexts, IsNumbered}
 use Rattle.dr_timeline.proofs.Numbering.{numbered-chunk_at, numbered-sealed, numbered-grown}
 use Rattle.dr_cuts.proofs.Parts.{has, part-none, values_onto-push, rising-values, Covers-values_onto, int_eq-itself, is_eq-true}
-use Rattle.dr_chunks.proofs.Places.{chunk_at-none}
+use Rattle.dr_chunks.proofs.Places.{IsFirst, chunk_at-none}
 use Rattle.dr_cuts.proofs.Each.{All-push, All-same}
 use Rattle.dr_cuts.proofs.Tiles.{end_from, end_from-append, tile-end}
 use Rattle.dr_chunks.proofs.Holding.{holds-other, holds-own, holds-sealed}

@@ -14,7 +14,8 @@ use Rattle.dr_cuts.specs.State.{State, sealed_in, open_from}
 use Rattle.dr_merge.specs.Joined.{joined, joined_fragment}
 use Rattle.dr_chunks.specs.Ranges.{fragment_of}
 use Rattle.dr_timeline.specs.Steps.{ranges_at, StandsAt, publications_in, publications_after, version_for, joined_range, replaced, committed}
-use Rattle.dr_chunks.specs.Held.{range_of, ranges_of, cut_of, no_chunk, Holds, HasFewRows, with_range, at_start, chunk_at, open_count, IsFirst}
+use Rattle.dr_chunks.proofs.Places.{IsFirst}
+use Rattle.dr_chunks.specs.Held.{range_of, ranges_of, cut_of, no_chunk, Holds, HasFewRows, with_range, at_start, chunk_at, open_count}
 use Rattle.dr_timeline.specs.Kept.{Keeps, StandsIn, IsNumbered}
 use Rattle.dr_timeline.proofs.Numbering.{numbered-chunk_at, numbered-replaced, numbered-more}
 use Rattle.dr_cuts.proofs.Each.{All-left, All-right}

@@ -10,7 +10,7 @@ ghost use Rattle.dr_timeline.specs.Refusal.{is_memory};
 
 use crate::timeline_error::TimelineError;
 use dr_base::Row;
-use dr_fragment::{Form, Fragment, OrderedRows};
+use dr_fragment::{Form, LyingRows, SharedFragment};
 use dr_image::{ImageError, SegmentView};
 use dr_schema::Schema;
 use dr_segment::encode;
@@ -21,7 +21,7 @@ use std::alloc::{AllocError, Global};
 pub(crate) fn image_of(
     alloc: Global,
     schema: &Schema,
-    fragment: &Fragment,
+    fragment: &SharedFragment,
 ) -> Result<Vec<u8>, TimelineError>
     ensures { GivesUnless is_memory (λ bytes. bytes.items) result (image_of schema.now fragment.now) }
 {
@@ -31,12 +31,12 @@ pub(crate) fn image_of(
     if let Form::Rows(rows) = fragment.form() {
         return written(alloc, schema, fragment, rows);
     }
-    let rows = copies(alloc, &fragment.ordered())?;
+    let rows = copies(alloc, &fragment.ordered()?)?;
     written(alloc, schema, fragment, &rows)
 }
 
 // The bytes of a fragment that is an image written under that schema.
-fn kept_image<'a>(schema: &Schema, fragment: &'a Fragment) -> Option<&'a [u8]>
+fn kept_image<'a>(schema: &Schema, fragment: &'a SharedFragment) -> Option<&'a [u8]>
     ensures { IfSome result (λ bytes. bytes.now ≡ image (sealed_fragment schema.now fragment.now)) }
 {
     let Some(view) = fragment.view() else {
@@ -61,7 +61,7 @@ fn has_columns_of(view: &SegmentView, schema: &Schema) -> bool
 fn bounded_copy(
     alloc: Global,
     schema: &Schema,
-    fragment: &Fragment,
+    fragment: &SharedFragment,
     bytes: &[u8],
 ) -> Result<Vec<u8>, TimelineError>
     requires { bytes.now ≡ image (sealed_fragment schema.now fragment.now) }
@@ -79,7 +79,7 @@ fn bounded_copy(
 fn written(
     alloc: Global,
     schema: &Schema,
-    fragment: &Fragment,
+    fragment: &SharedFragment,
     rows: &[Row],
 ) -> Result<Vec<u8>, TimelineError>
     requires { rows.now ≡ fragment.now.rows }
@@ -109,7 +109,7 @@ fn not_written(error: ImageError) -> TimelineError
     }
 }
 
-fn copies(alloc: Global, rows: &OrderedRows) -> Result<Vec<Row>, AllocError>
+fn copies(alloc: Global, rows: &LyingRows) -> Result<Vec<Row>, AllocError>
     ensures { IfOk result (λ copies. copies.items ≡ rows.now) }
 {
     let mut copies = Vec::with_capacity(alloc, rows.len())?;

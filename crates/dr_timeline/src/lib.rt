@@ -22,7 +22,7 @@ pub use ask_error::AskError;
 pub use dr_answers::AnswerError;
 pub use dr_ask::{Query, QueryError};
 pub use dr_cuts::RangeInfo;
-pub use dr_fragment::Fragment;
+pub use dr_fragment::{Fragment, SharedEvent};
 pub use dr_merge::{Job, MergeError, Purpose, work};
 pub use dr_workers::{Gate, OpenGate};
 pub use outcome::Outcome;

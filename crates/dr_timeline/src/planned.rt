@@ -83,17 +83,11 @@ fn have_fragments(ranges: &[SealedRange], inputs: &[SharedFragment]) -> bool
         return false;
     }
     for (i, range) in ranges.iter().enumerate() {
-        if !is_fragment(range, &inputs[i]) {
+        if !range.fragment.equals(&inputs[i]) {
             return false;
         }
     }
     true
-}
-
-fn is_fragment(range: &SealedRange, input: &SharedFragment) -> bool
-    ensures { IsTrue result ↔ (range.now.fragment ≡ input.now) }
-{
-    range.fragment.fragment().equals(input.fragment())
 }
 
 /// The least version of some ranges.

@@ -8,7 +8,7 @@ ghost use Rattle.dr_timeline.specs.Scanning.{scan_over};
 use crate::snapshot::Snapshot;
 use dr_ask::Query;
 use dr_cuts::RangeInfo;
-use dr_fragment::PinnedFragment;
+use dr_fragment::SharedFragment;
 use dr_scan::{Segment, identifier, scan};
 use dr_schema::Schema;
 use std::alloc::{AllocError, Global};
@@ -22,8 +22,9 @@ impl Snapshot {
     /// has no entries. The only error is that memory ran out.
     ///
     /// It takes time by the ranges, by the rows, with the filter for each, and by the bytes of the text; nothing is read of
-    /// ranges behind the limit. Rows of sealed ranges are read where they lie; those of an open range are copied and sorted
-    /// while they are read. With an order it takes n log n in the rows that are selected, whose places are kept.
+    /// ranges behind the limit. Rows are read where they lie; of those of a range that is open, or was sealed and not merged yet, a
+    /// list of where each lies is sorted when the range is read. With an order it takes n log n in the rows that are selected,
+    /// whose places are kept.
     pub fn scan(&self, query: &Query) -> Result<Vec<u8>, AllocError>
         ensures { IfOk result (λ text. text.items ≡ scan_over (asked query.now) self.now) }
     {
@@ -39,7 +40,7 @@ fn segments<'a>(
     alloc: Global,
     schema: &Schema,
     ranges: &[RangeInfo],
-    fragments: &'a [PinnedFragment],
+    fragments: &'a [SharedFragment],
 ) -> Result<Vec<Segment<'a>>, AllocError>
     requires each { length fragments.now ≡ length ranges.now }
     requires chunks { AllByRecursion (λ r. IsInstant r.chunk) ranges.now }

@@ -9,7 +9,7 @@ ghost use Rattle.dr_time.specs.Printed.{IsPrintable};
 ghost use Rattle.dr_workers.specs.Shared.{rows_of};
 
 use dr_ask::Query;
-use dr_fragment::PinnedFragment;
+use dr_fragment::SharedFragment;
 use dr_partial::Partial;
 use dr_scatter::{ScatterError, scatter};
 use dr_workers::{Gate, scatter_here};
@@ -23,7 +23,7 @@ pub fn partial_by<R: Threads + Wait + Sync, G: Gate + Sync>(
     rt: &R,
     alloc: Global,
     query: &Query,
-    fragments: &[PinnedFragment],
+    fragments: &[SharedFragment],
     workers: usize,
     gate: &G,
 ) -> Result<Partial, ScatterError>

@@ -20,7 +20,7 @@ use dr_ask::Query;
 use dr_base::Event;
 use dr_chunks::Stream;
 use dr_cuts::RangeInfo;
-use dr_fragment::PinnedFragments;
+use dr_fragment::Fragments;
 use dr_partial::Partial;
 use dr_schema::Schema;
 use dr_workers::{Gate, scatter_one};
@@ -34,7 +34,7 @@ use std::thread::Threads;
 pub struct Snapshot {
     pub(crate) schema: Schema,
     pub(crate) stream: Stream,
-    pub(crate) fragments: PinnedFragments,
+    pub(crate) fragments: Fragments,
     pub(crate) ranges: Vec<RangeInfo>,
 }
 

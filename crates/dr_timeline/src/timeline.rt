@@ -25,7 +25,7 @@ use crate::timeline_error::TimelineError;
 use crate::versioning::{publications_after, version_for};
 use dr_base::Event;
 use dr_chunks::{Chunks, SealedRange, Stream};
-use dr_fragment::{Fragment, PinnedFragments, SharedFragment};
+use dr_fragment::{Fragment, Fragments, SharedEvent, SharedFragment};
 use dr_merge::{Job, Purpose};
 use dr_spec::IngestSpec;
 use std::alloc::{AllocError, Global};
@@ -113,6 +113,24 @@ impl Timeline {
         ensures refusals { IfErr result (λ e. (e ≡ NoMemory) ⊎ (e ≡ StreamFull)) }
         ensures step { GivesUnless is_memory (λ n. (n, self.new)) result (accept self.old event) }
     {
+        if self.stream.len() >= self.spec.schema().limits().max_retained {
+            return Err(TimelineError::StreamFull);
+        }
+        let event = SharedEvent::new(self.stream.allocator(), event)?;
+        self.accept_shared(event)
+    }
+
+    /// The same of an event that whoever sent it shares. It takes expected time by the bytes of its texts, and where another share of the
+    /// chunk's open rows is held, by these rows.
+    pub fn accept_shared(&mut self, event: SharedEvent) -> Result<u64, TimelineError>
+        requires { FitsSchema self.old.schema event }
+        ensures number { IfOk result (λ n. n ≡ length self.old.stream) }
+        ensures ok { OnOk result (self.new ≡ accepted self.old event) }
+        ensures err { OnErr result (self.new ≡ self.old) }
+        ensures full { IsErrOf result StreamFull ↔ (self.old.schema.limits.max_retained ≤ length self.old.stream) }
+        ensures refusals { IfErr result (λ e. (e ≡ NoMemory) ⊎ (e ≡ StreamFull)) }
+        ensures step { GivesUnless is_memory (λ n. (n, self.new)) result (accept self.old event) }
+    {
         let schema = self.spec.schema();
         let number = self.stream.len();
         let limits = schema.limits();
@@ -120,11 +138,12 @@ impl Timeline {
             return Err(TimelineError::StreamFull);
         }
         let alloc = self.stream.allocator();
-        let start = chunk_start(schema, &event);
-        known_texts(&event);
+        let read = event.event();
+        let start = chunk_start(schema, read);
+        known_texts(read);
         self.stream.reserve()?;
         let serial = self.seals + self.commits;
-        let seals = self.chunks.grow(alloc, schema, serial, start, &event)?;
+        let seals = self.chunks.grow(alloc, schema, serial, start, read)?;
         self.seals += seals;
         self.stream.push(event);
         Ok(number as u64)
@@ -255,7 +274,7 @@ impl Timeline {
             return Err(TimelineError::NoSuchRange);
         };
         let alloc = self.stream.allocator();
-        image_of(alloc, self.spec.schema(), range.fragment.fragment())
+        image_of(alloc, self.spec.schema(), &range.fragment)
     }
 
     /// What holds of each timeline, whatever steps made it: no range has a version over the number of its chunk's publications. It
@@ -276,7 +295,7 @@ impl Timeline {
         ensures same { self.new ≡ self.old }
     {
         let alloc = self.stream.allocator();
-        let mut fragments = PinnedFragments::new(alloc);
+        let mut fragments = Fragments::new(alloc);
         let mut ranges = Vec::new(alloc);
         self.chunks.pin(alloc, &mut fragments, &mut ranges)?;
         Ok(Snapshot {

@@ -11,7 +11,7 @@ use crate::gate::Gate;
 use crate::open_gate::OpenGate;
 use crate::working::partial_of;
 use dr_ask::Query;
-use dr_fragment::PinnedFragment;
+use dr_fragment::SharedFragment;
 use dr_partial::Partial;
 use std::alloc::{AllocError, Global};
 
@@ -21,7 +21,7 @@ use std::alloc::{AllocError, Global};
 pub fn scatter_one(
     alloc: Global,
     query: &Query,
-    fragments: &[PinnedFragment],
+    fragments: &[SharedFragment],
 ) -> Result<Partial, AllocError>
     requires { AllByRecursion (λ r. IsInstant r.key.time) (rows_of fragments.now) }
     ensures value { IfOk result (λ p. p ≡ partial (asked query.now) (rows_of fragments.now)) }
@@ -34,7 +34,7 @@ pub fn scatter_one(
 pub fn scatter_here<G: Gate>(
     alloc: Global,
     query: &Query,
-    fragments: &[PinnedFragment],
+    fragments: &[SharedFragment],
     gate: &G,
 ) -> Result<Partial, AllocError>
     requires { AllByRecursion (λ r. IsInstant r.key.time) (rows_of fragments.now) }

@@ -5,7 +5,7 @@ ghost use Rattle.dr_workers.specs.Shared.{rows_of, IsFoldOf};
 
 use crate::gate::Gate;
 use dr_ask::Query;
-use dr_fragment::PinnedFragment;
+use dr_fragment::SharedFragment;
 use dr_partial::Partial;
 use std::alloc::{AllocError, Global};
 
@@ -16,7 +16,7 @@ pub fn partial_of<G: Gate>(
     alloc: Global,
     query: &Query,
     first: usize,
-    fragments: &[PinnedFragment],
+    fragments: &[SharedFragment],
     gate: &G,
 ) -> Result<Partial, AllocError>
     requires { AllByRecursion (λ r. IsInstant r.key.time) (rows_of fragments.now) }

@@ -72,38 +72,47 @@ fn before_and_after<B: Books, R: Wait>(
     Some((before, after))
 }
 
-fn answer_of<B: Books>(alloc: Global, node: &Node<B>, snapshot: &Snapshot) -> Option<String>
+/// What a snapshot answers.
+fn answer_of<B: Books>(alloc: Global, node: &Node<B>, snapshot: &Snapshot) -> Option<Vec<u8>>
     requires { snapshot.now.schema ≡ B.schema }
 {
-    let Ok(query) = Query::parse(alloc, SUMS.as_bytes(), node.schema()) else {
-        return None;
-    };
-    let text = snapshot.answer_one(&query).ok()?;
-    String::from_utf8(text).ok()
+    let query = Query::parse(alloc, SUMS.as_bytes(), node.schema()).ok()?;
+    snapshot.answer_one(&query).ok()
 }
 
-/// What the snapshots answer.
+/// What the snapshots answer that a seat pins before and after two ranges were merged.
+fn answers_of<B: Books, R: Wait>(
+    rt: &R,
+    alloc: Global,
+    node: &Node<B>,
+    spec: &IngestSpec,
+    seat: &mut Seat<B>,
+) -> Option<(Vec<u8>, Vec<u8>)>
+    requires { spec.now ≡ B.schema }
+{
+    let (before, after) = before_and_after(rt, alloc, node, spec, seat)?;
+    let first = answer_of(alloc, node, &before);
+    let second = answer_of(alloc, node, &after);
+    first.zip(second)
+}
+
+/// The same on a node of one seat.
 fn answers<A: NodeLedger + Send, B: Ledger + Send, R: Wait>(
     rt: &R,
     alloc: Global,
     spec: IngestSpec,
     blanks: (Blank, Blank),
-) -> Option<(String, String)>
+) -> Option<(Vec<u8>, Vec<u8>)>
     requires schema { spec ≡ A.schema }
     requires mine { (blanks.0.name ≡ A.name) × (blanks.0.parts ≡ A.parts) × (0 < A.parts) }
     requires floor { (blanks.1.name ≡ B.name) × (blanks.1.parts ≡ B.parts) × (0 < B.parts) }
 {
     let copy = copy_of(&spec)?;
     let (node, mut seats) = Node::<OneSeat<A, B>>::new(alloc, spec, blanks).ok()?;
-    let mut seat = seats.pop()?;
-    let (before, after) = before_and_after(rt, alloc, &node, &copy, &mut seat)?;
-    Some((
-        answer_of(alloc, &node, &before)?,
-        answer_of(alloc, &node, &after)?,
-    ))
+    answers_of(rt, alloc, &node, &copy, seats.first_mut()?)
 }
 
-fn told<R: Wait>(rt: &R, alloc: Global) -> Option<(String, String)> {
+fn told<R: Wait>(rt: &R, alloc: Global) -> Option<(Vec<u8>, Vec<u8>)> {
     let spec = new_spec(alloc)?;
     answers::<Brand, Brand, R>(rt, alloc, spec, (Blank::new(1), Blank::new(1)))
 }
@@ -114,11 +123,11 @@ fn acts_change_what_a_later_pin_shows_and_no_earlier_one(rt: HostRuntime) {
         panic!(rt; "no answer");
     };
     assert!(rt;
-        before.as_str()
-            == r#"[{"result":{"added":12,"cnt":2,"n":2},"timestamp":"2024-01-01T00:00:00.000Z"},{"result":{"added":-2,"cnt":1,"n":1},"timestamp":"2024-01-01T01:00:00.000Z"}]"#
+        before.as_slice()
+            == br#"[{"result":{"added":12,"cnt":2,"n":2},"timestamp":"2024-01-01T00:00:00.000Z"},{"result":{"added":-2,"cnt":1,"n":1},"timestamp":"2024-01-01T01:00:00.000Z"}]"#.as_slice()
     );
     assert!(rt;
-        after.as_str()
-            == r#"[{"result":{"added":12,"cnt":1,"n":2},"timestamp":"2024-01-01T00:00:00.000Z"},{"result":{"added":-2,"cnt":1,"n":1},"timestamp":"2024-01-01T01:00:00.000Z"}]"#
+        after.as_slice()
+            == br#"[{"result":{"added":12,"cnt":1,"n":2},"timestamp":"2024-01-01T00:00:00.000Z"},{"result":{"added":-2,"cnt":1,"n":1},"timestamp":"2024-01-01T01:00:00.000Z"}]"#.as_slice()
     );
 }

@@ -210,6 +210,6 @@ fn eight_seats_are_closed_together(rt: HostRuntime) {
     let Ok(closed) = answer else {
         panic!(rt; "a refusal");
     };
-    assert!(rt; closed.stream.len() == 8);
+    assert!(rt; closed.snapshot.event_count() == 8);
     assert!(rt; closed.mine.as_slice() == [1; 8].as_slice());
 }

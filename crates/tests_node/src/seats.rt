@@ -1,7 +1,6 @@
 ghost use Rattle.std.specs.Prelude.{◌≡◌, ◌<◌};
 
 use crate::events::{FIRST, SECOND, THIRD, accept, blanks, copy_of, new_spec};
-use dr_base::Event;
 use dr_node::{Books, Closed, Joined, Node, NodeError, NodeLedger, OneSeat, Seat};
 use dr_spec::IngestSpec;
 use dr_timeline::Snapshot;
@@ -19,17 +18,6 @@ fn times_in(alloc: Global, snapshot: &Snapshot, mark: u8) -> Option<Vec<i64>> {
     let mut times = Vec::new(alloc);
     for number in 0..snapshot.event_count() {
         let event = snapshot.event(number as u64)?;
-        if event.seat == mark {
-            times.push(event.time).ok()?;
-        }
-    }
-    Some(times)
-}
-
-/// The times of the events with a mark, in order.
-fn times_of(alloc: Global, events: &[Event], mark: u8) -> Option<Vec<i64>> {
-    let mut times = Vec::new(alloc);
-    for event in events {
         if event.seat == mark {
             times.push(event.time).ok()?;
         }
@@ -145,12 +133,12 @@ fn a_pin_shows_the_events_of_its_seat_and_closing_those_of_both(rt: HostRuntime)
         panic!(rt; "a refusal");
     };
     assert!(rt; own.as_slice() == [1_704_067_800_000, 1_704_070_200_000].as_slice());
-    assert!(rt; closed.stream.len() == 3);
+    assert!(rt; closed.snapshot.event_count() == 3);
     assert!(rt; closed.mine.as_slice() == [2, 1].as_slice());
-    let Some(first) = times_of(rt.alloc(), &closed.stream, 0) else {
+    let Some(first) = times_in(rt.alloc(), &closed.snapshot, 0) else {
         panic!(rt; "no memory");
     };
-    let Some(second) = times_of(rt.alloc(), &closed.stream, 1) else {
+    let Some(second) = times_in(rt.alloc(), &closed.snapshot, 1) else {
         panic!(rt; "no memory");
     };
     assert!(rt; first.as_slice() == [1_704_067_800_000, 1_704_070_200_000].as_slice());

@@ -21,7 +21,7 @@ fn met(alloc: Global, having: &str) -> Result<u16, Fail> {
     }
 }
 
-const MET: [(&str, u16); 12] = [
+const MET: [(&str, u16); 21] = [
     (
         r#"{"type":"greaterThan","aggregation":"added","value":4}"#,
         1,
@@ -46,6 +46,42 @@ const MET: [(&str, u16); 12] = [
     ),
     (r#"{"type":"and","havingSpecs":[]}"#, 1),
     (r#"{"type":"always"}"#, 76),
+    (
+        r#"{"type":"or","havingSpecs":[{"type":"greaterThan","aggregation":"added","value":9},{"type":"greaterThan","aggregation":"added","value":4},{"type":"greaterThan","aggregation":"added","value":7}]}"#,
+        1,
+    ),
+    (
+        r#"{"type":"or","havingSpecs":[{"type":"lessThan","aggregation":"lo","value":-9},{"type":"lessThan","aggregation":"lo","value":-2},{"type":"equalTo","aggregation":"lo","value":5},{"type":"equalTo","aggregation":"added","value":6}]}"#,
+        0,
+    ),
+    (
+        r#"{"type":"or","havingSpecs":[{"type":"equalTo","aggregation":"added","value":6},{"type":"equalTo","aggregation":"added","value":5},{"type":"equalTo","aggregation":"added","value":4}]}"#,
+        1,
+    ),
+    (
+        r#"{"type":"or","havingSpecs":[{"type":"equalTo","aggregation":"added","value":6},{"type":"dimSelector","dimension":"page","value":"A"}]}"#,
+        1,
+    ),
+    (
+        r#"{"type":"and","havingSpecs":[{"type":"greaterThan","aggregation":"added","value":1},{"type":"greaterThan","aggregation":"added","value":4},{"type":"lessThan","aggregation":"added","value":9},{"type":"lessThan","aggregation":"added","value":6},{"type":"equalTo","aggregation":"added","value":5},{"type":"equalTo","aggregation":"added","value":5},{"type":"dimSelector","dimension":"page","value":"A"}]}"#,
+        1,
+    ),
+    (
+        r#"{"type":"and","havingSpecs":[{"type":"equalTo","aggregation":"added","value":5},{"type":"equalTo","aggregation":"added","value":6}]}"#,
+        0,
+    ),
+    (
+        r#"{"type":"and","havingSpecs":[{"type":"greaterThan","aggregation":"added","value":4},{"type":"greaterThan","aggregation":"added","value":5}]}"#,
+        0,
+    ),
+    (
+        r#"{"type":"and","havingSpecs":[{"type":"greaterThan","aggregation":"added","value":4},{"type":"greaterThan","aggregation":"lo","value":4}]}"#,
+        0,
+    ),
+    (
+        r#"{"type":"and","havingSpecs":[{"type":"lessThan","aggregation":"added","value":9},{"type":"dimSelector","dimension":"page","value":"B"}]}"#,
+        0,
+    ),
 ];
 
 #[test]

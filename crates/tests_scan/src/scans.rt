@@ -1,6 +1,6 @@
 use dr_ask::Query;
 use dr_base::{Key, Numbers, Row, Text, Texts};
-use dr_fragment::{Fragment, PinnedFragment, SharedFragment};
+use dr_fragment::{Fragment, SharedFragment};
 use dr_scan::{ScanEntry, Segment, scan, scan_text};
 use dr_spec::IngestSpec;
 use std::alloc::{AllocError, Global};
@@ -59,11 +59,10 @@ fn two_rows(alloc: Global) -> Result<Vec<Row>, AllocError> {
 }
 
 // The image as a snapshot holds it.
-fn pinned_image(alloc: Global) -> Option<PinnedFragment> {
+fn pinned_image(alloc: Global) -> Option<SharedFragment> {
     let bytes = hex::decode(alloc, IMAGE).ok()?;
     let fragment = Fragment::of_image(bytes).ok()?;
-    let shared = SharedFragment::new(alloc, fragment).ok()?;
-    Some(PinnedFragment::sealed(shared))
+    SharedFragment::new(alloc, fragment).ok()
 }
 
 // Whether a scan over the image gives this text.

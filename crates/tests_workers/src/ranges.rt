@@ -3,7 +3,7 @@ ghost use Rattle.std.specs.List.{AllByRecursion};
 ghost use Rattle.dr_time.specs.Instant.{IsInstant};
 
 use dr_base::{Key, Numbers, Row, Text, Texts};
-use dr_fragment::{Fragment, PinnedFragment, SharedFragment};
+use dr_fragment::{Fragment, SharedFragment};
 use std::alloc::{AllocError, Global};
 use std::marker::Model;
 use std::test::Fail;
@@ -16,7 +16,7 @@ const PAGES: [&str; 3] = ["A", "B", "C"];
 
 /// Ranges whose times are instants. A contract sees the list of them.
 #[derive(Drop)]
-pub struct Ranges(Vec<PinnedFragment>);
+pub struct Ranges(Vec<SharedFragment>);
 
 impl Model for Ranges {
     ghost use Rattle.std.specs.Prelude.{List};
@@ -44,14 +44,14 @@ impl Ranges {
     }
 
     #[tactic(auto, using(crate::proofs::Pushing::all_pushed))]
-    fn push(&mut self, range: PinnedFragment) -> Result<(), AllocError>
+    fn push(&mut self, range: SharedFragment) -> Result<(), AllocError>
         requires { AllByRecursion (λ row. IsInstant row.key.time) range.rows }
     {
         self.0.push(range)?;
         Ok(())
     }
 
-    pub fn as_slice(&self) -> &[PinnedFragment]
+    pub fn as_slice(&self) -> &[SharedFragment]
         ensures { result.now ≡ self.now }
     {
         self.0.as_slice()
@@ -59,7 +59,7 @@ impl Ranges {
 }
 
 // The range of that place.
-fn range_of(alloc: Global, place: u32) -> Result<PinnedFragment, Fail>
+fn range_of(alloc: Global, place: u32) -> Result<SharedFragment, Fail>
     ensures { IfOk result (λ range. AllByRecursion (λ row. IsInstant row.key.time) range.rows) }
 {
     let row = row(alloc, DAY + i64::from(place) * 1000, place)?;
@@ -67,7 +67,7 @@ fn range_of(alloc: Global, place: u32) -> Result<PinnedFragment, Fail>
     rows.push(row)?;
     let from = place as usize;
     let fragment = Fragment::of_rows(DAY, from, from.saturating_add(1), rows);
-    Ok(PinnedFragment::sealed(SharedFragment::new(alloc, fragment)?))
+    Ok(SharedFragment::new(alloc, fragment)?)
 }
 
 fn row(alloc: Global, time: i64, place: u32) -> Result<Row, AllocError>

@@ -1,7 +1,6 @@
-use Rattle.std.proofs.Common.{◌≡◌, ◌∙◌, sym, subst, rules, arith, FitsSigned, ℤ}
+use Rattle.std.proofs.Common.{◌∙◌, sym, rules, arith, FitsSigned}
 use Rattle.std.specs.Int.{w64}
 use Rattle.std.proofs.lemmas.Int.{to_z-of_z}
-use Rattle.dr_fragment.specs.Held.{IsImageAt}
 use Rattle.dr_fragment.proofs.Images.{opened_at}
 use Rattle.dr_fragment.proofs.fragment.opened_range.Goals as goal
 

@@ -6,7 +6,7 @@ use Rattle.dr_node.proofs.closing.own_theirs.Goals as goal
 
 pub loop-seat-preserved : goal.loop-seat-preserved
 loop-seat-preserved g c =
-    let P : SeatView → Type 0 = λ s. marked s.number c.args.stream.now ≡ s.own in
+    let P : SeatView → Type 0 = λ s. marked s.number c.args.snapshot.now.stream ≡ s.own in
     let Q : SeatView → Type 0 = λ s. (s.mine ≡ length s.own) × (s.number < g.B.Books.seats) in
     let at = c.loop-seat.seat-index in
     let lt : at < length c.args.seats.now = c.loop-seat-test.true in
@@ -17,7 +17,7 @@ loop-seat-preserved g c =
 
 pub returns-clause-own : goal.returns-clause-own
 returns-clause-own g c =
-    let P : SeatView → Type 0 = λ s. marked s.number c.args.stream.now ≡ s.own in
+    let P : SeatView → Type 0 = λ s. marked s.number c.args.snapshot.now.stream ≡ s.own in
     let all = take_all c.loop-seat.seat-index c.args.seats.now c.loop-seat-test.false in
     (λ h. subst (All P) all c.loop-seat.invariant.0, λ h. refl)
 

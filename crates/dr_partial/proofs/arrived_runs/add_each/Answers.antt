@@ -17,9 +17,10 @@ loop-i-init c =
 pub add_held-requires-clause-held : goal.add_held-requires-clause-held
 add_held-requires-clause-held c =
     let q = asked c.args.query.now in
-    let r : Row = record { key = c.row.result.0.now; metrics = c.row.result.1.now } in
+    let r : Row = record { key = record { time = c.row-time.result.0; dims = c.row-time.result.1.now }; metrics = c.row-time.result.2.now } in
     let fits : FitsSigned w64 c.args.bucket = search rules in
-    rw (to_z-of_z w64 c.args.bucket fits) (in-run (λ x. LiesIn q c.args.bucket x.key.time) c.args.rows.now c.args.from c.args.to c.loop-i.i r c.loop-i.auto.i c.loop-i-test.true c.row.ensures c.requires.same)
+    let own : FitsSigned w64 c.row-time.result.0 = search rules in
+    rw (to_z-of_z w64 c.args.bucket fits, to_z-of_z w64 c.row-time.result.0 own) (in-run (λ x. LiesIn q c.args.bucket x.key.time) c.args.rows.now c.args.from c.args.to c.loop-i.i r c.loop-i.auto.i c.loop-i-test.true c.row-time.ensures c.requires.same)
 
 pub loop-i-preserved : goal.loop-i-preserved
 loop-i-preserved c =
@@ -29,6 +30,8 @@ loop-i-preserved c =
     let after = map row_of c.add_held.new.groups.entries in
     let rows = c.args.rows.now in
     let i = c.loop-i.i in
-    let r : Row = record { key = c.row.result.0.now; metrics = c.row.result.1.now } in
-    subst (λ l. AddsAll q before l after) (sym (one-last rows c.args.from i r c.loop-i.auto.i (omega (arith, c.loop-i-test.true, c.requires.within)) c.row.ensures))
-    (more-rows q before between after (slice_range rows c.args.from i) (r ∷ []) c.loop-i.invariant c.in_ok-last.ensures)
+    let r : Row = record { key = record { time = c.row-time.result.0; dims = c.row-time.result.1.now }; metrics = c.row-time.result.2.now } in
+    let own : FitsSigned w64 c.row-time.result.0 = search rules in
+    let adds : AddsAll q between (r ∷ []) after = rw (to_z-of_z w64 c.row-time.result.0 own) at c.in_ok-last.ensures in
+    subst (λ l. AddsAll q before l after) (sym (one-last rows c.args.from i r c.loop-i.auto.i (omega (arith, c.loop-i-test.true, c.requires.within)) c.row-time.ensures))
+    (more-rows q before between after (slice_range rows c.args.from i) (r ∷ []) c.loop-i.invariant adds)

@@ -12,7 +12,7 @@ loop-i-preserved c =
     let a = c.args.aggregation.now in
     let rows = c.args.rows.now in
     let i = c.loop-i.i in
-    let r : Row = record { key = c.row.result.0.now; metrics = c.row.result.1.now } in
+    let r : Row = record { key = record { time = c.row.result.0; dims = c.row.result.1.now }; metrics = c.row.result.2.now } in
     let g : FitsSigned w64 c.value_read.result = search rules in
     let h = simp to_z-of_z at c.combine-folded.ensures in
     let read = c.value_read.ensures ∙ read_bare a.kind a.column r in

@@ -12,9 +12,9 @@ loop-i-preserved c =
     let rows = c.args.rows.now in
     let w = c.args.window.now in
     let i = c.loop-i.i in
-    let r : Row = record { key = c.row.result.0.now; metrics = c.row.result.1.now } in
+    let r : Row = record { key = record { time = c.row-time.result.0; dims = c.row-time.result.1.now }; metrics = c.row-time.result.2.now } in
     let fits : FitsSigned w64 r.key.time = search rules in
     let is = simp to_z-of_z at c.holds.ensures in
     let held : c.holds.result ≡ true = search rules in
-    subst (AllByRecursion (IsWithin w)) (sym (one-last rows c.args.from i r c.loop-i.auto.i (omega (arith, c.loop-i-test.true, c.len-i-end.ensures)) c.row.ensures))
+    subst (AllByRecursion (IsWithin w)) (sym (one-last rows c.args.from i r c.loop-i.auto.i (omega (arith, c.loop-i-test.true, c.len-i-end.ensures)) c.row-time.ensures))
     (pushed (IsWithin w) (slice_range rows c.args.from i) r c.loop-i.invariant (within w r.key.time (sym is ∙ held)))

@@ -5,5 +5,5 @@ use Rattle.dr_ask.specs.Asked.{asked}
 use Rattle.dr_partial.specs.Grouped.{AddsAll}
 use Rattle.dr_partial.proofs.events.add_events.Given as goal
 
-abbrev pub invariant-loop-event : goal.invariant-loop-event
-invariant-loop-event l = AddsAll (asked l.query) (map row_of l.initial.groups.entries) (map (unrolled l.schema) (take l.event-index l.events)) (map row_of l.groups.entries)
+abbrev pub invariant-loop-shared : goal.invariant-loop-shared
+invariant-loop-shared l = AddsAll (asked l.query) (map row_of l.initial.groups.entries) (map (unrolled l.schema) (take l.shared-index l.events)) (map row_of l.groups.entries)

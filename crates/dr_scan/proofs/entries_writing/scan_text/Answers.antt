@@ -2,9 +2,8 @@ use Rattle.std.proofs.Common.{◌∙◌, ap, List, ◌++◌}
 use Rattle.json.specs.Token.{Token}
 use Rattle.serde_json.specs.Data.{array}
 use Rattle.serde_json.specs.View.{items_of}
-use Rattle.dr_ask.specs.Asked.{asked, asked_shape}
+use Rattle.dr_ask.specs.Asked.{asked_shape}
 use Rattle.dr_writer.specs.Written.{data_tokens}
-use Rattle.dr_scan.specs.Entries.{entries}
 use Rattle.dr_scan.specs.ScanText.{entries_data}
 use Rattle.dr_scan.proofs.EntryTokens.{printed}
 use Rattle.dr_scan.proofs.entries_writing.scan_text.Goals as goal

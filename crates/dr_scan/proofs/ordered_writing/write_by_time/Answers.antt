@@ -1,4 +1,4 @@
-use Rattle.std.proofs.Common.{◌≡◌, ◌∙◌, ap, sym, subst, List, ◌++◌, map, drop}
+use Rattle.std.proofs.Common.{◌∙◌, ap, sym, subst, List, ◌++◌, map, drop}
 use Rattle.std.proofs.lemmas.Result.{on_ok_weaker}
 use Rattle.std.specs.List.{AllByRecursion}
 use Rattle.json.specs.Token.{Token}
@@ -7,8 +7,7 @@ use Rattle.dr_answers.specs.InOrder.{in_order_by}
 use Rattle.dr_ask.specs.Asked.{asked}
 use Rattle.dr_base.specs.declared.row.Row.{Row}
 use Rattle.dr_scan.specs.declared.row_place.RowPlace.{RowPlace}
-use Rattle.dr_scan.specs.Entries.{by_time}
-use Rattle.dr_scan.specs.Places.{all_selected, places_cmp, row_of, IsPlace}
+use Rattle.dr_scan.specs.Places.{places_cmp, row_of, IsPlace}
 use Rattle.dr_scan.specs.Written.{one_entry_tokens}
 use Rattle.dr_scan.proofs.PlaceLemmas.{are-given, are-in_order, are-places_over}
 use Rattle.dr_scan.proofs.ordered_writing.write_by_time.Goals as goal

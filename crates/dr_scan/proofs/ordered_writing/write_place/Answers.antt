@@ -1,4 +1,4 @@
-use Rattle.std.proofs.Common.{◌≡◌, ◌∙◌, ◌<◌, ap, sym, subst, List, ◌++◌, length}
+use Rattle.std.proofs.Common.{◌∙◌, ◌<◌, ap, sym, subst, List, ◌++◌, length}
 use Rattle.std.proofs.lemmas.Result.{on_ok_weaker}
 use Rattle.dr_base.specs.declared.row.Row.{Row}
 use Rattle.dr_scan.specs.Rows.{row_in}

@@ -1,9 +1,8 @@
-use Rattle.std.proofs.Common.{rules, w64, FitsSigned, ◌≡◌, ◌∙◌, ◌<◌, ap, sym, subst, ℤ, ℕ, length}
+use Rattle.std.proofs.Common.{rules, w64, FitsSigned, ◌∙◌, ◌<◌, ap, sym, subst, ℤ}
 use Rattle.std.proofs.lemmas.Int.{to_z-of_z}
 use Rattle.dr_answers.specs.Selection.{selects}
 use Rattle.dr_ask.specs.Asked.{asked}
 use Rattle.dr_base.specs.declared.row.Row.{Row}
-use Rattle.dr_scan.specs.declared.row_place.RowPlace.{RowPlace}
 use Rattle.dr_scan.proofs.RowsInTurn.{places-skip, places-take, row_in-found}
 use Rattle.dr_scan.proofs.placing.add_places.Goals as goal
 

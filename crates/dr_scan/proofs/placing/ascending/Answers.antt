@@ -1,5 +1,5 @@
-use Rattle.std.proofs.Common.{rules, ◌≡◌, refl, is_lt}
-use Rattle.std.specs.Cmp.{on_total, back_total, int_cmp_total}
+use Rattle.std.proofs.Common.{rules, is_lt}
+use Rattle.std.specs.Cmp.{on_total, int_cmp_total}
 use Rattle.std.specs.Ordering.{int_cmp}
 use Rattle.std.proofs.lemmas.List.Sorted.{answers_always, ranks_by}
 use Rattle.dr_answers.proofs.StableOrder.{in_order-sorted}

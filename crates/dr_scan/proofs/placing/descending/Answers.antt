@@ -1,4 +1,4 @@
-use Rattle.std.proofs.Common.{rules, ◌≡◌, refl, is_lt}
+use Rattle.std.proofs.Common.{rules, is_lt}
 use Rattle.std.specs.Cmp.{on_total, back_total, int_cmp_total}
 use Rattle.std.specs.Ordering.{int_cmp}
 use Rattle.std.proofs.lemmas.List.Sorted.{answers_always, ranks_by}

@@ -1,4 +1,4 @@
-use Rattle.std.proofs.Common.{◌∙◌, sym, ap, subst, ◌<◌, ◌≤◌, ◌/◌, ◌%◌, length, get_or, slice_get, List, arith}
+use Rattle.std.proofs.Common.{◌∙◌, sym, ap, subst, ◌<◌, ◌≤◌, ◌/◌, ◌%◌, length, get_or, slice_get, Some, List, arith}
 use Rattle.dr_base.specs.declared.event.Event.{Event}
 use Rattle.dr_chunks.specs.Blocks.{EventList, in_blocks}
 use Rattle.dr_chunks.proofs.Blocks.{read-block, within-last, read-last}
@@ -11,6 +11,7 @@ returns-then-block-len c =
     let lt : c.args.place / 256 < length s.blocks.items = omega (arith, c.if-block-len.true, c.len.ensures, s.blocks.ok) in
     ap (λ (l : EventList). slice_get l.items c.args.place) (sym c.self.view_is)
     ∙ read-block s.blocks.items s.last.items c.index.result.now x c.args.place c.self.invariant.full lt c.index.ensures (c.index-as_slice-place.is ∙ ap (λ (es : List Event). get_or es (c.args.place % 256) x) c.as_slice.ensures)
+    ∙ ap Some (sym c.event.ensures)
 
 pub index-requires-2 : goal.index-requires-2
 index-requires-2 c =
@@ -27,3 +28,4 @@ returns c =
     let lt : c.args.place < length (in_blocks s.blocks.items s.last.items) = subst (λ (l : EventList). c.args.place < length l.items) (sym c.self.view_is) c.requires in
     ap (λ (l : EventList). slice_get l.items c.args.place) (sym c.self.view_is)
     ∙ read-last s.blocks.items s.last.items c.index-2.result.now c.args.place c.self.invariant.full c.self.invariant.short past lt c.index-2.ensures
+    ∙ ap Some (sym c.event-2.ensures)

@@ -1,5 +1,5 @@
-use Rattle.std.proofs.Common.{◌≡◌, ◌∙◌, sym, ap, List, ℕ, length}
-use Rattle.dr_image.specs.Table.{Table, rows_of}
+use Rattle.std.proofs.Common.{◌≡◌, ◌∙◌, sym, ap, length}
+use Rattle.dr_image.specs.Table.{Table}
 use Rattle.dr_image.specs.Layout.{read_table}
 use Rattle.dr_image.proofs.OpenLemmas.{opened_as}
 use Rattle.dr_fragment.specs.Ranged.{Ranged}

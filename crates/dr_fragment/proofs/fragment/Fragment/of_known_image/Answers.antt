@@ -1,4 +1,4 @@
-use Rattle.std.proofs.Common.{◌≡◌, ◌∙◌, sym, subst, rules, FitsSigned, refl}
+use Rattle.std.proofs.Common.{subst, rules, FitsSigned, refl}
 use Rattle.std.specs.Int.{w64}
 use Rattle.std.proofs.lemmas.Int.{to_z-of_z}
 use Rattle.dr_fragment.specs.Held.{IsImageAt}

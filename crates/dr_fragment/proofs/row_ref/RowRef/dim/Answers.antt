@@ -1,4 +1,4 @@
-use Rattle.std.proofs.Common.{◌≡◌, ◌∙◌, sym, ap, subst, arith, ◌<◌, [], length, get_or}
+use Rattle.std.proofs.Common.{◌≡◌, ◌∙◌, sym, ap, subst, ◌<◌, [], length, get_or}
 use Rattle.dr_base.specs.declared.row.Row.{Row}
 use Rattle.dr_image.specs.Table.{row_at}
 use Rattle.dr_fragment.specs.Lying.{row_lying}

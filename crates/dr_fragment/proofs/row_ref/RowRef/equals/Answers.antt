@@ -1,4 +1,4 @@
-use Rattle.std.proofs.Common.{◌≡◌, ◌∙◌, sym, ap}
+use Rattle.std.proofs.Common.{◌∙◌, sym, ap}
 use Rattle.dr_base.specs.declared.row.Row.{Row}
 use Rattle.dr_fragment.proofs.SameRows.{same_row, compared}
 use Rattle.dr_fragment.proofs.row_ref.RowRef.equals.Goals as goal

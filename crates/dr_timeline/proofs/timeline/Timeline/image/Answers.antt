@@ -42,5 +42,5 @@ returns c =
     let at : slice_get c.in-Some.there.now.sealed c.args.place ≡ Some c.in-Some-get.range.now = ap (λ (ss : List SealedRange). slice_get ss c.args.place) (sym c.as_slice.ensures) ∙ slice_get-get_or c.as_slice.result.now c.args.place c.in-Some-get.range.now c.in-Some-get.ensures.lookup.3.0 ∙ ap Some (sym c.in-Some-get.ensures.lookup.1) in
     let shown = image-there t.spec t.stream.items t.chunks (t.seals + t.commits) t.commits t.unparseable t.thrown_away c.args.chunk c.in-Some.there.now c.args.place c.in-Some-get.range.now
     (chunk_at-in t.spec t.chunks c.args.chunk c.in-Some.there.now found) k.starts k.each at in
-    let same = (λ i. image_of (c.schema.ensures.value i) (c.fragment.ensures i)) ∙ sym shown ∙ ap (λ (s : State). image_at s c.args.chunk c.args.place) c.self.view_is in
+    let same = (λ i. image_of (c.schema.ensures.value i) c.in-Some-get.range.now.fragment) ∙ sym shown ∙ ap (λ (s : State). image_at s c.args.chunk c.args.place) c.self.view_is in
     subst (λ (r : Result (List ℕ) TimelineError). GivesUnless is_memory (λ bytes. bytes.items) c.image_of.result r) same c.image_of.ensures

@@ -7,7 +7,7 @@ use Rattle.dr_time.specs.Instant.{IsInstant}
 use Rattle.dr_workers.specs.Shared.{rows_of}
 use denote.Param.Send.{IsSync, sendable, given_send, given_sync}
 use Rattle.std.proofs.Crossing.{crosses}
-use Rattle.dr_fragment.proofs.pinned_fragment.PinnedFragment.TheSendSync as pinned
+use Rattle.dr_fragment.proofs.shared_fragment.SharedFragment.TheSendSync as pinned
 use Rattle.dr_scatter.proofs.Crossing.{query-sync}
 use Rattle.dr_scatter.proofs.Begins.{begin-rises, begin-past}
 use Rattle.dr_workers.proofs.Rows.{rows-part, in-part}

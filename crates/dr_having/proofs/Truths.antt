@@ -1,0 +1,50 @@
+-- Laws of `and` and `or` of truth values.
+use Rattle.std.proofs.Common.{◌≡◌, refl, Bool, true, false, ◌||◌, ◌&&◌}
+
+pub and_regroups : (a b c : Bool) → (a && (b && c)) ≡ ((a && b) && c)
+and_regroups true b c = refl
+and_regroups false b c = refl
+
+pub and_swaps : (a b c : Bool) → ((a && b) && c) ≡ ((a && c) && b)
+and_swaps false b c = refl
+and_swaps true true true = refl
+and_swaps true true false = refl
+and_swaps true false true = refl
+and_swaps true false false = refl
+
+pub and_moves : (a b c : Bool) → (a && (b && c)) ≡ (b && (a && c))
+and_moves false true c = refl
+and_moves false false c = refl
+and_moves true true c = refl
+and_moves true false c = refl
+
+pub and_ends : (a b : Bool) → (a && (b && true)) ≡ (a && b)
+and_ends false b = refl
+and_ends true false = refl
+and_ends true true = refl
+
+pub or_regroups : (a b c : Bool) → (a || (b || c)) ≡ ((a || b) || c)
+or_regroups true b c = refl
+or_regroups false b c = refl
+
+pub or_swaps : (a b c : Bool) → ((a || b) || c) ≡ ((a || c) || b)
+or_swaps true b c = refl
+or_swaps false true true = refl
+or_swaps false true false = refl
+or_swaps false false true = refl
+or_swaps false false false = refl
+
+pub or_moves : (a b c : Bool) → (a || (b || c)) ≡ (b || (a || c))
+or_moves true true c = refl
+or_moves true false c = refl
+or_moves false true c = refl
+or_moves false false c = refl
+
+pub or_ends : (a b : Bool) → (a || (b || false)) ≡ (a || b)
+or_ends true b = refl
+or_ends false true = refl
+or_ends false false = refl
+
+pub and_true : (a : Bool) → (a && true) ≡ a
+and_true true = refl
+and_true false = refl

@@ -1,0 +1,63 @@
+ghost use Rattle.std.specs.Prelude.{◌≡◌, ◌||◌, ℤ, List, OnOk, IfOk};
+ghost use Rattle.dr_having.specs.Bounds.{reaches};
+ghost use Rattle.dr_having.specs.Meeting.{compares, meets_value, number_at as number_at_of};
+
+use crate::comparison::Comparison;
+use crate::extremes::{goes_above, goes_below, higher, lower};
+use crate::group_value::{GroupValue, number_at};
+use crate::number_set::NumberSet;
+use std::alloc::{AllocError, Global};
+
+/// What one of some comparisons of one aggregation lets through: its value is above one number, below another, or among some.
+#[derive(Debug, Drop)]
+pub struct SomeBound {
+    pub place: usize,
+    pub above: Option<i64>,
+    pub below: Option<i64>,
+    pub among: NumberSet,
+}
+
+impl SomeBound {
+    // One comparison.
+    pub(crate) fn of(alloc: Global, condition: &GroupValue) -> Result<SomeBound, AllocError>
+        ensures { IfOk result (λ b. (values : List ℤ) → reaches b (number_at_of b.place values) ≡ meets_value condition.now values) }
+    {
+        let mut bound = SomeBound {
+            place: condition.place,
+            above: None,
+            below: None,
+            among: NumberSet::new(alloc),
+        };
+        bound.add(condition)?;
+        Ok(bound)
+    }
+
+    // Lets what one more comparison holds of through.
+    pub(crate) fn add(&mut self, condition: &GroupValue) -> Result<(), AllocError>
+        ensures place { OnOk result (self.new.place ≡ self.old.place) }
+        ensures more { OnOk result ((value : ℤ) → reaches self.new value ≡ (reaches self.old value || compares condition.now.comparison value condition.now.value)) }
+    {
+        match condition.comparison {
+            Comparison::Greater => self.above = Some(lower(&self.above, &condition.value)),
+            Comparison::Less => self.below = Some(higher(&self.below, &condition.value)),
+            Comparison::Equal => self.among.add(&condition.value)?,
+        }
+        Ok(())
+    }
+
+    /// Whether a group with these values meets one of the comparisons. It takes no memory, and constant expected time.
+    pub fn holds_of(&self, values: &[i64]) -> bool
+        ensures { result ≡ reaches self.now (number_at_of self.now.place values.now) }
+    {
+        self.holds(&number_at(values, self.place))
+    }
+
+    // Whether one of the comparisons holds of a value.
+    fn holds(&self, value: &i64) -> bool
+        ensures { result ≡ reaches self.now value.now }
+    {
+        goes_above(&self.above, value)
+            || goes_below(&self.below, value)
+            || self.among.contains(value)
+    }
+}
