@@ -1,8 +1,8 @@
 use Rattle.std.proofs.Common.{◌≡◌, ◌∙◌, sym, ap, [], ◌∷◌, length, map, append_assoc, append-nil, arith}
 use Rattle.std.specs.Vec.Iter.{into_iter_items}
 use Rattle.dr_filter.specs.Condition.{condition_in, conditions_of, some, dimension}
-use Rattle.dr_filter.specs.LookUps.{as_test, others_in}
-use Rattle.dr_filter.proofs.LookedUp.{shown-selector, shown-other, counted-other, others_in-selector, looked_up-selector, looked_up-other, nothing_left}
+use Rattle.dr_filter.specs.LookUps.{as_test}
+use Rattle.dr_filter.proofs.LookedUp.{others_in, shown-selector, shown-other, counted-other, others_in-selector, looked_up-selector, looked_up-other, nothing_left}
 use Rattle.dr_filter.proofs.arranging.one_of.Goals as goal
 
 pub loop-filter-preserved-in_ok-push-in-Some-2 : goal.loop-filter-preserved-in_ok-push-in-Some-2
