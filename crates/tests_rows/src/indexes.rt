@@ -7,7 +7,9 @@ use std::alloc::Global;
 use std::test::Fail;
 
 const E1: &str = r#"{"t":"2024-01-01T00:10:00Z","page":"A","lang":"en","a":5}"#;
+
 const E2: &str = r#"{"t":"2024-01-01T00:50:00Z","page":"A","lang":"en","a":7}"#;
+
 const E3: &str = r#"{"t":"2024-01-01T01:30:00Z","page":"B","lang":"en","a":-2}"#;
 
 #[test]

@@ -79,6 +79,21 @@ fn workers_leave_out_no_range(rt: HostRuntime) -> Result<(), Fail> {
     Ok(())
 }
 
+/// Of 0 to 2 each has a group of its own.
+#[test]
+fn each_range_alone_has_its_groups(rt: HostRuntime) -> Result<(), Fail> {
+    let alloc = rt.alloc();
+    let query = sums(alloc)?;
+    let mut values = Vec::new(alloc);
+    for groups in Ranges::new(alloc, 3)?.each(alloc, &query)? {
+        for value in values_of(alloc, groups)? {
+            values.push(value)?;
+        }
+    }
+    assert!(rt; values.as_slice() == [0, 1, 1, 1, 2, 1].as_slice());
+    Ok(())
+}
+
 #[test]
 fn two_workers_run_at_once(rt: HostRuntime) -> Result<(), Fail> {
     let gate = BothEntered::new();
