@@ -2,7 +2,7 @@ use Rattle.std.proofs.Common.{◌≡◌, ◌∙◌, sym, min, length, arith}
 use Rattle.std.specs.Ordering.{nat_cmp}
 use Rattle.std.specs.Cmp.Lexicographic.{slice_cmp}
 use Rattle.dr_fragment.proofs.Orders.{longer_follows}
-use Rattle.dr_fragment.proofs.row_ref.order_of_dims.Goals as goal
+use Rattle.dr_fragment.proofs.row_ref.order_one_by_one.Goals as goal
 
 pub returns : goal.returns
 returns c =
