@@ -14,12 +14,15 @@ ANSWER = re.compile(r"(?:\./)?(proofs/(\S+)/\w+\.antt:\d+:\d+): error: (.*)")
 # Such a file only names what an edit took away, which says nothing of the contract.
 NAME_IS_GONE = re.compile(r"has no field|is not in scope|has no `|was not admitted")
 FUNCTION = re.compile(r"fn (\S+): (no proof|not proved|proved)?")
+# In the answers of functions that call each other, each is named by the function that it belongs to.
+DECLARED = re.compile(r"(?:pub )?(\w+)-")
 
 
 class Said:
     """What the prover said of a crate."""
 
-    def __init__(self, crate, ran):
+    def __init__(self, crate, ran, room):
+        self.crate, self.room = crate, room
         self.lines = ran.stdout.rstrip("\n").split("\n")
         self.ended_well = ran.returncode == 0
         self.refused = ran.returncode == 1 and self.lines[-1].startswith(("only=", "logic=not-proved"))
@@ -30,7 +33,7 @@ class Said:
                 place = place or goal[1]
             elif answer := ANSWER.match(line):
                 found = self.lacking if NAME_IS_GONE.search(answer[3]) else self.open
-                found.setdefault("::".join([crate, *answer[2].split("/")]), answer[1])
+                found.setdefault(self.function_of(*answer.group(1, 2)), answer[1])
             elif function := FUNCTION.match(line):
                 # the notes on a function's goals stand above its line
                 if function[2] == "proved":
@@ -38,6 +41,16 @@ class Said:
                 elif place:
                     self.open.setdefault(function[1], place)
                 place = None
+
+    def function_of(self, place, folder):
+        """The function of an answer, by its folder, which several have that call each other: then by its name too."""
+        names = [self.crate, *folder.split("/")]
+        if names[-1].startswith("+"):
+            file, line, _ = place.split(":")
+            with open(f"{self.room}/crate/{file}", encoding="utf-8") as it:
+                declared = [found[1] for found in map(DECLARED.match, it.read().split("\n")[: int(line)]) if found]
+            names += declared[-1:]
+        return "::".join(names)
 
     def last(self):
         return " | ".join(self.lines[-3:])[:400]
@@ -70,7 +83,7 @@ class Prover:
         self.checks += 1
         how = {"cwd": f"{self.room}/crate", "stdin": subprocess.DEVNULL, "stdout": subprocess.PIPE, "stderr": subprocess.STDOUT}
         whole = [f"{KIT}/bin/rattle", "check", *self.words, *only]
-        return Said(self.crate, subprocess.run(whole, errors="replace", preexec_fn=behind_all_else, **how))
+        return Said(self.crate, subprocess.run(whole, errors="replace", preexec_fn=behind_all_else, **how), self.room)
 
 
 _libc = ctypes.CDLL(None)

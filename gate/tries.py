@@ -86,7 +86,10 @@ def goal_of(edit, found):
         *owner, function = name.split("::")
         closures = "::".join([*owner, "fn", function, ""])
         for it, place in found.items():
-            if it == name or it.startswith(closures):
+            # functions that call each other: their module, a name for all of them, and the one
+            module, among, one = it.partition("::+")
+            is_one = among and name.startswith(f"{module}::") and one.endswith(f"::{function}")
+            if it == name or it.startswith(closures) or is_one:
                 return f"{place}, a goal of {it}"
     return None
 

@@ -1,7 +1,7 @@
 ghost use Rattle.std.specs.Prelude.{◌≡◌, ◌<◌, IfSome};
 
 use crate::events::{DAY, FIRST, SECOND, THIRD, accept, copy_of, new_spec};
-use dr_ask::Query;
+use crate::queries::query_of;
 use dr_node::{Books, CommitAct, Node, NodeLedger, OneSeat, PlanAct, SealAct, Seat};
 use dr_spec::IngestSpec;
 use dr_timeline::{Purpose, Snapshot, work};
@@ -76,7 +76,7 @@ fn before_and_after<B: Books, R: Wait>(
 fn answer_of<B: Books>(alloc: Global, node: &Node<B>, snapshot: &Snapshot) -> Option<Vec<u8>>
     requires { snapshot.now.schema ≡ B.schema }
 {
-    let query = Query::parse(alloc, SUMS.as_bytes(), node.schema()).ok()?;
+    let query = query_of(alloc, node.schema(), SUMS)?;
     snapshot.answer_one(&query).ok()
 }
 

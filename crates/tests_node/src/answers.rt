@@ -1,8 +1,9 @@
 ghost use Rattle.std.specs.Prelude.{◌≡◌, ◌<◌};
 
 use crate::events::{FIRST, THIRD, accept, blanks, copy_of, new_spec};
+use crate::pairs::pair_of;
+use crate::queries::query_of;
 use crate::turns::{Held, wait_for};
-use dr_ask::Query;
 use dr_node::{Books, Joined, Node, NodeLedger, OneSeat, Seat};
 use dr_spec::IngestSpec;
 use std::alloc::Global;
@@ -15,8 +16,8 @@ use std::thread::Threads;
 
 type Two<A, B, C, D> = Joined<OneSeat<A, B>, OneSeat<C, D>>;
 
-const QUERY: &[u8] =
-    br#"{"queryType":"timeseries","dataSource":"w","intervals":["2024-01-01/2024-01-02"],"granularity":"all","aggregations":[{"type":"longSum","name":"added","fieldName":"added"}]}"#;
+const QUERY: &str =
+    r#"{"queryType":"timeseries","dataSource":"w","intervals":["2024-01-01/2024-01-02"],"granularity":"all","aggregations":[{"type":"longSum","name":"added","fieldName":"added"}]}"#;
 
 const ANSWER: &[u8] = br#"[{"result":{"added":5},"timestamp":"2024-01-01T00:00:00.000Z"}]"#;
 
@@ -31,7 +32,7 @@ fn answer<B: Books, R: Threads + Wait + Sync>(
 ) -> Option<Vec<u8>>
     requires { spec.now ≡ B.schema }
 {
-    let query = Query::parse(alloc, QUERY, spec.schema()).ok()?;
+    let query = query_of(alloc, spec.schema(), QUERY)?;
     let snapshot = node.pin(rt, seat).ok()?;
     snapshot.answer(rt, &query, 1, gate).ok()
 }
@@ -106,12 +107,24 @@ fn answered<
     requires second_floor { (blanks.1.1.name ≡ D.name) × (blanks.1.1.parts ≡ D.parts) × (0 < D.parts) }
 {
     let copy = copy_of(&spec)?;
-    let (node, mut seats) = Node::<Two<A, B, C, D>>::new(alloc, spec, blanks).ok()?;
-    let mut second = seats.pop()?;
-    let first = seats.pop()?;
-    accept(rt, alloc, &node, &copy, &mut second, FIRST)?;
+    let (node, seats) = Node::<Two<A, B, C, D>>::new(alloc, spec, blanks).ok()?;
+    answered_by(rt, alloc, &node, &copy, seats)
+}
+
+/// The same on a node that was made.
+fn answered_by<B: Books, R: Threads + Wait + Sync>(
+    rt: &R,
+    alloc: Global,
+    node: &Node<B>,
+    spec: &IngestSpec,
+    seats: Vec<Seat<B>>,
+) -> Option<(Vec<u8>, u64, bool)>
+    requires { spec.now ≡ B.schema }
+{
+    let (first, mut second) = pair_of(seats)?;
+    accept(rt, alloc, node, spec, &mut second, FIRST)?;
     let gate = Held::new();
-    let (text, number) = at_once(rt, alloc, &node, &copy, &gate, first, second)?;
+    let (text, number) = at_once(rt, alloc, node, spec, &gate, first, second)?;
     Some((text, number, gate.late.load(Ordering::SeqCst)))
 }
 

@@ -13,6 +13,10 @@ mod events;
 #[cfg(test)]
 mod mergers;
 #[cfg(test)]
+mod pairs;
+#[cfg(test)]
+mod queries;
+#[cfg(test)]
 mod seats;
 #[cfg(test)]
 mod turns;

@@ -2,6 +2,7 @@ ghost use Rattle.std.specs.Prelude.{◌≡◌, ◌<◌};
 
 use crate::acts::{join, seal};
 use crate::events::{FIRST, SECOND, THIRD, accept, blanks, copy_of, new_spec};
+use crate::pairs::pair_of;
 use crate::turns::{Once, wait_for};
 use dr_node::{Books, Joined, MergerReport, Node, NodeLedger, OneSeat, Seat};
 use dr_spec::IngestSpec;
@@ -134,12 +135,26 @@ fn merged<
     requires second_floor { (blanks.1.1.name ≡ D.name) × (blanks.1.1.parts ≡ D.parts) × (0 < D.parts) }
 {
     let copy = copy_of(&spec)?;
-    let (node, mut seats) = Node::<Two<A, B, C, D>>::new(alloc, spec, blanks).ok()?;
-    let mut second = seats.pop()?;
-    let first = seats.pop()?;
-    two_ranges(rt, alloc, &node, &copy, &mut second)?;
+    let (node, seats) = Node::<Two<A, B, C, D>>::new(alloc, spec, blanks).ok()?;
+    merged_by(rt, alloc, &node, &copy, seats, while_asked, beside)
+}
+
+/// The same on a node that was made.
+fn merged_by<B: Books, R: Threads + Wait + Sync>(
+    rt: &R,
+    alloc: Global,
+    node: &Node<B>,
+    spec: &IngestSpec,
+    seats: Vec<Seat<B>>,
+    while_asked: bool,
+    beside: Beside,
+) -> Option<Seen>
+    requires { spec.now ≡ B.schema }
+{
+    let (first, mut second) = pair_of(seats)?;
+    two_ranges(rt, alloc, node, spec, &mut second)?;
     let policy = Once::new(while_asked);
-    let (report, mut seat) = at_once(rt, alloc, &node, &copy, &policy, beside, first, second)?;
+    let (report, mut seat) = at_once(rt, alloc, node, spec, &policy, beside, first, second)?;
     let snapshot = node.pin(rt, &mut seat).ok()?;
     Some(Seen {
         report,

@@ -1,6 +1,7 @@
 ghost use Rattle.std.specs.Prelude.{◌≡◌, ◌<◌};
 
 use crate::events::{FIRST, SECOND, THIRD, accept, blanks, copy_of, new_spec};
+use crate::pairs::pair_of;
 use dr_node::{Books, Closed, Joined, Node, NodeError, NodeLedger, OneSeat, Seat};
 use dr_spec::IngestSpec;
 use dr_timeline::Snapshot;
@@ -103,15 +104,30 @@ fn two_threads<
     requires second_floor { (blanks.1.1.name ≡ D.name) × (blanks.1.1.parts ≡ D.parts) × (0 < D.parts) }
 {
     let copy = copy_of(&spec)?;
-    let (node, mut seats) = Node::<Two<A, B, C, D>>::new(alloc, spec, blanks).ok()?;
-    let second = seats.pop()?;
-    let first = seats.pop()?;
-    let ((first, own), second) = both_accept(rt, alloc, &node, &copy, first, second)?;
+    let (node, seats) = Node::<Two<A, B, C, D>>::new(alloc, spec, blanks).ok()?;
+    let (own, seats) = seen_by(rt, alloc, &node, &copy, seats, both)?;
+    Some((own, node.close(seats)))
+}
+
+/// What a pin of the first seat shows of its own events, and both seats afterwards, or the first alone.
+fn seen_by<B: Books, R: Threads + Wait + Sync>(
+    rt: &R,
+    alloc: Global,
+    node: &Node<B>,
+    spec: &IngestSpec,
+    seats: Vec<Seat<B>>,
+    both: bool,
+) -> Option<(Vec<i64>, Vec<Seat<B>>)>
+    requires { spec.now ≡ B.schema }
+{
+    let (first, second) = pair_of(seats)?;
+    let ((first, own), second) = both_accept(rt, alloc, node, spec, first, second)?;
+    let mut seats = Vec::new(alloc);
     seats.push(first).ok()?;
     if both {
         seats.push(second).ok()?;
     }
-    Some((own, node.close(seats)))
+    Some((own, seats))
 }
 
 /// What two threads show, closed with both seats or with one.
