@@ -1,4 +1,5 @@
 use crate::both_entered::BothEntered;
+use crate::queries::query_of;
 use crate::ranges::Ranges;
 use dr_ask::Query;
 use dr_partial::Partial;
@@ -17,9 +18,9 @@ const SPEC: &str =
 const SUMS: &str =
     r#"{"queryType":"groupBy","dataSource":"w","intervals":["2024-01-01/2024-01-02"],"granularity":"all","dimensions":["page"],"aggregations":[{"type":"longSum","name":"added","fieldName":"added"},{"type":"count","name":"cnt"}]}"#;
 
-fn sums(alloc: Global) -> Result<Query, Fail> {
+fn sums(alloc: Global) -> Result<Box<Query>, Fail> {
     let spec = IngestSpec::parse(alloc, SPEC.as_bytes())?;
-    Ok(Query::parse(alloc, SUMS.as_bytes(), spec.schema())?)
+    query_of(alloc, spec.schema(), SUMS)
 }
 
 /// What is found over so many ranges, by so many workers who enter a gate; by this thread alone where there are none.
