@@ -1,7 +1,7 @@
 """`rt ci` over a copy of the repository: every crate and its tests proved, the tests and the program run.
 
-What `rt ci` proved it keeps beside the toolchain, on this machine alone, by the checksums of all that a proof reads; a crate
-whose sources, libraries and toolchain are the same isn't proved again there. On a new machine every proof is made anew.
+Some kits keep what `rt ci` proved beside the toolchain, on this machine alone, by the checksums of all that a proof reads; a
+crate whose sources, libraries and toolchain are the same isn't proved again there. Else every proof is made anew.
 """
 import os
 import re
