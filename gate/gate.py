@@ -4,6 +4,7 @@ The proofs run as `rt ci` does them. Beside them the wrong bodies of a crate are
 run as soon as the program is built. The last line is 'N passed, M failed' over all parts.
 """
 import os
+import shutil
 import subprocess
 import sys
 import tempfile
@@ -20,6 +21,10 @@ from tries import try_edits
 
 # How the two programs are named that rt ci builds, by LLVM and by Rattle's own compiler.
 PROGRAMS = (PROGRAM, f"{PROGRAM}.by-rattle")
+
+
+# What a run may write, in bytes: libraries of all crates, and what provers keep meanwhile.
+ROOM = 8_000_000_000
 
 
 class Gate:
@@ -44,7 +49,7 @@ class Gate:
 
     def fail(self, name, why=""):
         with self.lock:
-            self.failed.append(name)
+            self.failed.append((name, why))
         self.say(f"FAILED: {name}{': ' + why if why else ''}")
 
     def ended(self, part):
@@ -53,8 +58,8 @@ class Gate:
     def finish(self):
         print("\n".join(self.times))
         print(f"the gate took {self.minutes():.0f} minutes on {processors()} processors")
-        for name in self.failed:
-            print(f"FAILED: {name}")
+        for name, why in self.failed:
+            print(f"FAILED: {name}" + (f"\n  {why}" if why else ""))
         print(f"{self.passed} passed, {len(self.failed)} failed", flush=True)
         return not self.failed
 
@@ -154,7 +159,7 @@ class Run:
                 self.gate.say(self.progress())
         self.gate.pass_one(self.proofs.passed)
         for name in self.proofs.failed:
-            self.gate.fail(name)
+            self.gate.fail(name, self.proofs.why.get(name, ""))
         self.gate.ended(f"rt ci has ended; {self.proofs.kept} of {len(self.proofs.done)} crates were proved by an earlier run on this machine")
         for _ in range(self.lanes - self.beside):
             self.free_lanes.release()
@@ -195,7 +200,10 @@ def main():
     with tempfile.TemporaryDirectory(prefix="gate-") as copy:
         os.chmod(copy, 0o755)
         os.chdir(TOP)
-        Run(gate, copy).run()
+        if (free := shutil.disk_usage(copy).free) < ROOM:
+            gate.fail("room on the disk", f"{free / 1e9:.1f} GB are free at {copy}, and a run may take {ROOM / 1e9:.0f}")
+        else:
+            Run(gate, copy).run()
     return gate.finish()
 
 

@@ -1,14 +1,16 @@
 """`rt ci` over a copy of the repository: every crate and its tests proved, the tests and the program run.
 
-What `rt ci` proved it keeps beside the toolchain, on this machine alone, by the checksums of all that a proof reads; a crate
-whose sources, libraries and toolchain are the same isn't proved again there. On a new machine every proof is made anew.
+Some kits keep what `rt ci` proved beside the toolchain, on this machine alone, by the checksums of all that a proof reads; a
+crate whose sources, libraries and toolchain are the same isn't proved again there. Else every proof is made anew.
 """
 import os
 import re
 import subprocess
+import sys
 import threading
 
 from prover import ends_with_us
+from rt import __file__ as RT
 
 PROVED = re.compile(r"rt: (\w+)(: its tests are)? (proved|NOT PROVED.*|is kept: .*)")
 RESULT = re.compile(r"(\d+) passed, (\d+) failed")
@@ -20,11 +22,11 @@ class Proofs(threading.Thread):
     def __init__(self, tree, jobs, on_proved, say):
         super().__init__()
         self.tree, self.jobs, self.on_proved, self.say = tree, jobs, on_proved, say
-        self.done, self.kept, self.passed, self.failed = [], 0, 0, []
+        self.done, self.kept, self.passed, self.failed, self.why = [], 0, 0, [], {}
 
     def run(self):
         words = {"cwd": self.tree.top, "stdin": subprocess.DEVNULL, "stdout": subprocess.PIPE, "stderr": subprocess.STDOUT}
-        with subprocess.Popen(["rt", "ci"], env={**os.environ, "RT_JOBS": str(self.jobs)}, preexec_fn=ends_with_us, **words) as ran:
+        with subprocess.Popen([sys.executable, "-B", RT, "ci"], env={**os.environ, "RT_JOBS": str(self.jobs)}, preexec_fn=ends_with_us, **words) as ran:
             result, kept = None, []
             for line in map(lambda it: it.decode(errors="replace").rstrip("\n"), ran.stdout):
                 kept.append(line)
@@ -46,6 +48,7 @@ class Proofs(threading.Thread):
         crate, tests, how = found[1], found[2], found[3]
         if how.startswith("NOT PROVED"):
             self.say("\n".join(kept))
+            self.why[crate] = " | ".join(kept[-4:])[-400:]
         elif tests:
             self.say(f"the tests of {crate} are proved")
         else:
