@@ -2,8 +2,8 @@
 """`rt` of the toolchain, with the sum of a crate's files made once in a run.
 
 rt makes the sum of a crate from its files and the sums of the crates that it lists, and makes these anew for each way that leads
-to a crate: 20,000 times for the program, which takes minutes. In `rt ci` the sums decide nothing, since every crate is proved
-from nothing. Where a toolchain makes them in another way, this is rt as it is.
+to a crate: 20,000 times for the program, which takes minutes. They are the same each time, since no file changes in the gate's
+copy of the repository. Where a toolchain makes them in another way, this is rt as it is.
 """
 import os
 import runpy
