@@ -4,5 +4,4 @@ pub mod RollupLaws
 pub mod FoldLaws
 pub mod Rearranged
 pub mod SoFar
-pub mod Passing
 pub mod Sorting

@@ -17,4 +17,4 @@ pub use laws::{
     rollup_is_unique, rollup_of_one_more, rollup_of_pieces, rollup_of_rearranged,
     rollup_of_two_pieces,
 };
-pub use rows::{add_row, roll_up, rollup_rows, sort_rows};
+pub use rows::{rollup_rows, sort_rows};

@@ -8,7 +8,7 @@ use Rattle.dr_filter.specs.declared.filter.Filter.{Filter}
 use Rattle.dr_filter.specs.declared.selector.Selector.{Selector}
 use Rattle.dr_filter.specs.declared.value_test.ValueTest.{ValueTest}
 use Rattle.dr_filter.specs.Condition.{Condition, dimension, condition_in, conditions_of, matches, some_matches, members_of}
-use Rattle.dr_filter.specs.LookUps.{as_test, tests_in, others_in, some_holds, AreLookedUp, IsTestOf}
+use Rattle.dr_filter.specs.LookUps.{as_test, tests_in, some_holds, AreLookedUp, IsTestOf}
 use Rattle.dr_filter.specs.Match.{passes, value_at, holds_of}
 
 -- ---- truths
@@ -66,6 +66,12 @@ tests_in-other : (ms : List (Option Selector)) → tests_in (ms ++ None ∷ []) 
 tests_in-other [] = refl
 tests_in-other (Some m ∷ ms) = ap (λ ts. as_test m ∷ ts) (tests_in-other ms)
 tests_in-other (None ∷ ms) = tests_in-other ms
+
+-- how many members are no selectors
+abbrev pub others_in : List (Option Selector) → ℕ
+others_in [] = zero
+others_in (Some s ∷ ms) = others_in ms
+others_in (None ∷ ms) = suc (others_in ms)
 
 pub others_in-selector : (ms : List (Option Selector)) (s : Selector) → others_in (ms ++ Some s ∷ []) ≡ others_in ms
 others_in-selector [] s = refl

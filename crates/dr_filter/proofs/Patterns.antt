@@ -1,7 +1,9 @@
 -- How far a pattern fits a text, character by character.
-use Rattle.std.proofs.Common.{◌≡◌, ◌≢◌, rules, ◌∙◌, sym, refl, ap, ℕ, ◌+◌, ◌==◌, Bool, true, false, ◌||◌, ◌&&◌, List, [], ◌∷◌, length, inl, inr, arith, true≢false}
+use Rattle.std.proofs.Common.{◌≡◌, ◌∙◌, sym, refl, ap, ap₂, ℕ, ◌<◌, ◌==◌, Bool, true, false, ◌||◌, ◌&&◌, List, [], ◌∷◌, ◌++◌, length, arith, true≢false}
+use Rattle.std.proofs.lemmas.Bool.{and_parts, and_right, eq-eqb, eqb-true}
+use Rattle.dr_filter.specs.Letters.{Lacks}
 use Rattle.dr_filter.specs.Like.{letter_fits, first_and_rest, behind_some_run, is_empty, fits}
-use Rattle.dr_filter.specs.Attempt.{Stops, IsBehind, IsLeft, IsStillLeft}
+use Rattle.dr_filter.specs.Left.{IsBehind}
 
 module _ (f : List ℕ → Bool) where
   pub behind_none : (t : List ℕ) → f t ≡ true → behind_some_run f t ≡ true
@@ -24,13 +26,12 @@ module _ (f : List ℕ → Bool) where
       at true is rest g = is
       at false is rest g = behind_one_more c cs (rest g)
 
-and_parts : (a b : Bool) → a && b ≡ true → (a ≡ true) × (b ≡ true)
-and_parts true true h = (refl, refl)
-and_parts true false h = absurd (cc)
-and_parts false b h = absurd (cc)
+  -- what doesn't fit here is searched for later
+  pub later-more : (c : ℕ) (cs : List ℕ) → f (c ∷ cs) ≡ false → behind_some_run f (c ∷ cs) ≡ behind_some_run f cs
+  later-more c cs fails = ap (λ b. b || behind_some_run f cs) fails
 
 module _ (p : ℕ) (ps : List ℕ) (itself : (p == 37) ≡ false) where
-  one_letter : (t : List ℕ) → fits (p ∷ ps) t ≡ first_and_rest (letter_fits p) (fits ps) t
+  pub one_letter : (t : List ℕ) → fits (p ∷ ps) t ≡ first_and_rest (letter_fits p) (fits ps) t
   unfolding fits
   one_letter t = rw itself refl
 
@@ -49,87 +50,133 @@ module _ (p : ℕ) (ps : List ℕ) (itself : (p == 37) ≡ false) where
   rest_behind c [] h = by_first c [] (fits (p ∷ ps) (c ∷ [])) refl not_empty h
   rest_behind c (d ∷ ds) h = by_first c (d ∷ ds) (fits (p ∷ ps) (c ∷ d ∷ ds)) refl (λ g. behind_one_more (fits ps) d ds (rest_behind d ds g)) h
 
+-- ---- what is left of a pattern and a text
+
 pub behind-start : (pattern text : List ℕ) → IsBehind pattern text pattern text
-behind-start pattern text = record { same = refl; later = λ h. h; shorter = omega arith; less_text = omega arith }
+behind-start pattern text = record { same = refl; later = λ h. h }
+
+pub behind-then : (pattern text p t q s : List ℕ) → IsBehind pattern text p t → IsBehind p t q s → IsBehind pattern text q s
+behind-then pattern text p t q s so_far more = record { same = so_far.same ∙ more.same; later = λ h. more.later (so_far.later h) }
 
 module _ (pattern text : List ℕ) where
-  pub behind-more : (p t : List ℕ) (c d : ℕ) (ps ts : List ℕ) → IsBehind pattern text p t → p ≡ c ∷ ps → t ≡ d ∷ ts → (c == 37) ≡ false → letter_fits c d ≡ true
-      → IsBehind pattern text ps ts
-  behind-more p t c d ps ts so_far p_is t_is itself one =
-      let was : IsBehind pattern text (c ∷ ps) (d ∷ ts) = rw (← p_is, ← t_is) so_far in
-      record {
-        same = was.same ∙ one_letter c ps itself (d ∷ ts) ∙ ap (λ b. b && fits ps ts) one;
-        later = λ h. rest_behind c ps itself d ts (was.later h);
-        shorter = (let s = was.shorter in omega (arith, s));
-        less_text = (let s = was.less_text in omega (arith, s));
-      }
-
-  pub behind-at_run : (p t : List ℕ) (c : ℕ) (ps : List ℕ) → IsBehind pattern text p t → p ≡ c ∷ ps → c ≡ 37 → IsLeft pattern text p t
-  behind-at_run p t c ps so_far p_is run = record { behind = so_far; stops = inr (ps, rw (← run) p_is) }
-
-  pub behind-at_end : (p t : List ℕ) → IsBehind pattern text p t → p ≡ [] → IsLeft pattern text p t
-  behind-at_end p t so_far p_is = record { behind = so_far; stops = inl p_is }
-
-  pub behind-no_text : (p t : List ℕ) (c : ℕ) (ps : List ℕ) → IsBehind pattern text p t → p ≡ c ∷ ps → t ≡ [] → (c == 37) ≡ false → fits pattern text ≡ false
-  behind-no_text p t c ps so_far p_is t_is itself =
-      let was : IsBehind pattern text (c ∷ ps) [] = rw (← p_is, ← t_is) so_far in
-      was.same ∙ one_letter c ps itself []
-
-  pub behind-differs : (p t : List ℕ) (c d : ℕ) (ps ts : List ℕ) → IsBehind pattern text p t → p ≡ c ∷ ps → t ≡ d ∷ ts → (c == 37) ≡ false → letter_fits c d ≡ false → fits pattern text ≡ false
-  behind-differs p t c d ps ts so_far p_is t_is itself one =
-      let was : IsBehind pattern text (c ∷ ps) (d ∷ ts) = rw (← p_is, ← t_is) so_far in
-      was.same ∙ one_letter c ps itself (d ∷ ts) ∙ ap (λ b. b && fits ps ts) one
-
-  -- ---- what is left
-
-  is_run : (p : List ℕ) (c : ℕ) (ps : List ℕ) → Stops p → p ≡ c ∷ ps → p ≡ 37 ∷ ps
-  is_run p c ps (inl none) is = absurd (cc)
-  is_run p c ps (inr (qs, run)) is = let same : c ∷ ps ≡ 37 ∷ qs = sym is ∙ run in cc
-
-  pub left-run : (p t : List ℕ) (c : ℕ) (ps : List ℕ) → IsLeft pattern text p t → p ≡ c ∷ ps → fits pattern text ≡ behind_some_run (fits ps) t
-  unfolding fits
-  left-run p t c ps left is = left.behind.same ∙ ap (λ q. fits q t) (is_run p c ps left.stops is)
-
-  pub left-end : (p t : List ℕ) → IsLeft pattern text p t → p ≡ [] → fits pattern text ≡ is_empty t
-  unfolding fits
-  left-end p t left is = left.behind.same ∙ ap (λ q. fits q t) is
-
-  pub left-fits : (p t : List ℕ) → IsLeft pattern text p t → p ≡ [] → is_empty t ≡ true → behind_some_run (fits pattern) text ≡ true
-  left-fits p t left is empty = behind_none (fits pattern) text (left-end p t left is ∙ empty)
-
-  pub left-still : (p t : List ℕ) (c : ℕ) (ps : List ℕ) → IsLeft pattern text p t → p ≡ c ∷ ps → IsStillLeft pattern text ps t
-  unfolding fits
-  left-still p t c ps left is = record {
-    same = at (behind_some_run (fits ps) t) (behind_some_run (fits pattern) text) refl refl;
-    less = (let a = left.behind.shorter in let b = left.behind.less_text in let l : length p ≡ length ps + 1 = ap length is ∙ omega arith in omega (arith, a, b, l));
+  pub behind-more : (c d : ℕ) (ps ts : List ℕ) → IsBehind pattern text (c ∷ ps) (d ∷ ts) → (c == 37) ≡ false → letter_fits c d ≡ true → IsBehind pattern text ps ts
+  behind-more c d ps ts so_far itself one = record {
+    same = so_far.same ∙ one_letter c ps itself (d ∷ ts) ∙ ap (λ b. b && fits ps ts) one;
+    later = λ h. rest_behind c ps itself d ts (so_far.later h);
   }
+
+  pub behind-differs : (c d : ℕ) (ps ts : List ℕ) → IsBehind pattern text (c ∷ ps) (d ∷ ts) → (c == 37) ≡ false → letter_fits c d ≡ false → fits pattern text ≡ false
+  behind-differs c d ps ts so_far itself one = so_far.same ∙ one_letter c ps itself (d ∷ ts) ∙ ap (λ b. b && fits ps ts) one
+
+  -- no later place is better
+  pub behind-still : (q s : List ℕ) → IsBehind pattern text (37 ∷ q) s → behind_some_run (fits pattern) text ≡ behind_some_run (fits q) s
+  unfolding fits
+  behind-still q s left = at (behind_some_run (fits q) s) (behind_some_run (fits pattern) text) refl refl
     where
-      run : p ≡ 37 ∷ ps
-      run = is_run p c ps left.stops is
-
-      at : (b x : Bool) → behind_some_run (fits ps) t ≡ b → behind_some_run (fits pattern) text ≡ x → behind_some_run (fits pattern) text ≡ behind_some_run (fits ps) t
-      at true x b_is x_is = behind_none (fits pattern) text (left-run p t c ps left is ∙ b_is) ∙ sym b_is
+      at : (b x : Bool) → behind_some_run (fits q) s ≡ b → behind_some_run (fits pattern) text ≡ x → behind_some_run (fits pattern) text ≡ behind_some_run (fits q) s
+      at true x b_is x_is = behind_none (fits pattern) text (left.same ∙ b_is) ∙ sym b_is
       at false false b_is x_is = x_is ∙ sym b_is
-      at false true b_is x_is =
-          let there : behind_some_run (fits p) t ≡ true = left.behind.later x_is in
-          let two : behind_some_run (behind_some_run (fits ps)) t ≡ true = sym (ap (λ q. behind_some_run (fits q) t) run) ∙ there in
-          let one = behind_two_runs (fits ps) t two in
-          absurd (true≢false (sym one ∙ b_is))
+      at false true b_is x_is = absurd (true≢false (sym (behind_two_runs (fits q) s (left.later x_is)) ∙ b_is))
 
-pub later-none : (pattern text : List ℕ) → fits pattern text ≡ false → text ≡ [] → behind_some_run (fits pattern) text ≡ false
-later-none pattern text fails is = rw is (rw is at fails)
+-- ---- letters without a run
 
-pub later-more : (pattern text : List ℕ) (d : ℕ) (ts : List ℕ) → fits pattern text ≡ false → text ≡ d ∷ ts → IsStillLeft pattern text pattern ts
-later-more pattern text d ts fails is =
-    let no_here : fits pattern (d ∷ ts) ≡ false = rw is at fails in
-    record {
-      same = ap (behind_some_run (fits pattern)) is ∙ ap (λ b. b || behind_some_run (fits pattern) ts) no_here;
-      less = (let l : length text ≡ length ts + 1 = ap length is ∙ omega arith in omega (arith, l));
-    }
+pub lacks-left : (c : ℕ) (p q : List ℕ) → Lacks c (p ++ q) → Lacks c p
+lacks-left c [] q h = tt
+lacks-left c (d ∷ ds) q h = (h.0, lacks-left c ds q h.1)
 
-pub eqb-differs : (c : ℕ) → c ≢ 37 → (c == 37) ≡ false
-eqb-differs c apart = at (c == 37) refl
+pub lacks-right : (c : ℕ) (p q : List ℕ) → Lacks c (p ++ q) → Lacks c q
+lacks-right c [] q h = h
+lacks-right c (d ∷ ds) q h = lacks-right c ds q h.1
+
+-- a text with fewer characters
+pub too_short : (p more t : List ℕ) → Lacks 37 p → length t < length p → fits (p ++ more) t ≡ false
+too_short [] more t lacks less = absurd (omega (arith, less))
+too_short (c ∷ cs) more [] lacks less = one_letter c (cs ++ more) lacks.0 []
+too_short (c ∷ cs) more (d ∷ ds) lacks less = one_letter c (cs ++ more) lacks.0 (d ∷ ds) ∙ and_right (letter_fits c d) _ (too_short cs more ds lacks.1 (omega (arith, less)))
+
+pub too_short-later : (p more t : List ℕ) → Lacks 37 p → length t < length p → behind_some_run (fits (p ++ more)) t ≡ false
+too_short-later p more [] lacks less = too_short p more [] lacks less
+too_short-later p more (d ∷ ds) lacks less = later-more (fits (p ++ more)) d ds (too_short p more (d ∷ ds) lacks less) ∙ too_short-later p more ds lacks (omega (arith, less))
+
+-- ---- `_` at the start
+
+pub gap-none : (ps : List ℕ) → behind_some_run (fits (95 ∷ ps)) [] ≡ false
+gap-none ps = one_letter 95 ps refl []
+
+pub gap-one : (ps : List ℕ) (d : ℕ) (ds : List ℕ) → behind_some_run (fits (95 ∷ ps)) (d ∷ ds) ≡ behind_some_run (fits ps) ds
+gap-one ps d [] = ap (λ b. b || behind_some_run (fits (95 ∷ ps)) []) (one_letter 95 ps refl (d ∷ [])) ∙ ap (λ b. fits ps [] || b) (gap-none ps) ∙ at (fits ps [])
   where
-    at : (b : Bool) → (c == 37) ≡ b → (c == 37) ≡ false
-    at false is = is
-    at true is = absurd (apart (search (rules, is)))
+    at : (b : Bool) → b || false ≡ b
+    at true = refl
+    at false = refl
+gap-one ps d (e ∷ es) = ap (λ b. b || behind_some_run (fits (95 ∷ ps)) (e ∷ es)) (one_letter 95 ps refl (d ∷ e ∷ es)) ∙ ap (λ b. fits ps (e ∷ es) || b) (gap-one ps e es)
+
+-- ---- literal characters
+
+same_letter : (c : ℕ) → letter_fits c c ≡ true
+same_letter c = at (c == 95) (c == c) (eq-eqb c c refl)
+  where
+    at : (a b : Bool) → b ≡ true → a || b ≡ true
+    at true b is = refl
+    at false b is = is
+
+-- a text that begins with them is left without them
+pub literal-past : (pattern text l others more s : List ℕ) → Lacks 37 l → IsBehind pattern text ((l ++ others) ++ more) (l ++ s) → IsBehind pattern text (others ++ more) s
+literal-past pattern text [] others more s lacks so_far = so_far
+literal-past pattern text (c ∷ cs) others more s lacks so_far = literal-past pattern text cs others more s lacks.1 (behind-more pattern text c c ((cs ++ others) ++ more) (cs ++ s) so_far lacks.0 (same_letter c))
+
+-- a text that fits begins with them
+pub literal-first : (l others more t : List ℕ) → Lacks 37 l → Lacks 95 l → fits ((l ++ others) ++ more) t ≡ true → (s : List ℕ) × (t ≡ l ++ s)
+literal-first [] others more t runs gaps is = (t, refl)
+literal-first (c ∷ cs) others more [] runs gaps is = let none : false ≡ true = sym (one_letter c ((cs ++ others) ++ more) runs.0 []) ∙ is in absurd (cc)
+literal-first (c ∷ cs) others more (d ∷ ds) runs gaps is =
+    let both = and_parts (letter_fits c d) (fits ((cs ++ others) ++ more) ds) (sym (one_letter c ((cs ++ others) ++ more) runs.0 (d ∷ ds)) ∙ is) in
+    let rest = literal-first cs others more ds runs.1 gaps.1 both.1 in
+    let same : c ≡ d = eqb-true c d (sym (ap (λ b. b || (c == d)) gaps.0) ∙ both.0) in
+    (rest.0, ap (λ l. d ∷ l) rest.1 ∙ ap (λ x. x ∷ (cs ++ rest.0)) (sym same))
+
+-- ---- the end of a text
+
+no_text : (p : List ℕ) (c : ℕ) → Lacks 37 (p ++ c ∷ []) → fits (p ++ c ∷ []) [] ≡ false
+no_text [] c lacks = one_letter c [] lacks.0 []
+no_text (x ∷ xs) c lacks = one_letter x (xs ++ c ∷ []) lacks.0 []
+
+not_empty_behind : (t : List ℕ) (d : ℕ) → is_empty (t ++ d ∷ []) ≡ false
+not_empty_behind [] d = refl
+not_empty_behind (e ∷ es) d = refl
+
+swap : (a b c : Bool) → a && (b && c) ≡ b && (a && c)
+swap true b c = refl
+swap false true c = refl
+swap false false c = refl
+
+and_of_or : (a b c : Bool) → (a && b) || (a && c) ≡ a && (b || c)
+and_of_or true b c = refl
+and_of_or false b c = refl
+
+or_false : (b : Bool) → b || false ≡ b
+or_false true = refl
+or_false false = refl
+
+last_letter : (p t : List ℕ) (c d : ℕ) → Lacks 37 (p ++ c ∷ []) → fits (p ++ c ∷ []) (t ++ d ∷ []) ≡ letter_fits c d && fits p t
+unfolding fits
+last_letter [] [] c d lacks = one_letter c [] lacks.0 (d ∷ [])
+last_letter [] (e ∷ es) c d lacks = one_letter c [] lacks.0 (e ∷ (es ++ d ∷ [])) ∙ and_right (letter_fits c e) _ (not_empty_behind es d) ∙ sym (and_right (letter_fits c d) false refl)
+last_letter (x ∷ xs) [] c d lacks =
+    one_letter x (xs ++ c ∷ []) lacks.0 (d ∷ []) ∙ and_right (letter_fits x d) _ (no_text xs c lacks.1) ∙ sym (and_right (letter_fits c d) _ (one_letter x xs lacks.0 []))
+last_letter (x ∷ xs) (e ∷ es) c d lacks =
+    one_letter x (xs ++ c ∷ []) lacks.0 (e ∷ (es ++ d ∷ [])) ∙ ap (λ b. letter_fits x e && b) (last_letter xs es c d lacks.1) ∙ swap (letter_fits x e) (letter_fits c d) (fits xs es)
+    ∙ ap (λ b. letter_fits c d && b) (sym (one_letter x xs lacks.0 (e ∷ es)))
+
+pub last-some : (p t : List ℕ) (c d : ℕ) → Lacks 37 (p ++ c ∷ []) → behind_some_run (fits (p ++ c ∷ [])) (t ++ d ∷ []) ≡ letter_fits c d && behind_some_run (fits p) t
+last-some p [] c d lacks = ap₂ (λ a b. a || b) (last_letter p [] c d lacks) (no_text p c lacks) ∙ or_false _
+last-some p (e ∷ es) c d lacks = ap₂ (λ a b. a || b) (last_letter p (e ∷ es) c d lacks) (last-some p es c d lacks) ∙ and_of_or (letter_fits c d) (fits p (e ∷ es)) (behind_some_run (fits p) es)
+
+pub last-none : (p : List ℕ) (c : ℕ) → Lacks 37 (p ++ c ∷ []) → behind_some_run (fits (p ++ c ∷ [])) [] ≡ false
+last-none = no_text
+
+-- nothing more to fit
+pub end-fits : (t : List ℕ) → behind_some_run (fits []) t ≡ true
+unfolding fits
+end-fits [] = refl
+end-fits (c ∷ cs) = end-fits cs

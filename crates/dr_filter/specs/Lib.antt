@@ -1,6 +1,8 @@
 pub mod Refusal
 pub mod Like
-pub mod Attempt
+pub mod Letters
+pub mod Pieces
+pub mod Left
 pub mod Match
 pub mod LookUps
 pub mod Condition

@@ -1,5 +1,5 @@
 -- The selectors among the members of an `or`.
-use Rattle.std.specs.Prelude.{◌≡◌, ℕ, zero, suc, ◌<◌, Bool, List, [], ◌∷◌, Option, Some, None, length, get_or}
+use Rattle.std.specs.Prelude.{◌≡◌, ℕ, ◌<◌, Bool, List, [], ◌∷◌, Option, Some, None, length, get_or}
 use Rattle.std.specs.List.{list_any}
 use Rattle.dr_filter.specs.declared.dimension_test.DimensionTest.{DimensionTest}
 use Rattle.dr_filter.specs.declared.selector.Selector.{Selector}
@@ -10,16 +10,11 @@ use Rattle.dr_filter.specs.Match.{holds_of}
 abbrev pub as_test : Selector → DimensionTest
 as_test s = record { place = s.place; test = Equals s.text }
 
--- the selectors among some members, and how many others there are
+-- the selectors among some members
 abbrev pub tests_in : List (Option Selector) → List DimensionTest
 tests_in [] = []
 tests_in (Some s ∷ ms) = as_test s ∷ tests_in ms
 tests_in (None ∷ ms) = tests_in ms
-
-abbrev pub others_in : List (Option Selector) → ℕ
-others_in [] = zero
-others_in (Some s ∷ ms) = others_in ms
-others_in (None ∷ ms) = suc (others_in ms)
 
 -- one of some tests holds of these dimension values
 abbrev pub some_holds : List (List ℕ) → List DimensionTest → Bool

@@ -1,11 +1,10 @@
 ghost use Rattle.std.specs.Prelude.{◌≡◌, map, IfOk, IfSome};
 ghost use Rattle.dr_filter.specs.Condition.{condition_in, conditions_of, members_of, some, dimension};
-ghost use Rattle.dr_filter.specs.LookUps.{as_test, AreLookedUp};
+ghost use Rattle.dr_filter.specs.LookUps.{as_test};
 
-use crate::dimension_test::DimensionTest;
 use crate::filter::Filter;
 use crate::selector::Selector;
-use crate::selectors::{Selectors, look_up};
+use crate::selectors::Selectors;
 use crate::value_test::ValueTest;
 use std::alloc::{AllocError, Global};
 
@@ -13,34 +12,25 @@ use std::alloc::{AllocError, Global};
 pub fn one_of(alloc: Global, filters: Vec<Filter>) -> Result<Filter, AllocError>
     ensures { IfOk result (λ f. condition_in f ≡ some (conditions_of (map condition_in filters.items))) }
 {
-    let mut members = Vec::new(alloc);
-    let mut look_ups = Vec::new(alloc);
+    let mut selectors = Selectors::new(alloc);
     let mut others = Vec::new(alloc);
     for filter in filters {
         match selector_in(&filter)? {
-            Some(selector) => {
-                look_up(alloc, &mut look_ups, &selector)?;
-                members.push(Some(selector))?;
-            }
+            Some(selector) => selectors = selectors.and_selector(alloc, selector)?,
             None => {
-                members.push(None)?;
+                selectors = selectors.and_other()?;
                 others.push(filter)?;
             }
         }
     }
-    Ok(either(members, look_ups, others))
+    Ok(either(selectors, others))
 }
 
 // The `or` of some members, of which the others stand apart.
-fn either(
-    members: Vec<Option<Selector>>,
-    look_ups: Vec<DimensionTest>,
-    others: Vec<Filter>,
-) -> Filter
-    requires { AreLookedUp look_ups.items members.items }
-    ensures { condition_in result ≡ some (conditions_of (members_of members.items (map condition_in others.items))) }
+fn either(selectors: Selectors, others: Vec<Filter>) -> Filter
+    ensures { condition_in result ≡ some (conditions_of (members_of selectors (map condition_in others.items))) }
 {
-    Filter::Or(Selectors::of(members, look_ups), others)
+    Filter::Or(selectors, others)
 }
 
 // The selector that a filter is, where it is one.

@@ -10,12 +10,14 @@ mod filter;
 mod filter_error;
 mod letters;
 mod like;
+mod pieces;
 mod reading;
 mod selector;
 mod selectors;
 mod test_reading;
 mod value_test;
 mod values;
+mod walked;
 
 pub use bounds::Bounds;
 pub use dimension_test::DimensionTest;

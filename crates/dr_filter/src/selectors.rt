@@ -1,4 +1,4 @@
-ghost use Rattle.std.specs.Prelude.{◌≡◌, ◌||◌, ℕ, List, true, false, IfOk, IfSome, OnOk};
+ghost use Rattle.std.specs.Prelude.{◌≡◌, ◌||◌, ◌++◌, ◌∷◌, [], ℕ, List, Some, None, true, false, IfOk, IfSome, OnOk};
 ghost use Rattle.dr_filter.specs.LookUps.{as_test, tests_in, some_holds, AreLookedUp, IsTestOf};
 ghost use Rattle.dr_filter.specs.Match.{holds_of};
 
@@ -31,12 +31,41 @@ impl Model for Selectors {
 }
 
 impl Selectors {
-    // Members, and tests that tell the same as the selectors among them.
-    pub(crate) fn of(members: Vec<Option<Selector>>, look_ups: Vec<DimensionTest>) -> Selectors
-        requires { AreLookedUp look_ups.items members.items }
-        ensures { result ≡ members.items }
+    // No members.
+    pub(crate) fn new(alloc: Global) -> Selectors
+        ensures { result ≡ [] }
     {
-        Selectors { members, look_ups }
+        Selectors {
+            members: Vec::new(alloc),
+            look_ups: Vec::new(alloc),
+        }
+    }
+
+    // These members, and behind them a selector.
+    pub(crate) fn and_selector(
+        self,
+        alloc: Global,
+        selector: Selector,
+    ) -> Result<Selectors, AllocError>
+        ensures { IfOk result (λ more. more ≡ self ++ Some selector ∷ []) }
+    {
+        let mut members = self.members;
+        let mut look_ups = self.look_ups;
+        look_up(alloc, &mut look_ups, &selector)?;
+        members.push(Some(selector))?;
+        Ok(Selectors { members, look_ups })
+    }
+
+    // These members, and behind them one that is no selector.
+    pub(crate) fn and_other(self) -> Result<Selectors, AllocError>
+        ensures { IfOk result (λ more. more ≡ self ++ None ∷ []) }
+    {
+        let mut members = self.members;
+        members.push(None)?;
+        Ok(Selectors {
+            members,
+            look_ups: self.look_ups,
+        })
     }
 
     /// The tests that tell the same as all the selectors together, one for each dimension that they name: whether the value
@@ -63,7 +92,7 @@ fn some_hold_of(tests: &[DimensionTest], dims: &[Text]) -> bool
 }
 
 // Adds a selector to the tests: its text to a test of its dimension, where there is one.
-pub(crate) fn look_up(
+fn look_up(
     alloc: Global,
     look_ups: &mut Vec<DimensionTest>,
     selector: &Selector,

@@ -203,7 +203,17 @@ fn copied(alloc: Global, time: i64, dims: &[Text], metrics: &[i64]) -> Result<Ro
     })
 }
 
+// The order of dimension values, in which those of two rows that were made are compared as they lie, since sorting does little else.
 fn order_of_dims(a: &RowRef, b: &RowRef) -> Ordering
+    ensures { result ≡ slice_cmp (slice_cmp nat_cmp) a.now.key.dims b.now.key.dims }
+{
+    match (&a.0, &b.0) {
+        (Lying::Made(_, a_dims, _), Lying::Made(_, b_dims, _)) => a_dims.cmp(b_dims),
+        _ => order_one_by_one(a, b),
+    }
+}
+
+fn order_one_by_one(a: &RowRef, b: &RowRef) -> Ordering
     ensures { result ≡ slice_cmp (slice_cmp nat_cmp) a.now.key.dims b.now.key.dims }
 {
     let a_count = a.dim_count();

@@ -8,7 +8,7 @@ use Rattle.dr_having.specs.declared.group_value.GroupValue.{GroupValue}
 use Rattle.dr_having.specs.declared.having.Having.{Having}
 use Rattle.dr_having.specs.declared.some_bound.SomeBound.{SomeBound}
 use Rattle.dr_having.specs.Bounds.{lies_in, reaches, narrowed}
-use Rattle.dr_having.specs.Compared.{every_holds, some_holds, others_in, lies_in_at, lie_in_all, reaches_at, reach_some, IsEveryOf, IsSomeOf}
+use Rattle.dr_having.specs.Compared.{every_holds, some_holds, lies_in_at, lie_in_all, reaches_at, reach_some, IsEveryOf, IsSomeOf}
 use Rattle.dr_having.specs.Condition.{Condition, aggregation, condition_in, conditions_of, members_of, meets, meets_every, meets_some}
 use Rattle.dr_having.specs.Meeting.{compares, meets_value, number_at}
 use Rattle.dr_having.proofs.Narrowing.{lies_in-narrowed, place-narrowed}
@@ -93,6 +93,12 @@ module _ (dims : List (List ℕ)) (values : List ℤ) (ms : List (Option GroupVa
   meets_some-others none = meets_some-members dims values ms cs ∙ ap (λ b. b || meets_some dims values (conditions_of cs)) none
 
 -- ---- the members of a list of conditions in turn
+
+-- how many members are no comparisons
+abbrev pub others_in : List (Option GroupValue) → ℕ
+others_in [] = zero
+others_in (Some c ∷ ms) = others_in ms
+others_in (None ∷ ms) = suc (others_in ms)
 
 others_in-comparison : (ms : List (Option GroupValue)) (c : GroupValue) → others_in (ms ++ Some c ∷ []) ≡ others_in ms
 others_in-comparison [] c = refl

@@ -1,5 +1,5 @@
 -- The comparisons of aggregations among the members of an `and` or an `or`.
-use Rattle.std.specs.Prelude.{◌≡◌, ℕ, ℤ, zero, suc, ◌<◌, Bool, true, false, ◌&&◌, ◌||◌, List, [], ◌∷◌, Option, Some, None, length, get_or}
+use Rattle.std.specs.Prelude.{◌≡◌, ℕ, ℤ, ◌<◌, Bool, true, false, ◌&&◌, ◌||◌, List, [], ◌∷◌, Option, Some, None, length, get_or}
 use Rattle.std.specs.List.{list_all, list_any}
 use Rattle.dr_having.specs.declared.every_bound.EveryBound.{EveryBound}
 use Rattle.dr_having.specs.declared.group_value.GroupValue.{GroupValue}
@@ -17,12 +17,6 @@ abbrev pub some_holds : List ℤ → List (Option GroupValue) → Bool
 some_holds values [] = false
 some_holds values (Some c ∷ ms) = meets_value c values || some_holds values ms
 some_holds values (None ∷ ms) = some_holds values ms
-
--- how many other members there are
-abbrev pub others_in : List (Option GroupValue) → ℕ
-others_in [] = zero
-others_in (Some c ∷ ms) = others_in ms
-others_in (None ∷ ms) = suc (others_in ms)
 
 -- the values lie in all of some bounds, or reach one of them
 abbrev pub lies_in_at : List ℤ → EveryBound → Bool

@@ -1,5 +1,5 @@
 -- The condition that a `having` stands for, and the groups that meet it (Apache Druid documentation, groupBy queries: having).
-use Rattle.std.specs.Prelude.{ℕ, ℤ, Bool, true, false, not, ◌||◌, ◌&&◌, List, [], ◌∷◌, Option, Some, None, map, box_value}
+use Rattle.std.specs.Prelude.{ℕ, ℤ, Bool, true, false, not, ◌||◌, ◌&&◌, List, [], ◌∷◌, Option, Some, None, box_value}
 use Rattle.dr_having.specs.declared.group_value.GroupValue.{GroupValue}
 use Rattle.dr_having.specs.declared.dimension_value.DimensionValue.{DimensionValue}
 use Rattle.dr_having.specs.declared.having.Having.{Having, fold-Having}
@@ -58,6 +58,3 @@ condition_step (Having-F.Not inner) = opposite (box_value inner)
 -- the condition that a `having` stands for
 abbrev pub condition_in : Having → Condition
 condition_in = fold-Having Condition condition_step
-
-abbrev pub conditions_in : List Having → Conditions
-conditions_in conditions = conditions_of (map condition_in conditions)

@@ -22,4 +22,4 @@ refused_or None counts = Ok counts
 
 -- how many lines were no events and how many events weren't kept, or that refusal
 abbrev pub counts_of : List Ingested → Result (ℕ × ℕ) LoadError
-counts_of files = refused_or (first_refusal files) (total (map (λ f. f.unparseable) files), total (map (λ f. f.thrown_away) files))
+counts_of files = refused_or (first_refusal files) (total (map (λ f. f.tally.unparseable) files), total (map (λ f. f.tally.thrown_away) files))

@@ -31,8 +31,7 @@ pub(crate) fn ingest<B: Books, R: Read + Drop, T: Wait>(
     let mut file = Counted::new(file);
     let ended = ingest_file(rt, alloc, node, spec, seat, &mut file, &mut tally);
     Ingested {
-        unparseable: tally.unparseable,
-        thrown_away: tally.thrown_away,
+        tally,
         refusal: ended.err(),
     }
 }

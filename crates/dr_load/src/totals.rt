@@ -15,8 +15,8 @@ pub(crate) fn counts_of(told: Vec<Ingested>) -> Result<(u64, u64), LoadError>
         if let Some(refusal) = file.refusal {
             return Err(refusal);
         }
-        unparseable = unparseable.saturating_add(file.unparseable);
-        thrown_away = thrown_away.saturating_add(file.thrown_away);
+        unparseable = unparseable.saturating_add(file.tally.unparseable);
+        thrown_away = thrown_away.saturating_add(file.tally.thrown_away);
     }
     Ok((unparseable, thrown_away))
 }

@@ -13,8 +13,7 @@ use Rattle.dr_agg.specs.declared.kind.Kind.{Kind}
 use Rattle.dr_agg.specs.Combination.{combine_columns}
 use Rattle.dr_agg.specs.Rollup.{add_row, joined, rollup, IsInOrder, IsRising, IsRollup}
 use Rattle.dr_agg.proofs.RollupLaws.{same_rollup, IsRollup-rollup}
-use Rattle.dr_agg.proofs.Sorting.{place-last, place-behind}
-use Rattle.dr_agg.proofs.Passing.{set-parts}
+use Rattle.dr_agg.proofs.Sorting.{place-last, place-behind, set-parts}
 
 pub equal_from : (o : Ordering) → is_eq o ≡ true → o ≡ Equal
 equal_from Less e = absurd cc
@@ -45,7 +44,7 @@ added_into kinds rows r l new i len is up behind same joins =
     let lt : i < length rows = omega arith in
     let p = place-last rows r l i len is up behind (equal_from (key_cmp r.key l.key) same) in
     let at : slice_get rows i ≡ Some l = slice_get-get_or rows i l lt ∙ ap Some (sym is) in
-    set-parts rows i new lt ∙ ap (λ (x : Row). take i rows ++ (x ∷ drop (i + 1) rows)) joins ∙ sym (p.2 kinds l at)
+    set-parts rows i new lt ∙ ap (λ (x : Row). take i rows ++ (x ∷ drop (i + 1) rows)) joins ∙ sym (p.1 kinds l at)
 
 -- a list before a place, the item there, and what stands behind it
 pub split_at : (rows : List Row) (i : ℕ) (r : Row) → i < length rows → r ≡ get_or rows i r → rows ≡ take i rows ++ (r ∷ drop (i + 1) rows)

@@ -4,7 +4,6 @@ ghost use Rattle.dr_agg.specs.Rollup.{all_rows, rollup_onto, rows_at, AllFit};
 ghost use Rattle.dr_ask.specs.Asked.{asked};
 ghost use Rattle.dr_base.specs.declared.key.Key.{Key};
 ghost use Rattle.dr_base.specs.declared.row.Row.{Row};
-ghost use Rattle.dr_image.specs.Table.{rows_of};
 ghost use Rattle.dr_intervals.specs.Printable.{StartsPrintable};
 ghost use Rattle.dr_rollup.specs.Entries.{row_of};
 ghost use Rattle.dr_rollup.specs.Unrolled.{unrolled};
@@ -16,16 +15,13 @@ ghost use Rattle.dr_partial.specs.Partial.{partial, values_at, kinds_in, IsParti
 
 use crate::events::add_event_pieces;
 use crate::fragments::add_range;
-use crate::index::add_index;
 use crate::merging::add_groups;
 use crate::rows::add_pieces;
-use crate::views::add_view;
 use dr_agg::sort_rows;
 use dr_ask::Query;
 use dr_base::{Key, Numbers, Row};
-use dr_fragment::{Form, SharedEvent, SharedFragment};
-use dr_image::SegmentView;
-use dr_rollup::{KeyOf, OpenIndex};
+use dr_fragment::{SharedEvent, SharedFragment};
+use dr_rollup::KeyOf;
 use dr_schema::Schema;
 use indexmap::IndexMap;
 use std::alloc::{AllocError, Global};
@@ -85,42 +81,8 @@ impl Partial {
         Ok(Partial { groups })
     }
 
-    /// The groups of the rows of an image, read column by column: no row is made. What a query selects is decided once for each
-    /// value of a dictionary that its filter asks of, and once for each run of equal times; the bounds of a bucket
-    /// are calculated once for its rows; and a group is found by the numbers of its values, mostly, and its texts are copied
-    /// once. The only error is that memory ran out. An image that lies outside the query's intervals takes time logarithmic in
-    /// their number. Any other takes time by the rows, and expected time by the groups and the bytes of their values; and memory
-    /// by the groups, by a byte a row for each level of the filter, and by at most 65521 places of groups. Without dimensions
-    /// and filter it takes no memory but that of the groups.
-    pub fn of_view(
-        alloc: Global,
-        query: &Query,
-        view: &SegmentView<'_>,
-    ) -> Result<Partial, AllocError>
-        ensures value { IfOk result (λ p. p ≡ partial (asked query.now) (rows_of view.now)) }
-        ensures printable { All StartsPrintable query.now.intervals → IfOk result (λ p. AllByRecursion (λ g. IsPrintable g.key.time) p) }
-    {
-        let mut groups = IndexMap::new(alloc);
-        let _ = view.as_bytes();
-        add_view(&mut groups, query, view)?;
-        Ok(Partial { groups })
-    }
-
-    /// The groups of the rows of an open index, whose times lie from 0001-01-01 to 9999-12-31, in one pass over the rows as they
-    /// lie there: none is copied, and none sorted. Error and cost are those of `of_rows`.
-    pub fn of_index(alloc: Global, query: &Query, index: &OpenIndex) -> Result<Partial, AllocError>
-        requires { AllByRecursion (λ r. IsInstant r.key.time) index.now.rows }
-        ensures value { IfOk result (λ p. p ≡ partial (asked query.now) index.now.rows) }
-        ensures printable { All StartsPrintable query.now.intervals → IfOk result (λ p. AllByRecursion (λ g. IsPrintable g.key.time) p) }
-    {
-        let mut groups = IndexMap::new(alloc);
-        let mut group = Vec::new(alloc);
-        add_index(&mut groups, &mut group, query, index)?;
-        Ok(Partial { groups })
-    }
-
-    /// The groups of the rows of a range as a snapshot holds it, whose times lie from 0001-01-01 to 9999-12-31: a list of rows, an image, or the index
-    /// of an open range. Error and cost are those of `of_rows`, `of_view` and `of_index`.
+    /// The groups of the rows of a range as a snapshot holds it, whose times lie from 0001-01-01 to 9999-12-31: a list of rows, an
+    /// image, or the index of an open range. The only error is that memory ran out. It takes what `add_fragment` takes.
     pub fn of_fragment(
         alloc: Global,
         query: &Query,
@@ -130,16 +92,23 @@ impl Partial {
         ensures value { IfOk result (λ p. p ≡ partial (asked query.now) fragment.now.rows) }
         ensures printable { All StartsPrintable query.now.intervals → IfOk result (λ p. AllByRecursion (λ g. IsPrintable g.key.time) p) }
     {
-        match fragment.form() {
-            Form::Rows(rows) => Partial::of_rows(alloc, query, &[rows]),
-            Form::Image(view) => Partial::of_view(alloc, query, &view),
-            Form::Index(index) => Partial::of_index(alloc, query, index),
-        }
+        let none = Partial::of_rows(alloc, query, &[])?;
+        let groups = none.add_fragment(query, fragment)?;
+        Ok(groups)
     }
 
     /// The groups of this partial result and of one range more, whose times lie from 0001-01-01 to 9999-12-31: its rows are added to
-    /// the groups that there are, or to new ones. The only error is that memory ran out. It takes what `of_fragment` takes
-    /// over the range; no group that was there is touched unless a row is of it.
+    /// the groups that there are, or to new ones. The only error is that memory ran out. No group that was there is touched unless
+    /// a row is of it.
+    ///
+    /// Rows of a list and of an open index take one pass as they lie, and cost what `of_rows` costs: none is copied, and none
+    /// sorted. An image is read column by column, and no row is made. What a query selects is decided once for each
+    /// value of a dictionary that its filter asks of, and once for each run of equal times; the bounds of a bucket
+    /// are calculated once for its rows; and a group is found by the numbers of its values, mostly, and its texts are copied
+    /// once. An image that lies outside the query's intervals takes time logarithmic in their number. Any other takes time by the
+    /// rows, and expected time by the groups and the bytes of their values; and memory by the groups, by a byte a row for each
+    /// level of the filter, and by at most 65521 places of groups. Without dimensions and filter it takes no memory but that of
+    /// the groups.
     pub fn add_fragment(
         self,
         query: &Query,

@@ -18,4 +18,4 @@ pub use arrived::Arrived;
 pub use key_of::KeyOf;
 pub use open_index::OpenIndex;
 pub use rollup_error::RollupError;
-pub use unrolled::{columns_of, push_contributions, unrolled_row};
+pub use unrolled::{columns_of, push_contributions};

@@ -7,10 +7,8 @@ use std::alloc::{AllocError, Global};
 pub fn copies_of(alloc: Global, texts: &[Text]) -> Result<Vec<Text>, AllocError>
     ensures { IfOk result (λ copies. copies.items ≡ texts.now) }
 {
-    let mut copies = Vec::with_capacity(alloc, texts.len())?;
-    for text in texts {
-        copies.push(text.copy()?)?;
-    }
+    let mut copies = Vec::new(alloc);
+    push_copies(&mut copies, texts)?;
     Ok(copies)
 }
 

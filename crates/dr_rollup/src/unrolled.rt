@@ -3,10 +3,9 @@ ghost use Rattle.dr_gran.specs.Truncation.{truncation};
 ghost use Rattle.dr_time.specs.Instant.{IsInstant};
 ghost use Rattle.dr_schema.specs.Columns.{kinds_of};
 ghost use Rattle.dr_agg.specs.Combination.{column, combine_columns, FitsColumns};
-ghost use Rattle.dr_rollup.specs.Unrolled.{unrolled, contribution, contributions};
+ghost use Rattle.dr_rollup.specs.Unrolled.{contribution, contributions};
 
 use dr_agg::Kind;
-use dr_base::{Event, Key, Numbers, Row};
 use dr_schema::{Metric, Schema};
 use std::alloc::{AllocError, Global};
 
@@ -22,31 +21,6 @@ pub fn columns_of(alloc: Global, schema: &Schema) -> Result<Vec<Kind>, AllocErro
         .collect(alloc)
 }
 
-/// The row of one event: its time truncated to the query granularity, its dimensions, and what it adds to each column: 1
-/// to a count, its input to every other (Apache Druid documentation, ingestion: rollup); where an input isn't there, it
-/// reads 0. The time of the event lies from 0001-01-01 to 9999-12-31. The only error is that memory ran out. It takes time by
-/// the columns and the dimensions, and memory for as many; texts are shared.
-pub fn unrolled_row(alloc: Global, schema: &Schema, event: &Event) -> Result<Row, AllocError>
-    requires { IsInstant event.now.time }
-    ensures { IfOk result (λ row. row ≡ unrolled schema.now event.now) }
-{
-    Ok(Row {
-        key: unrolled_key(schema, event)?,
-        metrics: contributions(alloc, schema.metrics().as_slice(), event.inputs.as_slice())?,
-    })
-}
-
-/// The key of that row.
-pub fn unrolled_key(schema: &Schema, event: &Event) -> Result<Key, AllocError>
-    requires { IsInstant event.now.time }
-    ensures { IfOk result (λ key. key ≡ (unrolled schema.now event.now).key) }
-{
-    Ok(Key {
-        time: row_time(schema, event.time),
-        dims: event.dims.copy()?,
-    })
-}
-
 /// The start of the bucket of the query granularity in which a time from 0001-01-01 to 9999-12-31 lies, in milliseconds
 /// since 1970-01-01T00:00:00Z.
 pub fn row_time(schema: &Schema, time: i64) -> i64
@@ -54,15 +28,6 @@ pub fn row_time(schema: &Schema, time: i64) -> i64
     ensures { result ≡ truncation schema.now.query_granularity time }
 {
     schema.query_granularity().truncate(time)
-}
-
-/// What an event adds to each column, by its inputs.
-fn contributions(alloc: Global, metrics: &[Metric], inputs: &[i64]) -> Result<Numbers, AllocError>
-    ensures { IfOk result (λ values. values ≡ contributions (map (λ m. m.kind) metrics.now) inputs.now) }
-{
-    let mut values = Vec::with_capacity(alloc, metrics.len())?;
-    push_contributions(&mut values, metrics, inputs);
-    Ok(Numbers::from_vec(values))
 }
 
 /// Puts what an event adds to each column, by its inputs, behind other values: 1 to a count, its input to every other; where an

@@ -21,8 +21,8 @@ fn is(text: Option<&str>, wanted: &str) -> bool {
 }
 
 #[test]
-fn sorts_dictionaries(rt: HostRuntime) -> Result<(), Fail> {
-    let dict = dictionary(rt.alloc())?;
+fn sorts_the_copy_of_a_dictionary(rt: HostRuntime) -> Result<(), Fail> {
+    let dict = dictionary(rt.alloc())?.copy()?;
     let sorted = SortedDict::of(&dict)?;
     assert!(rt; is(sorted.text(0), "") && is(sorted.text(1), "a") && is(sorted.text(2), "b"));
     let places = renumbering(&dict)?;

@@ -1,7 +1,9 @@
 ghost use Rattle.std.specs.Prelude.{IfOk};
+ghost use Rattle.std.specs.Box.{box_value};
 ghost use Rattle.dr_ask.specs.Asked.{asked};
 ghost use Rattle.dr_ask.specs.MadeFor.{MadeFor};
 
+use crate::queries::query_of;
 use dr_ask::Query;
 use dr_events::read_event;
 use dr_spec::IngestSpec;
@@ -21,11 +23,11 @@ pub fn pinned(
     events: &[&str],
     sealed: usize,
     text: &str,
-) -> Result<(Snapshot, Query), Fail>
-    ensures { IfOk result (λ p. MadeFor p.0.schema (asked p.1)) }
+) -> Result<(Snapshot, Box<Query>), Fail>
+    ensures { IfOk result (λ p. MadeFor p.0.schema (asked (box_value p.1))) }
 {
     let mut timeline = filled(alloc, events, sealed)?;
-    let query = Query::parse(alloc, text.as_bytes(), timeline.spec().schema())?;
+    let query = query_of(alloc, timeline.spec().schema(), text)?;
     Ok((timeline.pin()?, query))
 }
 

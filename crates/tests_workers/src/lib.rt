@@ -9,6 +9,8 @@ mod both_entered;
 #[cfg(test)]
 mod gated;
 #[cfg(test)]
+mod queries;
+#[cfg(test)]
 mod ranges;
 #[cfg(test)]
 mod scattered;

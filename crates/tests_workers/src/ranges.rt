@@ -2,8 +2,10 @@ ghost use Rattle.std.specs.Prelude.{◌≡◌, ◌<◌, IfOk};
 ghost use Rattle.std.specs.List.{AllByRecursion};
 ghost use Rattle.dr_time.specs.Instant.{IsInstant};
 
+use dr_ask::Query;
 use dr_base::{Key, Numbers, Row, Text, Texts};
 use dr_fragment::{Fragment, SharedFragment};
+use dr_partial::Partial;
 use std::alloc::{AllocError, Global};
 use std::marker::Model;
 use std::test::Fail;
@@ -49,6 +51,15 @@ impl Ranges {
     {
         self.0.push(range)?;
         Ok(())
+    }
+
+    /// What is found over each range alone.
+    pub fn each(&self, alloc: Global, query: &Query) -> Result<Vec<Partial>, AllocError> {
+        let mut found = Vec::new(alloc);
+        for i in 0..self.0.len() {
+            found.push(Partial::of_fragment(alloc, query, &self.0[i])?)?;
+        }
+        Ok(found)
     }
 
     pub fn as_slice(&self) -> &[SharedFragment]

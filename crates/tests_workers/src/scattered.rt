@@ -1,4 +1,5 @@
 use crate::both_entered::BothEntered;
+use crate::queries::query_of;
 use crate::ranges::Ranges;
 use dr_ask::Query;
 use dr_partial::Partial;
@@ -17,9 +18,9 @@ const SPEC: &str =
 const SUMS: &str =
     r#"{"queryType":"groupBy","dataSource":"w","intervals":["2024-01-01/2024-01-02"],"granularity":"all","dimensions":["page"],"aggregations":[{"type":"longSum","name":"added","fieldName":"added"},{"type":"count","name":"cnt"}]}"#;
 
-fn sums(alloc: Global) -> Result<Query, Fail> {
+fn sums(alloc: Global) -> Result<Box<Query>, Fail> {
     let spec = IngestSpec::parse(alloc, SPEC.as_bytes())?;
-    Ok(Query::parse(alloc, SUMS.as_bytes(), spec.schema())?)
+    query_of(alloc, spec.schema(), SUMS)
 }
 
 /// What is found over so many ranges, by so many workers who enter a gate; by this thread alone where there are none.
@@ -76,6 +77,21 @@ fn any_number_of_workers_finds_what_one_finds(rt: HostRuntime) -> Result<(), Fai
 fn workers_leave_out_no_range(rt: HostRuntime) -> Result<(), Fail> {
     let values = values_by(&rt, rt.alloc(), 20, 7)?;
     assert!(rt; values.as_slice() == [63, 7, 70, 7, 57, 6].as_slice());
+    Ok(())
+}
+
+/// Of 0 to 2 each has a group of its own.
+#[test]
+fn each_range_alone_has_its_groups(rt: HostRuntime) -> Result<(), Fail> {
+    let alloc = rt.alloc();
+    let query = sums(alloc)?;
+    let mut values = Vec::new(alloc);
+    for groups in Ranges::new(alloc, 3)?.each(alloc, &query)? {
+        for value in values_of(alloc, groups)? {
+            values.push(value)?;
+        }
+    }
+    assert!(rt; values.as_slice() == [0, 1, 1, 1, 2, 1].as_slice());
     Ok(())
 }
 

@@ -1,40 +1,38 @@
 use Rattle.std.proofs.Common.{◌≡◌, ◌∙◌, sym, ap, [], ◌∷◌, length, map, append_assoc, append-nil, arith}
 use Rattle.std.specs.Vec.Iter.{into_iter_items}
 use Rattle.dr_filter.specs.Condition.{condition_in, conditions_of, some, dimension}
-use Rattle.dr_filter.specs.LookUps.{as_test, others_in}
-use Rattle.dr_filter.proofs.LookedUp.{shown-selector, shown-other, counted-other, others_in-selector, looked_up-selector, looked_up-other, nothing_left}
+use Rattle.dr_filter.specs.LookUps.{as_test}
+use Rattle.dr_filter.proofs.LookedUp.{others_in, shown-selector, shown-other, counted-other, others_in-selector, nothing_left}
 use Rattle.dr_filter.proofs.arranging.one_of.Goals as goal
 
-pub loop-filter-preserved-in_ok-push-in-Some-2 : goal.loop-filter-preserved-in_ok-push-in-Some-2
-loop-filter-preserved-in_ok-push-in-Some-2 c =
+pub loop-filter-preserved-in_ok-selectors-in-Some-2 : goal.loop-filter-preserved-in_ok-selectors-in-Some-2
+loop-filter-preserved-in_ok-selectors-in-Some-2 c =
     let at = c.loop-filter in
     let was = at.invariant in
     let s = c.in-Some-2.selector in
     let f = c.in-Some.filter in
     let is : condition_in f ≡ dimension (as_test s) = rw c.in-Some-2.is at c.in_ok-selector.ensures in
-    let grown = c.in_ok-push-in-Some-2.ensures.items in
+    let grown = c.in_ok-selectors-in-Some-2.ensures in
     let steps : into_iter_items at.filter-iterator ≡ f ∷ into_iter_items c.next.new.self = c.in-Some.ensures.steps.0 in (
       append_assoc at.yielded (f ∷ []) _ ∙ rw (← steps) was.0,
       (let len = was.1 in let gone = c.in-Some.ensures.steps.1 in let short = ap length steps in omega (arith, len, gone, short)),
-      shown-selector at.yielded f at.members.items c.push.new.self.items at.others.items s is grown was.3 was.2,
-      ap others_in grown ∙ others_in-selector at.members.items s ∙ was.3,
-      rw grown (looked_up-selector at.look_ups.items c.look_up.new.look_ups.items at.members.items s was.4 c.in_ok-look_up-in-Some-2.ensures),
+      shown-selector at.yielded f at.selectors _ at.others.items s is grown was.3 was.2,
+      ap others_in grown ∙ others_in-selector at.selectors s ∙ was.3,
     )
 
-pub loop-filter-preserved-in_ok-push-in-Some-2-2 : goal.loop-filter-preserved-in_ok-push-in-Some-2-2
-loop-filter-preserved-in_ok-push-in-Some-2-2 c =
+pub loop-filter-preserved-in_ok-selectors-in-Some-2-2 : goal.loop-filter-preserved-in_ok-selectors-in-Some-2-2
+loop-filter-preserved-in_ok-selectors-in-Some-2-2 c =
     let at = c.loop-filter in
     let was = at.invariant in
     let s = c.in-Some-2.selector in
     let f = c.in-Some.filter in
     let is : condition_in f ≡ dimension (as_test s) = rw c.in-Some-2.is at c.in_ok-selector.ensures in
-    let grown = c.in_ok-push-in-Some-2.ensures.items in
+    let grown = c.in_ok-selectors-in-Some-2.ensures in
     let steps : into_iter_items at.filter-iterator ≡ f ∷ into_iter_items c.next.new.self = c.in-Some.ensures.steps.0 in (
       append_assoc at.yielded (f ∷ []) _ ∙ rw (← steps) was.0,
       (let len = was.1 in let gone = c.in-Some.ensures.steps.1 in let short = ap length steps in omega (arith, len, gone, short)),
-      shown-selector at.yielded f at.members.items c.push.new.self.items at.others.items s is grown was.3 was.2,
-      ap others_in grown ∙ others_in-selector at.members.items s ∙ was.3,
-      rw grown (looked_up-selector at.look_ups.items c.look_up.new.look_ups.items at.members.items s was.4 c.in_ok-look_up-in-Some-2.ensures),
+      shown-selector at.yielded f at.selectors _ at.others.items s is grown was.3 was.2,
+      ap others_in grown ∙ others_in-selector at.selectors s ∙ was.3,
     )
 
 pub loop-filter-preserved : goal.loop-filter-preserved
@@ -42,14 +40,13 @@ loop-filter-preserved c =
     let at = c.loop-filter in
     let was = at.invariant in
     let f = c.in-Some.filter in
-    let grown = c.in_ok-push-in-None-2.ensures.items in
-    let behind = c.in_ok-push-in-None-2-2.ensures.items in
+    let grown = c.in_ok-selectors-in-None-2.ensures in
+    let behind = c.in_ok-push-in-None-2.ensures.items in
     let steps : into_iter_items at.filter-iterator ≡ f ∷ into_iter_items c.next.new.self = c.in-Some.ensures.steps.0 in (
       append_assoc at.yielded (f ∷ []) _ ∙ rw (← steps) was.0,
       (let len = was.1 in let gone = c.in-Some.ensures.steps.1 in let short = ap length steps in omega (arith, len, gone, short)),
-      shown-other at.yielded f at.members.items c.push-in-None-2.new.self.items at.others.items c.push-in-None-2-2.new.self.items grown behind was.3 was.2,
-      counted-other at.yielded f at.members.items c.push-in-None-2.new.self.items at.others.items c.push-in-None-2-2.new.self.items grown behind was.3,
-      rw grown (looked_up-other at.look_ups.items at.members.items was.4),
+      shown-other at.yielded f at.selectors _ at.others.items _ grown behind was.3 was.2,
+      counted-other at.yielded f at.selectors _ at.others.items _ grown behind was.3,
     )
 
 pub returns : goal.returns

@@ -1,16 +1,16 @@
-use Rattle.std.proofs.Common.{◌≡◌, ◌+◌, length}
+use Rattle.std.proofs.Common.{◌≡◌, length}
 use denote.Shadow.{shadow}
 use denote.Text.{Utf8}
 use Rattle.std.specs.Str.{chars}
 use Rattle.dr_filter.specs.Like.{fits, behind_some_run}
 use Rattle.dr_filter.proofs.like.fits_behind_run.Given as goal
 
-abbrev pub invariant-loop-more : goal.invariant-loop-more
-invariant-loop-more l = record {
+abbrev pub invariant-loop-piece : goal.invariant-loop-piece
+invariant-loop-piece l = record {
   same : behind_some_run (fits (chars l.left)) (chars l.rest) ≡ behind_some_run (fits (chars l.pattern)) (chars l.text);
   left_utf8 : shadow (Utf8 l.left);
   rest_utf8 : shadow (Utf8 l.rest);
 }
 
-abbrev pub decreases-loop-more : goal.decreases-loop-more
-decreases-loop-more l = length (chars l.left) + length (chars l.rest)
+abbrev pub decreases-loop-piece : goal.decreases-loop-piece
+decreases-loop-piece l = length (chars l.left)

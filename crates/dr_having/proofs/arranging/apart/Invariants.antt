@@ -1,6 +1,6 @@
 use Rattle.std.proofs.Common.{◌≡◌, ◌++◌, length, map}
 use Rattle.std.specs.Vec.Iter.{into_iter_items, into_iter_len}
-use Rattle.dr_having.specs.Compared.{others_in}
+use Rattle.dr_having.proofs.Together.{others_in}
 use Rattle.dr_having.specs.Condition.{condition_in, members_of}
 use Rattle.dr_having.proofs.arranging.apart.Given as goal
 

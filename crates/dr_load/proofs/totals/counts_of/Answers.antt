@@ -19,6 +19,6 @@ returns c =
     let none = c.in-None.ensures.steps in
     let empty : into_iter_items at.file-iterator ≡ [] = no-more _ (sym at.invariant.0 ∙ none.0) in
     let first : first_refusal c.args.told.items ≡ None = sym at.invariant.1 ∙ ap first_refusal empty in
-    let u : total (map (λ f. f.unparseable) c.args.told.items) ≡ at.unparseable = sym at.invariant.2 ∙ whole at.unparseable (λ f. f.unparseable) (into_iter_items at.file-iterator) empty at.invariant.4 in
-    let t : total (map (λ f. f.thrown_away) c.args.told.items) ≡ at.thrown_away = sym at.invariant.3 ∙ whole at.thrown_away (λ f. f.thrown_away) (into_iter_items at.file-iterator) empty at.invariant.5 in
+    let u : total (map (λ f. f.tally.unparseable) c.args.told.items) ≡ at.unparseable = sym at.invariant.2 ∙ whole at.unparseable (λ f. f.tally.unparseable) (into_iter_items at.file-iterator) empty at.invariant.4 in
+    let t : total (map (λ f. f.tally.thrown_away) c.args.told.items) ≡ at.thrown_away = sym at.invariant.3 ∙ whole at.thrown_away (λ f. f.tally.thrown_away) (into_iter_items at.file-iterator) empty at.invariant.5 in
     rw (first, u, t) refl
