@@ -7,6 +7,7 @@ use crate::ingested::Ingested;
 use crate::ingesting::ingest;
 use crate::load_error::LoadError;
 use crate::publish_all::PublishAll;
+use crate::tally::Tally;
 use crate::watch::Watch;
 use dr_ask::Query;
 use dr_books::Books;
@@ -111,8 +112,10 @@ fn ended<T: Threads>(rt: &T, thread: Option<JoinHandle<Ingested>>) -> Ingested {
     match thread {
         Some(thread) => thread.join(rt),
         None => Ingested {
-            unparseable: 0,
-            thrown_away: 0,
+            tally: Tally {
+                unparseable: 0,
+                thrown_away: 0,
+            },
             refusal: Some(LoadError::WorkerNotStarted),
         },
     }
