@@ -118,6 +118,7 @@ def like_long(n):
     yield event(BEGIN, "a" * n)
     yield groups(filter={"type": "like", "dimension": "page", "pattern": "%" + "a" * (n // 2) + "b%"})
     yield groups(filter={"type": "like", "dimension": "page", "pattern": "%a_" * (n // 4) + "b"})
+    yield groups(filter={"type": "like", "dimension": "page", "pattern": "%a_" + "a" * (n // 2) + "b%"})
 
 
 def long_or(n):
@@ -126,6 +127,58 @@ def long_or(n):
         yield event(BEGIN + it % DAY, str(it))
     fields = [{"type": "selector", "dimension": "page", "value": f"x{it}"} for it in range(17000)]
     yield groups(filter={"type": "or", "fields": fields})
+
+
+def texts(n):
+    yield spec()
+    for it in range(n):
+        yield event(BEGIN + it % DAY, str(it))
+
+
+def asked_of_texts(query):
+    """The same query of open rows, and of them sealed and published."""
+    def lines(n):
+        yield from texts(n)
+        yield query
+        yield f"seal {instant(1)}"
+        yield f"publish {instant(1)} 0 1"
+        yield query
+    return lines
+
+
+def bound(it):
+    return {"type": "bound", "dimension": "page", "lower": f"y{it}", "upper": "y"}
+
+
+def no_selector(it):
+    return {"type": "not", "field": {"type": "selector", "dimension": "page", "value": f"x{it}"}}
+
+
+LONG_OR_OF_BOUNDS = groups(filter={"type": "or", "fields": [bound(it) for it in range(14000)]})
+LONG_AND_OF_NOTS = groups(filter={"type": "and", "fields": [no_selector(it) for it in range(12000)]}, limitSpec={"type": "default", "limit": 1})
+LONG_HAVING_OF_TEXTS = groups(having={"type": "or", "havingSpecs": [{"type": "dimSelector", "dimension": "page", "value": f"x{it}"} for it in range(17000)]})
+MANY_SUMS = series(aggregations=[{"type": "longSum", "name": f"v{it}", "fieldName": "v"} for it in range(19000)])
+ONE_DIMENSION = [{"type": "default", "dimension": "none", "outputName": f"o{it}"} for it in range(16000)]
+ONE_DIMENSION_OFTEN = groups(dimensions=ONE_DIMENSION)
+COUNTS = [{"type": "count", "name": f"{it:05x}"} for it in range(14000)]
+LAST_COUNT_OFTEN = groups(aggregations=COUNTS, filter={"type": "selector", "dimension": "page", "value": "0"}, limitSpec={"type": "default", "columns": [COUNTS[-1]["name"]] * 60000})
+
+
+def long_spec(n):
+    letters = "abcdefghijklmnopqrstuvwxyzABCDEFGHIJKLMNOPQRSTUVWXYZ0123456789"
+    names = (a + b + c for a in letters for b in letters for c in letters)
+    yield spec([next(names) for _ in range(n)])
+
+
+def published_apart(n):
+    yield spec(segment="second", query="second")
+    clock = lambda it: f"2024-01-{1 + it // 86400:02d}T{it // 3600 % 24:02d}:{it // 60 % 60:02d}:{it % 60:02d}"
+    for it in range(n):
+        yield event(BEGIN + it * 1000)
+        yield f"seal {clock(it)}"
+        yield f"publish {clock(it)} 0 1"
+    spans = [f"{clock(it)}/{clock(it + 1)}" for it in range(0, 86399, 9)] + ["2024-01-01/2024-02-01"]
+    yield series(intervals=spans)
 
 
 def long_having(n):
@@ -164,7 +217,7 @@ def plans(n):
         yield event(BEGIN + it, str(it))
         yield f"seal {instant(1)}"
     for _ in range(n):
-        yield f"plan {instant(1)} 0 100"
+        yield f"plan merge {instant(1)} 0 100"
 
 
 def apart(n):
@@ -206,9 +259,17 @@ INPUTS = {
     "a query of open rows in one chunk": (query_of_open_rows, 1000000),
     "like, of so many characters and half as many in the pattern": (like_long, 100000),
     "rows under an or of 17,000 selectors": (long_or, 100000),
+    "rows under an or of 14,000 bounds": (asked_of_texts(LONG_OR_OF_BOUNDS), 100000),
+    "rows under an and of 12,000 selectors that don't hold": (asked_of_texts(LONG_AND_OF_NOTS), 100000),
     "groups under a having of 14,000 comparisons": (long_having, 100000),
+    "groups under a having of 17,000 dimension values": (asked_of_texts(LONG_HAVING_OF_TEXTS), 100000),
     "groups ordered by one column 240,000 times": (order_columns, 100000),
     "rows under 19,000 aggregations, one selected": (many_outputs, 100000),
+    "rows under 19,000 aggregations, all selected": (asked_of_texts(MANY_SUMS), 100000),
+    "rows of one group by 16,000 outputs of one dimension": (asked_of_texts(ONE_DIMENSION_OFTEN), 100000),
+    "groups ordered by the last of 14,000 outputs 60,000 times": (asked_of_texts(LAST_COUNT_OFTEN), 1000),
+    "a spec of so many dimensions": (long_spec, 174000),
+    "published ranges of one row under 9,601 intervals": (published_apart, 100000),
     "a seal and a merge with what was there, each event": (merges, 2000),
     "plans of 100 ranges": (plans, 20000),
     "equal rows that stay apart, sealed and published": (apart, 1000000),
