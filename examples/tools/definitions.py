@@ -17,6 +17,8 @@ PART = re.compile(r" +(?:pub )?(\S+) :(?= |$)")
 ALIAS = re.compile(r"(?:pub )?use Rattle\.(\w+)\.(specs|proofs)\.([\w.]+) as (\w+)$")
 WORD = re.compile(r"[^\s(){},;.]+")
 OF_ALIAS = re.compile(r"\b(\w+)\.([^\s(){},;.]+)")
+# what stands behind a dot is of a record, or of an alias
+BEHIND_DOT = re.compile(r"(?<=[\w)])\.[^\s(){},;.]+")
 
 
 class Module:
@@ -70,7 +72,7 @@ def below(known, left):
         if (module, name) in seen:
             continue
         seen[module, name] = lines = here.items.get(name, [])
-        for word in set(WORD.findall("\n".join(lines))):
+        for word in set(WORD.findall(BEHIND_DOT.sub("", "\n".join(lines)))):
             if word in here.items or word in here.parts:
                 left.append((module, word))
             elif word in here.imports:
