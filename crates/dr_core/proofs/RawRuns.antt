@@ -255,8 +255,9 @@ step-raw schema es ess old new (Ask n q) r fits (inr h) g = λ matches. no-memor
 step-raw schema es ess old new (Audit n q) r fits h g = tt
 
 pub run-raw : (schema : Schema) (es : List Event) (ess : List (List Event)) (old new : CoreState) (ss : List Step) (rs : List Reply) → 1 ≤ schema.limits.max_rows_in_memory → AllByRecursion (FitsStep schema) ss → RunFrom old ss rs new → IsRunSoFar schema es ess old → AnswersFrom schema es ess ss rs
-run-raw schema es ess old new [] rs least fits h g = tt
-run-raw schema es ess old new (s ∷ ss) [] least fits h g = tt
+run-raw schema es ess old new [] [] least fits h g = tt
+run-raw schema es ess old new [] (r ∷ rs) least fits h g = absurd h
+run-raw schema es ess old new (s ∷ ss) [] least fits h g = absurd h
 run-raw schema es ess old new (s ∷ ss) (r ∷ rs) least fits h g = (
   step-raw schema es ess old h.0 s r fits.0 h.1 g,
   run-raw schema (es ++ accepted_by s r) (ess ++ pinned_by es s r) h.0 new ss rs least fits.1 h.2 (moves-run schema es ess old h.0 s r least h.1 g),

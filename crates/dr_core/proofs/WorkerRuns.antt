@@ -66,8 +66,9 @@ step_by-raw schema es ess old new (Audit n q) r fits h g = tt
 
 run_by-raw : (schema : Schema) (es : List Event) (ess : List (List Event)) (old new : CoreState) (ss : List Step) (rs : List Reply) → 1 ≤ schema.limits.max_rows_in_memory → AllByRecursion (FitsStep schema) ss
     → RunFromByWorkers old ss rs new → IsRunSoFar schema es ess old → AnswersFromByWorkers schema es ess ss rs
-run_by-raw schema es ess old new [] rs least fits h g = tt
-run_by-raw schema es ess old new (s ∷ ss) [] least fits h g = tt
+run_by-raw schema es ess old new [] [] least fits h g = tt
+run_by-raw schema es ess old new [] (r ∷ rs) least fits h g = absurd h
+run_by-raw schema es ess old new (s ∷ ss) [] least fits h g = absurd h
 run_by-raw schema es ess old new (s ∷ ss) (r ∷ rs) least fits h g = (
   step_by-raw schema es ess old h.0 s r fits.0 h.1 g,
   run_by-raw schema (es ++ accepted_by s r) (ess ++ pinned_by es s r) h.0 new ss rs least fits.1 h.2 (moves_by-run schema es ess old h.0 s r least h.1 g),

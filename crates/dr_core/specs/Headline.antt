@@ -31,10 +31,12 @@ abbrev pub AnswersRaw : Schema → List (List Event) → Step → Reply → Type
 AnswersRaw schema pins (Ask n q) reply = is_matching (asked q) ≡ true → IsRaw schema (asked q) (slice_get pins n) reply
 AnswersRaw schema pins step reply = Unit {0}
 
--- steps in turn, where these events were accepted before, and these are the events of each snapshot so far
+-- steps in turn, one reply each, where these events were accepted before, and these are the events of each snapshot so far
 abbrev pub AnswersFrom : Schema → List Event → List (List Event) → List Step → List Reply → Type 0
 AnswersFrom schema es pins (s ∷ ss) (r ∷ rs) = AnswersRaw schema pins s r × AnswersFrom schema (es ++ accepted_by s r) (pins ++ pinned_by es s r) ss rs
-AnswersFrom schema es pins steps replies = Unit {0}
+AnswersFrom schema es pins [] [] = Unit {0}
+AnswersFrom schema es pins [] (r ∷ rs) = ⊥
+AnswersFrom schema es pins (s ∷ ss) [] = ⊥
 
 -- each answer to a matching query on a snapshot is, byte for byte, the answer over the raw events that were accepted before its pin
 abbrev pub AnswersAreRaw : Schema → List Step → List Reply → Type 0

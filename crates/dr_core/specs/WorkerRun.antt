@@ -42,11 +42,13 @@ abbrev pub AnswersRawByWorkers : Schema → List (List Event) → Step → Reply
 AnswersRawByWorkers schema pins (Ask n q) reply = is_matching (asked q) ≡ true → IsRawByWorkers schema (asked q) (slice_get pins n) reply
 AnswersRawByWorkers schema pins step reply = Unit {0}
 
--- steps in turn, where these events were accepted before, and these are the events of each snapshot so far
+-- steps in turn, one reply each, where these events were accepted before, and these are the events of each snapshot so far
 abbrev pub AnswersFromByWorkers : Schema → List Event → List (List Event) → List Step → List Reply → Type 0
 AnswersFromByWorkers schema es pins (s ∷ ss) (r ∷ rs) =
     AnswersRawByWorkers schema pins s r × AnswersFromByWorkers schema (es ++ accepted_by s r) (pins ++ pinned_by es s r) ss rs
-AnswersFromByWorkers schema es pins steps replies = Unit {0}
+AnswersFromByWorkers schema es pins [] [] = Unit {0}
+AnswersFromByWorkers schema es pins [] (r ∷ rs) = ⊥
+AnswersFromByWorkers schema es pins (s ∷ ss) [] = ⊥
 
 -- each answer to a matching query on a snapshot is, byte for byte, the answer over the raw events that were accepted before its pin
 abbrev pub AnswersAreRawByWorkers : Schema → List Step → List Reply → Type 0

@@ -1,5 +1,5 @@
-ghost use Rattle.std.specs.Prelude.{◌≡◌, IfOk, OnOk};
-ghost use Rattle.std.specs.List.Sorted.{IsSortedBy, IsStableBy};
+ghost use Rattle.std.specs.Prelude.{◌≡◌, IfOk, OnOk, OnErr};
+ghost use Rattle.std.specs.List.Sorted.{IsPermutation, IsSortedBy, IsStableBy};
 ghost use Rattle.std.specs.Ordering.{is_lt};
 ghost use Rattle.dr_base.specs.Order.{key_cmp};
 ghost use Rattle.dr_rollup.specs.OpenRows.{in_order};
@@ -9,11 +9,13 @@ use dr_rollup::Arrived;
 use std::alloc::AllocError;
 use std::cmp::Ordering;
 
-/// Puts rows into the order of their keys; those of one key stay in their order. The only error is that memory ran out. It takes
-/// the time that sorting takes, and memory for half as many references.
+/// Puts rows into the order of their keys; those of one key stay in their order. The only error is that memory ran out, and it
+/// leaves the rows as they were. It takes the time that sorting takes, and memory for half as many references.
 pub fn sort(rows: &mut Vec<RowRef<'_>>) -> Result<(), AllocError>
+    ensures moved { IsPermutation rows.old.items rows.new.items }
     ensures sorted { OnOk result (IsSortedBy (λ a b. is_lt (key_cmp a.key b.key)) rows.new.items) }
     ensures stable { OnOk result (IsStableBy (λ a b. is_lt (key_cmp a.key b.key)) rows.old.items rows.new.items) }
+    ensures err { OnErr result (rows.new.items ≡ rows.old.items) }
 {
     rows.sort_by(
         |a: &RowRef, b: &RowRef| -> Ordering

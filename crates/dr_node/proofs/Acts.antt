@@ -69,6 +69,8 @@ kept-acted schema seats h t kept step cuts few versions =
       versions = versions;
       serials = left.serials kept.serials;
       marks = subst (λ (es : List Event). All (λ e. e.seat < seats) es) (sym left.stream) kept.marks;
+      all_mine = kept.all_mine;
+      all_floor = kept.all_floor;
       mine = λ k n at. subst (λ (es : List Event). length (marked k es) ≡ n) (sym left.stream) (kept.mine k n at);
       floor = λ k n at. subst (λ (es : List Event). n ≤ length es) (sym left.stream) (kept.floor k n at);
     }

@@ -3,6 +3,7 @@ use Rattle.std.proofs.Common.{◌≡◌, ◌≢◌, ◌∙◌, sym, ap, refl, su
 use Rattle.std.specs.Prelude.{nat_eq, ◌⊎◌, slice_get, set, replicate}
 use Rattle.std.specs.List.{AllByRecursion}
 use Rattle.std.proofs.lemmas.Bool.Decides.{nat_tests}
+use Rattle.std.proofs.lemmas.List.{length-set, length-replicate}
 use Rattle.std.proofs.lemmas.List.Elements.{All-append, All-cons, All-nil, filter-append}
 use Rattle.dr_base.specs.declared.event.Event.{Event}
 use Rattle.dr_schema.specs.declared.schema_fields.SchemaFields.{SchemaFields}
@@ -59,6 +60,8 @@ empty-kept schema seats = record {
   serials = record { once = λ n. omega arith; given = λ n le. refl };
   versions = tt;
   marks = All-nil (λ (e : Event). e.seat < seats);
+  all_mine = length-replicate seats 0;
+  all_floor = length-replicate seats 0;
   mine = λ k n at. sym (get-zeros seats k n at);
   floor = λ k n at. let none = get-zeros seats k n at in omega arith;
 }
@@ -77,6 +80,8 @@ kept-seen schema seats h p m f d kept own was most = record {
   serials = kept.serials;
   versions = kept.versions;
   marks = kept.marks;
+  all_mine = length-set h.mine p (m + 0) ∙ kept.all_mine;
+  all_floor = length-set h.floor p (f + d) ∙ kept.all_floor;
   mine = λ k n at. elim (set-get h.mine p (m + 0) k n at) [
     | inl here ↦ let marked-is = kept.mine p m own in let same = here.1 in rw here.0 (omega arith)
     | inr there ↦ kept.mine k n there.1
@@ -101,6 +106,8 @@ kept-accepted schema seats h t e p m f d kept own was accepted-is cuts few versi
       versions = versions;
       serials = subst (λ (s : State). SerialsDiffer s.cuts s.serials) (sym accepted-is) (differ-accepted h.timeline e kept.serials);
       marks = subst (All M) (sym stream-is) (All-append M es (e ∷ []) kept.marks (All-cons M e [] (subst (λ n. n < seats) mark-is within) (All-nil M)));
+      all_mine = length-set h.mine p (m + 1) ∙ kept.all_mine;
+      all_floor = length-set h.floor p (f + d) ∙ kept.all_floor;
       mine = λ k n at. subst (λ xs. length (marked k xs) ≡ n) (sym stream-is) (marked-push k es e ∙ elim (set-get h.mine p (m + 1) k n at) [
         | inl here ↦
             let has = kept.mine p m own in

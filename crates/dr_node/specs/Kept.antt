@@ -24,8 +24,8 @@ pub record SerialsDiffer (cuts : List Cut) (next : ℕ) : Type 0 where
   pub given : (n : ℕ) → next ≤ n → with_serial n cuts ≡ 0
 
 -- the timeline is of the schema; its ranges tile the list of each chunk, open ranges have fewer rows than are held in memory,
--- serials differ, and versions are within the publications; each event has the mark of a seat; each seat accepted as many events
--- as have its mark, and has seen no more events than there are
+-- serials differ, and versions are within the publications; each event has the mark of a seat; each seat is told of, accepted as
+-- many events as have its mark, and has seen no more events than there are
 pub record IsKept (schema : SchemaFields) (seats : ℕ) (held : Held) : Type 0 where
   pub schema_is : held.timeline.schema ≡ schema
   pub cuts : AreCuts held.timeline.schema held.timeline.stream held.timeline.cuts
@@ -33,5 +33,7 @@ pub record IsKept (schema : SchemaFields) (seats : ℕ) (held : Held) : Type 0 w
   pub serials : SerialsDiffer held.timeline.cuts held.timeline.serials
   pub versions : AllByRecursion HasVersions held.timeline.cuts
   pub marks : All (λ e. e.seat < seats) held.timeline.stream
+  pub all_mine : length held.mine ≡ seats
+  pub all_floor : length held.floor ≡ seats
   pub mine : (k n : ℕ) → slice_get held.mine k ≡ Some n → length (marked k held.timeline.stream) ≡ n
   pub floor : (k n : ℕ) → slice_get held.floor k ≡ Some n → n ≤ length held.timeline.stream

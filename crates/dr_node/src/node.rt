@@ -18,7 +18,12 @@ use dr_schema::Schema;
 use dr_spec::IngestSpec;
 use dr_timeline::{SharedEvent, Snapshot, Timeline};
 use std::alloc::{AllocError, Global};
-use std::sync::{Mutex, Wait};
+use std::sync::{Mutex, MutexGuard, Wait};
+use std::thread::yield_now;
+
+/// How often a thread that finds the lock taken lets others run and looks again before it sleeps. Most steps take less than a
+/// microsecond, and to be woken takes many.
+const LOOKS: u32 = 100;
 
 /// A timeline that many threads share, behind one lock. Its seats are those that came with it from `new`, which the type of its
 /// books says; `B.schema` is its schema, and `B.seats` their number.
@@ -97,7 +102,7 @@ impl<B: Books> Node<B> {
         let own = event.share()?;
         seat.own.reserve(1)?;
         let floor = seat.floor;
-        let answer = self.kept.lock(rt).accept(&mut seat.share, floor, event);
+        let answer = self.held(rt).accept(&mut seat.share, floor, event);
         let count = answer?;
         seat.own.push(own).unwrap();
         seat.floor = count;
@@ -116,7 +121,7 @@ impl<B: Books> Node<B> {
         ensures err { OnErr result (seat.new ≡ seat.old) }
     {
         let floor = seat.floor;
-        let answer = self.kept.lock(rt).pin(&mut seat.share, floor);
+        let answer = self.held(rt).pin(&mut seat.share, floor);
         let snapshot = answer?;
         seat.floor = snapshot.event_count() as u64;
         Ok(snapshot)
@@ -130,6 +135,17 @@ impl<B: Books> Node<B> {
         requires { T.needs act B.schema }
         ensures { (old : Held) × (new : Held) × IsActed B.schema B.seats (T.does act) result old new }
     {
-        self.kept.lock(rt).apply(act)
+        self.held(rt).apply(act)
+    }
+
+    // What lies behind the lock, once it is free.
+    fn held<R: Wait>(&self, rt: &R) -> MutexGuard<'_, Kept<B>> {
+        for _ in 0..LOOKS {
+            if let Some(held) = self.kept.try_lock() {
+                return held;
+            }
+            yield_now();
+        }
+        self.kept.lock(rt)
     }
 }

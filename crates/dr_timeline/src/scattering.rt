@@ -1,4 +1,4 @@
-ghost use Rattle.std.specs.Prelude.{◌≡◌, ◌<◌, IfErr, IfOk};
+ghost use Rattle.std.specs.Prelude.{◌≡◌, ◌<◌, IfErr, IfOk, length};
 ghost use Rattle.std.specs.List.{All, AllByRecursion};
 ghost use Rattle.dr_ask.specs.Asked.{asked};
 ghost use Rattle.dr_intervals.specs.Printable.{StartsPrintable};
@@ -31,6 +31,7 @@ pub fn partial_by<R: Threads + Wait + Sync, G: Gate + Sync>(
     ensures value { IfOk result (λ p. p ≡ partial (asked query.now) (rows_of fragments.now)) }
     ensures printable { All StartsPrintable query.now.intervals → IfOk result (λ p. AllByRecursion (λ g. IsPrintable g.key.time) p) }
     ensures alone { workers < 2 → IfErr result (λ e. e ≡ NoMemory) }
+    ensures few { length fragments.now < 2 → IfErr result (λ e. e ≡ NoMemory) }
 {
     if workers < 2 {
         return Ok(scatter_here(alloc, query, fragments, gate)?);

@@ -10,6 +10,7 @@ ghost use Rattle.dr_rollup.specs.Unrolled.{unrolled};
 ghost use Rattle.dr_cuts.specs.Segments.{rows_of};
 ghost use Rattle.dr_cuts.specs.RawAnswer.{raw_answer};
 ghost use Rattle.dr_timeline.specs.AskRefusal.{AnswersUnless, HasThreads};
+ghost use Rattle.dr_timeline.specs.Order.{AreRangesOf};
 
 use crate::answering::{answer, told};
 use crate::ask_error::AskError;
@@ -85,6 +86,14 @@ impl Snapshot {
         span_of(&self.schema, &self.stream)
     }
 
+    /// Does nothing. Its contract says what holds of each snapshot, whoever pinned it: its ranges are those of some cuts of its
+    /// events, and they tile the list of each chunk.
+    pub fn in_order(&self)
+        ensures { AreRangesOf self.now.schema self.now.stream self.now.ranges }
+    {
+        let _ = &self.schema;
+    }
+
     /// Whether the events of the other snapshot are the first of this one's.
     pub fn extends(&self, other: &Snapshot) -> bool
         ensures { IsTrue result ↔ ((rest : List Event) × (self.now.stream ≡ other.now.stream ++ rest)) }
@@ -131,6 +140,7 @@ impl Snapshot {
         ensures raw_where_matching { is_matching (asked query.now) ≡ true
             → AnswersUnless (λ text. text.items) result (raw_answer self.now.schema (asked query.now) self.now.stream) }
         ensures alone { workers < 2 → IfErr result HasThreads }
+        ensures few { length self.now.ranges < 2 → IfErr result HasThreads }
     {
         let alloc = self.stream.allocator();
         let groups = partial_by(rt, alloc, query, self.fragments.as_slice(), workers, gate)?;

@@ -47,3 +47,6 @@ returns-clause-raw_where_matching g c = λ matches.
 
 pub returns-clause-alone : goal.returns-clause-alone
 returns-clause-alone g c = λ few. c.told.ensures.threads
+
+pub returns-clause-few : goal.returns-clause-few
+returns-clause-few g c = λ few. c.told.ensures.threads
