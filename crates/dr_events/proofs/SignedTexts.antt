@@ -1,26 +1,27 @@
 -- Texts of digits with a sign, as they are parsed.
-use Rattle.std.proofs.Common.{◌≡◌, sym, refl, ℕ, zero, suc, ◌<◌, ◌≤◌, ◌^◌, true, false, List, [], ◌∷◌, length, ℤ, pos, negsuc, neg_ℤ, Some, None, Result, Ok, Err, rules, arith, w64}
+use Rattle.std.proofs.Common.{◌≡◌, sym, refl, ℕ, zero, suc, ◌<◌, ◌≤◌, ◌^◌, true, false, List, [], ◌∷◌, length, fold, ◌+◌, ◌-◌, ◌*◌, ℤ, pos, negsuc, neg_ℤ, Some, None, Result, Ok, Err, rules, arith, w64}
 use Rattle.std.specs.Prelude.{◌==◌, nat_lt, option_map, option_and_then, if◌then◌else◌}
 use Rattle.std.specs.Result.{result_ok, OkIff}
 use Rattle.std.specs.Str.{all_ascii_digits}
 use Rattle.std.specs.Str.Parse.{ParsesSigned}
 use Rattle.std.proofs.lemmas.Str.Parse.{IsNumeralModel, numerals_by_fold, tells_all_ascii_digits, parse_signed_plus, parse_signed_minus, parse_signed_plain}
 use borrow.Author.Tests.{eqb-true, eqb-false, ltb-true, lt-ltb}
-use Rattle.dr_events.specs.WholeNumber.{in_64_bits, spelled_behind, digits_number, signed_number}
+use Rattle.dr_events.specs.WholeNumber.{in_64_bits, digits_number, signed_number}
+use Rattle.dr_time.specs.Spelling.{number_of}
 
-pub own : IsNumeralModel (λ ds. all_ascii_digits ds ≡ true) (spelled_behind 0)
-own = numerals_by_fold (λ ds. all_ascii_digits ds ≡ true) tells_all_ascii_digits spelled_behind (search rules)
+pub own : IsNumeralModel (λ ds. all_ascii_digits ds ≡ true) number_of
+own = numerals_by_fold (λ ds. all_ascii_digits ds ≡ true) tells_all_ascii_digits (λ n ds. fold (λ n c. n * 10 + (c - 48)) n ds) (search rules)
 
 -- digits behind no sign or a plus
-pos_digits : {E : Type 0} → (ds : List ℕ) (r : Result ℤ E) → OkIff r ((all_ascii_digits ds ≡ true) × (0 < length ds) × (spelled_behind 0 ds < 2 ^ 63)) (pos (spelled_behind 0 ds))
+pos_digits : {E : Type 0} → (ds : List ℕ) (r : Result ℤ E) → OkIff r ((all_ascii_digits ds ≡ true) × (0 < length ds) × (number_of ds < 2 ^ 63)) (pos (number_of ds))
     → result_ok r ≡ option_and_then in_64_bits (option_map pos (digits_number ds))
 pos_digits [] (Ok x) h = let lt : 0 < 0 = h.0.1 in absurd (omega arith)
 pos_digits [] (Err e) h = refl
-pos_digits (d ∷ ds) (Ok x) h = rw (h.0.0, lt-ltb (spelled_behind 0 (d ∷ ds)) (2 ^ 63) h.0.2, h.1) refl
+pos_digits (d ∷ ds) (Ok x) h = rw (h.0.0, lt-ltb (number_of (d ∷ ds)) (2 ^ 63) h.0.2, h.1) refl
 pos_digits (d ∷ ds) (Err e) h =
-    elim (all_ascii_digits (d ∷ ds)) as (λ b. all_ascii_digits (d ∷ ds) ≡ b → None ≡ option_and_then in_64_bits (option_map pos (if b then Some (spelled_behind 0 (d ∷ ds)) else None))) [
-      | true ↦ λ t. elim (nat_lt (spelled_behind 0 (d ∷ ds)) (2 ^ 63)) as (λ b. nat_lt (spelled_behind 0 (d ∷ ds)) (2 ^ 63) ≡ b → None ≡ (if b then Some (pos (spelled_behind 0 (d ∷ ds))) else None))
-          [ true ↦ λ u. absurd (h (t, omega arith, ltb-true (spelled_behind 0 (d ∷ ds)) (2 ^ 63) u)) | false ↦ λ u. refl ] refl
+    elim (all_ascii_digits (d ∷ ds)) as (λ b. all_ascii_digits (d ∷ ds) ≡ b → None ≡ option_and_then in_64_bits (option_map pos (if b then Some (number_of (d ∷ ds)) else None))) [
+      | true ↦ λ t. elim (nat_lt (number_of (d ∷ ds)) (2 ^ 63)) as (λ b. nat_lt (number_of (d ∷ ds)) (2 ^ 63) ≡ b → None ≡ (if b then Some (pos (number_of (d ∷ ds))) else None))
+          [ true ↦ λ u. absurd (h (t, omega arith, ltb-true (number_of (d ∷ ds)) (2 ^ 63) u)) | false ↦ λ u. refl ] refl
       | false ↦ λ t. refl
     ]
     refl
@@ -36,14 +37,14 @@ in_64_bits-neg_none (suc n) fails =
     [ true ↦ λ u. let lt = ltb-true n (2 ^ 63) u in absurd (fails (omega arith)) | false ↦ λ u. refl ] refl
 
 -- digits behind a minus
-neg_digits : {E : Type 0} → (ds : List ℕ) (r : Result ℤ E) → OkIff r ((all_ascii_digits ds ≡ true) × (0 < length ds) × (spelled_behind 0 ds ≤ 2 ^ 63)) (neg_ℤ (pos (spelled_behind 0 ds)))
+neg_digits : {E : Type 0} → (ds : List ℕ) (r : Result ℤ E) → OkIff r ((all_ascii_digits ds ≡ true) × (0 < length ds) × (number_of ds ≤ 2 ^ 63)) (neg_ℤ (pos (number_of ds)))
     → result_ok r ≡ option_and_then in_64_bits (option_map (λ n. neg_ℤ (pos n)) (digits_number ds))
 neg_digits [] (Ok x) h = let lt : 0 < 0 = h.0.1 in absurd (omega arith)
 neg_digits [] (Err e) h = refl
-neg_digits (d ∷ ds) (Ok x) h = rw (h.0.0, in_64_bits-neg (spelled_behind 0 (d ∷ ds)) h.0.2, h.1) refl
+neg_digits (d ∷ ds) (Ok x) h = rw (h.0.0, in_64_bits-neg (number_of (d ∷ ds)) h.0.2, h.1) refl
 neg_digits (d ∷ ds) (Err e) h =
-    elim (all_ascii_digits (d ∷ ds)) as (λ b. all_ascii_digits (d ∷ ds) ≡ b → None ≡ option_and_then in_64_bits (option_map (λ n. neg_ℤ (pos n)) (if b then Some (spelled_behind 0 (d ∷ ds)) else None))) [
-      | true ↦ λ t. sym (in_64_bits-neg_none (spelled_behind 0 (d ∷ ds)) (λ le. h (t, omega arith, le)))
+    elim (all_ascii_digits (d ∷ ds)) as (λ b. all_ascii_digits (d ∷ ds) ≡ b → None ≡ option_and_then in_64_bits (option_map (λ n. neg_ℤ (pos n)) (if b then Some (number_of (d ∷ ds)) else None))) [
+      | true ↦ λ t. sym (in_64_bits-neg_none (number_of (d ∷ ds)) (λ le. h (t, omega arith, le)))
       | false ↦ λ t. refl
     ]
     refl

@@ -6,7 +6,7 @@ use Rattle.std.specs.List.{list_all}
 use Rattle.std.specs.Char.{is_ascii_digit}
 use Rattle.serde_json.specs.Data.{Data, null, boolean, number, string, array, object}
 use Rattle.serde_json.specs.Find.{as_integer}
-use Rattle.dr_time.specs.Instant.{first_instant, last_instant, instant_of}
+use Rattle.dr_time.specs.Instant.{is_instant, instant_of}
 use Rattle.dr_schema.specs.declared.time_format.TimeFormat.{TimeFormat}
 use Rattle.dr_schema.specs.declared.time_format.TimeFormat.TheVariants.{Iso, Millis, Posix, Auto}
 use Rattle.dr_events.specs.declared.unparseable.Unparseable.{Unparseable}
@@ -65,7 +65,7 @@ time_of Auto d = auto_time d
 
 -- an event has a time in the years 1 to 9999
 abbrev pub in_years : ℤ → Option ℤ
-in_years t = if int_le first_instant t && int_le t last_instant then Some t else None
+in_years t = if is_instant t then Some t else None
 
 -- the time of an event by the value of its time column, which may be absent
 abbrev pub event_time : TimeFormat → Option Data → Result ℤ Unparseable

@@ -1,21 +1,17 @@
 -- Whole numbers, as JSON numbers and as texts of decimal digits (which texts are numbers is this project's own).
-use Rattle.std.specs.Prelude.{ℕ, ◌+◌, ◌-◌, ◌*◌, ◌^◌, nat_lt, ◌==◌, ℤ, pos, negsuc, neg_ℤ, List, [], ◌∷◌, Option, Some, None, option_map, if◌then◌else◌}
+use Rattle.std.specs.Prelude.{ℕ, ◌^◌, nat_lt, ◌==◌, ℤ, pos, negsuc, neg_ℤ, List, [], ◌∷◌, Option, Some, None, option_map, if◌then◌else◌}
 use Rattle.std.specs.Str.{all_ascii_digits}
+use Rattle.dr_time.specs.Spelling.{number_of}
 
 -- a number from -2^63 to 2^63 - 1
 abbrev pub in_64_bits : ℤ → Option ℤ
 in_64_bits (pos n) = if nat_lt n (2 ^ 63) then Some (pos n) else None
 in_64_bits (negsuc n) = if nat_lt n (2 ^ 63) then Some (negsuc n) else None
 
--- the number that digits spell, behind a number
-abbrev pub spelled_behind : ℕ → List ℕ → ℕ
-spelled_behind n [] = n
-spelled_behind n (c ∷ cs) = spelled_behind (10 * n + (c - 48)) cs
-
 -- the number that one or more decimal digits spell
 abbrev pub digits_number : List ℕ → Option ℕ
 digits_number [] = None
-digits_number (c ∷ cs) = if all_ascii_digits (c ∷ cs) then Some (spelled_behind 0 (c ∷ cs)) else None
+digits_number (c ∷ cs) = if all_ascii_digits (c ∷ cs) then Some (number_of (c ∷ cs)) else None
 
 abbrev pub plus : ℕ
 plus = 43

@@ -1,8 +1,8 @@
-ghost use Rattle.std.specs.Prelude.{◌≡◌, ◌&&◌, ℤ, Option, int_le, option_map, option_and_then};
+ghost use Rattle.std.specs.Prelude.{◌≡◌, ℤ, Option, option_map, option_and_then};
 ghost use Rattle.std.specs.List.{list_all};
 ghost use Rattle.std.specs.Char.{is_ascii_digit};
 ghost use Rattle.dr_events.specs.Refusal.{Gives};
-ghost use Rattle.dr_time.specs.Instant.{first_instant, last_instant};
+ghost use Rattle.dr_time.specs.Instant.{is_instant};
 ghost use Rattle.dr_events.specs.WholeNumber.{in_64_bits};
 ghost use Rattle.dr_events.specs.Scalars.{data_of};
 ghost use Rattle.dr_base.specs.Fields.{present};
@@ -12,13 +12,7 @@ use crate::numbers::{plain_number, whole_number};
 use crate::scalar::Scalar;
 use crate::unparseable::Unparseable;
 use dr_schema::TimeFormat;
-use dr_time::parse_instant;
-
-/// 0001-01-01T00:00:00Z.
-const FIRST_TIME: i64 = -62_135_596_800_000;
-
-/// 9999-12-31T23:59:59.999Z.
-const LAST_TIME: i64 = 253_402_300_799_999;
+use dr_time::{FIRST_INSTANT, LAST_INSTANT, parse_instant};
 
 /// The time of an event in milliseconds since the epoch, by the value of its time column. Refusals: 31 `NoTimestamp` where
 /// that is absent or null, 32 `BadTimestamp` where it is no time in that format or lies outside the years 1 to 9999.
@@ -36,9 +30,9 @@ pub fn event_time(format: TimeFormat, value: Option<Scalar<'_>>) -> Result<i64, 
 }
 
 fn is_in_years(time: i64) -> bool
-    ensures { result ≡ (int_le first_instant time && int_le time last_instant) }
+    ensures { result ≡ is_instant time }
 {
-    FIRST_TIME <= time && time <= LAST_TIME
+    FIRST_INSTANT <= time && time <= LAST_INSTANT
 }
 
 // A number beyond 64 bits lies outside the years too.

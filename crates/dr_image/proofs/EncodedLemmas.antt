@@ -13,7 +13,7 @@ use Rattle.std.proofs.lemmas.List.Elements.{recursion_from_All}
 use Rattle.std.proofs.lemmas.List.FromFn.{length-map-range_with_len}
 use Rattle.sha2.specs.Sha256.{sha256, digest_bytes}
 use Rattle.dr_base.specs.declared.row.Row.{Row}
-use Rattle.dr_time.specs.Instant.{IsInstant, first_instant, last_instant}
+use Rattle.dr_time.specs.Instant.{is_instant, IsInstant, first_instant, last_instant}
 use Rattle.dr_image.specs.declared.header.Header.{Header}
 use Rattle.dr_image.specs.Words.{long, longs, word_at, eight_bytes, spelled_longs}
 use Rattle.dr_image.specs.Pieces.{pieces, ends_from}
@@ -21,7 +21,7 @@ use Rattle.dr_image.specs.Table.{Column, Table, rows_of}
 use Rattle.dr_image.specs.Sealed.{Sealed, HasImage, IsRowOf, each_next, may_follow}
 use Rattle.dr_image.specs.Image.{joined, rows_with, magic, bytes_of_column, data_of, head_of, bytes_of, image, column_of, values_of, metric_of, table_of}
 use Rattle.dr_image.specs.Layout.{Part, header_of, metrics_at, dims_at, parts_of, parts_in, parts_fill, metrics_of, column_in, read_table}
-use Rattle.dr_image.specs.Opening.{headed, framed, filled, open_of, is_version, is_length, counts_fit, columns_fill, has_digest, is_dictionary, numbers_fit, is_instant, times_fit, ranks_fit, is_index, row_lists_fit, texts_fit}
+use Rattle.dr_image.specs.Opening.{headed, framed, filled, open_of, is_version, is_length, counts_fit, columns_fill, has_digest, is_dictionary, numbers_fit, times_fit, ranks_fit, is_index, row_lists_fit, texts_fit}
 use Rattle.dr_image.proofs.SpellingLemmas.{AreWords, longs_read, length-spelled_longs, long_eight}
 use Rattle.dr_image.proofs.WholeLemmas.{seam}
 use Rattle.dr_image.proofs.ListingLemmas.{total_all}

@@ -12,7 +12,7 @@ use Rattle.std.proofs.lemmas.Bool.{and_parts, eqb-true, cases_lt}
 use Rattle.std.proofs.lemmas.List.{length-map, get_or_past}
 use Rattle.std.proofs.lemmas.List.Elements.{All-from_recursion, recursion_from_All, All-from_get_or}
 use Rattle.std.proofs.lemmas.List.FromFn.{length-map-range_with_len, get_or-map-range_with_len}
-use Rattle.dr_time.specs.Instant.{IsInstant, first_instant, last_instant}
+use Rattle.dr_time.specs.Instant.{is_instant, IsInstant, first_instant, last_instant}
 use Rattle.dr_image.specs.declared.header.Header.{Header}
 use Rattle.dr_image.specs.Words.{long, longs, word_at}
 use Rattle.dr_image.specs.Table.{Column, Table, no_column, value_at, row_at, rows_of}
@@ -20,7 +20,7 @@ use Rattle.dr_image.specs.Sealed.{IsRowOf, HasImage}
 use Rattle.dr_image.specs.Image.{bytes_of}
 use Rattle.dr_image.specs.Layout.{Part, header_of, rows_in, metrics_at, dims_at, part_of, values_in, parts_in, metrics_of, behind, column_in, read_table}
 use Rattle.dr_image.specs.Parts.{no_part}
-use Rattle.dr_image.specs.Opening.{open_of, counts_fit, is_instant}
+use Rattle.dr_image.specs.Opening.{open_of, counts_fit}
 use Rattle.dr_image.specs.Checked.{AreChecked, column_at}
 use Rattle.dr_image.specs.Laws.{sealed_by, IsImageOf}
 use Rattle.dr_image.proofs.SpellingLemmas.{AreBytes, bytes-drop, bytes-take, eight_fit}

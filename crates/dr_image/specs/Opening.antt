@@ -7,7 +7,7 @@ use Rattle.std.specs.Ordering.{nat_cmp, int_cmp, ordering_then, is_lt}
 use Rattle.std.specs.declared.cmp.Ordering.{Ordering}
 use Rattle.std.specs.Cmp.Lexicographic.{slice_cmp}
 use Rattle.dr_base.specs.Reading.{◌>>=◌}
-use Rattle.dr_time.specs.Instant.{first_instant, last_instant}
+use Rattle.dr_time.specs.Instant.{is_instant}
 use Rattle.sha2.specs.Sha256.{sha256}
 use Rattle.dr_image.specs.declared.image_error.ImageError.{ImageError}
 use Rattle.dr_image.specs.declared.image_error.ImageError.TheVariants.{Truncated, BadMagic, BadVersion, BadLength, DictOrder, NumberOutOfDict, RowOrder, BadIndex, DigestMismatch}
@@ -61,9 +61,6 @@ numbers_at parts i = map (λ p. get_or p.numbers i 0) parts
 
 abbrev pub rank_cmp : List ℤ → List Part → ℕ → ℕ → Ordering
 rank_cmp times parts i j = ordering_then (int_cmp (get_or times i (pos 0)) (get_or times j (pos 0))) (slice_cmp nat_cmp (numbers_at parts i) (numbers_at parts j))
-
-abbrev pub is_instant : ℤ → Bool
-is_instant t = int_le first_instant t && int_le t last_instant
 
 -- the rows from a number on, each with the next
 unfoldable pub ranks_fit : Bool → List ℤ → List Part → Bool

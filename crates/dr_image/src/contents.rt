@@ -5,7 +5,8 @@ ghost use Rattle.dr_image.specs.Words.{word, long};
 ghost use Rattle.dr_image.specs.Pieces.{pieces, ends_fit};
 ghost use Rattle.dr_image.specs.Sealed.{each_next};
 ghost use Rattle.dr_image.specs.Parts.{part_seen};
-ghost use Rattle.dr_image.specs.Opening.{is_below, is_dictionary, numbers_fit, is_instant, times_fit, rows_have, is_row_list, row_lists_fit, is_index};
+ghost use Rattle.dr_time.specs.Instant.{is_instant};
+ghost use Rattle.dr_image.specs.Opening.{is_below, is_dictionary, numbers_fit, times_fit, rows_have, is_row_list, row_lists_fit, is_index};
 
 use crate::part::Part;
 use crate::pieces::{do_ends_fit, list_piece, text_piece};

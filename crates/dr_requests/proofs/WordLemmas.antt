@@ -15,7 +15,7 @@ use Rattle.dr_time.specs.declared.time_error.TimeError.TheVariants.{BadInstant}
 use Rattle.dr_time.specs.Instant.{IsInstant, instant_of}
 use Rattle.dr_time.specs.Spelling.{IsRead}
 use Rattle.dr_time.proofs.ReadLemmas.{instant_of-read}
-use Rattle.dr_events.specs.WholeNumber.{spelled_behind}
+use Rattle.dr_time.specs.Spelling.{number_of}
 use Rattle.dr_events.proofs.SignedTexts.{own}
 use Rattle.dr_requests.specs.declared.command_error.CommandError.TheVariants.{BadCommand}
 use Rattle.dr_requests.specs.Request.{instant_in}
@@ -66,15 +66,15 @@ abbrev pub ReadsNumber : {E : Type 0} → List ℕ → Result ℕ E → Type 0
 ReadsNumber word (Ok n) = number_in word ≡ Ok n
 ReadsNumber word (Err e) = number_in word ≡ Err BadCommand
 
-pub bounded : {E : Type 0} → (word : List ℕ) (r : Result ℕ E) → all_ascii_digits word ≡ true → OkIff r ((0 < length word) × (spelled_behind 0 word < 2 ^ 64)) (spelled_behind 0 word)
+pub bounded : {E : Type 0} → (word : List ℕ) (r : Result ℕ E) → all_ascii_digits word ≡ true → OkIff r ((0 < length word) × (number_of word < 2 ^ 64)) (number_of word)
     → ReadsNumber word r
 bounded [] (Ok n) digits read = let none : 0 < 0 = read.0.0 in absurd (omega arith)
 bounded [] (Err e) digits read = refl
-bounded (c ∷ cs) (Ok n) digits read = rw (digits, lt-ltb (spelled_behind 0 (c ∷ cs)) (2 ^ 64) read.0.1, read.1) refl
+bounded (c ∷ cs) (Ok n) digits read = rw (digits, lt-ltb (number_of (c ∷ cs)) (2 ^ 64) read.0.1, read.1) refl
 bounded (c ∷ cs) (Err e) digits read =
     rw digits
-    (elim (nat_lt (spelled_behind 0 (c ∷ cs)) (2 ^ 64)) as (λ b. nat_lt (spelled_behind 0 (c ∷ cs)) (2 ^ 64) ≡ b → or_bad_command (if b then Some (spelled_behind 0 (c ∷ cs)) else None) ≡ Err BadCommand)
-    [ true ↦ λ t. absurd (read (omega arith, ltb-true (spelled_behind 0 (c ∷ cs)) (2 ^ 64) t)) | false ↦ λ t. refl ] refl)
+    (elim (nat_lt (number_of (c ∷ cs)) (2 ^ 64)) as (λ b. nat_lt (number_of (c ∷ cs)) (2 ^ 64) ≡ b → or_bad_command (if b then Some (number_of (c ∷ cs)) else None) ≡ Err BadCommand)
+    [ true ↦ λ t. absurd (read (omega arith, ltb-true (number_of (c ∷ cs)) (2 ^ 64) t)) | false ↦ λ t. refl ] refl)
 
 -- ---- instants
 

@@ -1,5 +1,5 @@
 -- Instants, in milliseconds since 1970-01-01T00:00:00Z, and how their texts are read (ISO 8601).
-use Rattle.std.specs.Prelude.{◌≡◌, ℕ, ◌&&◌, if◌then◌else◌, List, [], ◌∷◌, ℤ, pos, neg_ℤ, ◌+ℤ◌, ◌-ℤ◌, ◌*ℤ◌, ◌≤ℤ◌, int_le, Result, Ok, Err}
+use Rattle.std.specs.Prelude.{◌≡◌, ℕ, Bool, ◌&&◌, if◌then◌else◌, List, [], ◌∷◌, ℤ, pos, neg_ℤ, ◌+ℤ◌, ◌-ℤ◌, ◌*ℤ◌, ◌≤ℤ◌, int_le, Result, Ok, Err}
 use Rattle.dr_base.specs.Reading.{◌>>=◌}
 use Rattle.dr_time.specs.declared.time_error.TimeError.{TimeError}
 use Rattle.dr_time.specs.declared.time_error.TimeError.TheVariants.{BadInstant, OutOfRange}
@@ -22,8 +22,11 @@ last_instant = pos 253_402_300_799_999
 abbrev pub IsInstant : ℤ → Type 0
 IsInstant t = (first_instant ≤ℤ t) × (t ≤ℤ last_instant)
 
+abbrev pub is_instant : ℤ → Bool
+is_instant t = int_le first_instant t && int_le t last_instant
+
 abbrev pub in_range : ℤ → Result ℤ TimeError
-in_range t = if int_le first_instant t && int_le t last_instant then Ok t else Err OutOfRange
+in_range t = if is_instant t then Ok t else Err OutOfRange
 
 -- the day number of a date that the calendar has
 abbrev pub day_of : ℕ → ℕ → ℕ → Result ℤ TimeError
