@@ -1,6 +1,7 @@
 pub mod NoBytes
 pub mod Texts
 pub mod Patterns
+pub mod Ways
 pub mod Places
 pub mod PieceParts
 pub mod DistinctValues

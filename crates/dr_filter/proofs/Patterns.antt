@@ -113,7 +113,7 @@ gap-one ps d (e ∷ es) = ap (λ b. b || behind_some_run (fits (95 ∷ ps)) (e �
 
 -- ---- literal characters
 
-same_letter : (c : ℕ) → letter_fits c c ≡ true
+pub same_letter : (c : ℕ) → letter_fits c c ≡ true
 same_letter c = at (c == 95) (c == c) (eq-eqb c c refl)
   where
     at : (a b : Bool) → b ≡ true → a || b ≡ true

@@ -1,5 +1,6 @@
 pub mod Refusal
 pub mod Like
+pub mod Fits
 pub mod Letters
 pub mod Pieces
 pub mod Left

@@ -1,5 +1,6 @@
--- Which texts a pattern fits (Apache Druid documentation, query filters: like): `%` is any run of characters, `_` is one
--- character, every other is itself. Characters are Unicode scalar values.
+-- Which texts fit a pattern (Apache Druid documentation, query filters: like): `%` is any run of characters, `_` is one
+-- character, every other is itself. Characters are Unicode scalar values. These definitions calculate; which texts fit is said
+-- form by form by the relation `Fits`, and the laws `what_fits_is_found` and `what_is_found_fits` say that the two are the same.
 use Rattle.std.specs.Prelude.{ℕ, ◌==◌, Bool, true, false, ◌||◌, ◌&&◌, if◌then◌else◌, List, [], ◌∷◌}
 
 -- `_` is every character, another one itself alone
@@ -20,7 +21,7 @@ abbrev pub is_empty : List ℕ → Bool
 is_empty [] = true
 is_empty (c ∷ cs) = false
 
--- the whole text fits the pattern
+-- whether the whole text fits the pattern, calculated from its first character on
 unfoldable pub fits : (pattern text : List ℕ) → Bool
 fits [] text = is_empty text
 fits (p ∷ ps) text = if p == 37 then behind_some_run (fits ps) text else first_and_rest (letter_fits p) (fits ps) text

@@ -26,8 +26,9 @@ pub enum Filter {
 impl Filter {
     /// Whether a row of this time, in milliseconds since the epoch, and these dimension values, in the order of the schema,
     /// meets the filter. It takes no memory, and time by the tests of the filter, each as
-    /// [`ValueTest::passes`](crate::ValueTest::passes), and by its intervals. The selectors among the members of one `or` count
-    /// as one test for each dimension that they name.
+    /// [`ValueTest::passes`](crate::ValueTest::passes), which says where a pattern takes more than the bytes of it and of the
+    /// value together. An `interval` takes time logarithmic in the number of its intervals. The selectors among the members of
+    /// one `or` count as one test for each dimension that they name.
     #[cycle(matching)]
     pub fn matches(&self, time: i64, dims: &[Text]) -> bool
         ensures { result ≡ matches_of time dims.now (condition_in self.now) }

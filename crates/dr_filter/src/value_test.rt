@@ -21,8 +21,10 @@ pub enum ValueTest {
 }
 
 impl ValueTest {
-    /// Whether a value passes. It takes no memory, and expected time by the bytes of the value, but for a pattern by those
-    /// of the value times those of the pattern at worst; the number of texts of an `in` doesn't count.
+    /// Whether a value passes. It takes no memory, and expected time by the bytes of the value; the number of texts of an `in`
+    /// doesn't count. For a pattern it takes time by the bytes of the pattern and of the value together, but for a piece
+    /// between two `%` that has a `_` with other characters on both sides of it: at worst such a piece takes its own bytes
+    /// times those of the value.
     pub fn passes(&self, value: &str) -> bool
         ensures { result ≡ passes_of self.now value.now }
     {
