@@ -1,5 +1,4 @@
-ghost use Rattle.std.specs.Prelude.{◌≡◌, map, option_map, bytes_eq};
-ghost use Rattle.std.specs.List.{position};
+ghost use Rattle.std.specs.Prelude.{◌≡◌, map, option_map};
 ghost use Rattle.serde_json.specs.View.{view, members_view};
 ghost use Rattle.dr_having.specs.LeafOf.{comparison_of, named, value_text, aggregation_of, dimension_of, no_unlisted, place_of};
 ghost use Rattle.dr_having.specs.Refusal.{Gives};

@@ -28,12 +28,23 @@ pub fn columns(
     match value {
         Some(value) => {
             let items = list_value(alloc, value, "columns")?;
-            let dimensions = OutputNames::of(alloc, dimensions)?;
-            let aggregations = OutputNames::of(alloc, aggregations)?;
-            each(alloc, items, &dimensions, &aggregations)
+            every(alloc, items, dimensions, aggregations)
         }
         None => Ok(OrderColumns::new(alloc)),
     }
+}
+
+fn every(
+    alloc: Global,
+    values: &[Value],
+    dimensions: &[Text],
+    aggregations: &[Text],
+) -> Result<OrderColumns, OrderError>
+    ensures { Gives (λ c. c) result (each (column_of dimensions.now aggregations.now) (items_view values.now)) }
+{
+    let dimensions = OutputNames::of(alloc, dimensions)?;
+    let aggregations = OutputNames::of(alloc, aggregations)?;
+    each(alloc, values, &dimensions, &aggregations)
 }
 
 fn each(
@@ -121,7 +132,11 @@ fn named(
     }
 }
 
-fn output(name: &str, dimensions: &OutputNames<'_>, aggregations: &OutputNames<'_>) -> Option<Output>
+fn output(
+    name: &str,
+    dimensions: &OutputNames<'_>,
+    aggregations: &OutputNames<'_>,
+) -> Option<Output>
     ensures { result ≡ output_among (position (bytes_eq name.now) dimensions.now) (position (bytes_eq name.now) aggregations.now) }
 {
     match dimensions.place_of(name) {
