@@ -2,3 +2,4 @@ pub mod Levels
 pub mod Truths
 pub mod Narrowing
 pub mod Together
+pub mod Places

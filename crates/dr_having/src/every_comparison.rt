@@ -4,6 +4,7 @@ ghost use Rattle.dr_having.specs.Meeting.{meets_value};
 
 use crate::every_bound::EveryBound;
 use crate::group_value::GroupValue;
+use indexmap::IndexMap;
 use std::alloc::{AllocError, Global};
 use std::marker::Model;
 
@@ -59,20 +60,28 @@ fn bounds_of(alloc: Global, members: &[Option<GroupValue>]) -> Result<Vec<EveryB
     ensures { IfOk result (λ bounds. AreEvery bounds.items members.now) }
 {
     let mut bounds = Vec::new(alloc);
+    let mut places = IndexMap::new(alloc);
     for member in members {
         match member {
-            Some(condition) => narrow(&mut bounds, condition)?,
+            Some(condition) => narrow(&mut bounds, &mut places, condition)?,
             None => (),
         }
     }
     Ok(bounds)
 }
 
-// Asks one more comparison: of the bound of its aggregation, where there is one.
-fn narrow(bounds: &mut Vec<EveryBound>, condition: &GroupValue) -> Result<(), AllocError>
+// Asks one more comparison: of the bound of its aggregation, where there is one. Each aggregation that has a
+// bound is found by hashing.
+fn narrow(
+    bounds: &mut Vec<EveryBound>,
+    places: &mut IndexMap<usize, usize>,
+    condition: &GroupValue,
+) -> Result<(), AllocError>
     ensures { OnOk result ((values : List ℤ) → lie_in_all values bounds.new.items ≡ (lie_in_all values bounds.old.items && meets_value condition.now values)) }
 {
-    if let Some(i) = place_among(bounds.as_slice(), condition.place) {
+    let next = bounds.len();
+    let likely = *places.entry(condition.place)?.or_insert(next);
+    if let Some(i) = place_among(bounds.as_slice(), likely, condition.place) {
         let bound = &mut bounds[i];
         bound.add(condition);
         return Ok(());
@@ -81,14 +90,13 @@ fn narrow(bounds: &mut Vec<EveryBound>, condition: &GroupValue) -> Result<(), Al
     Ok(())
 }
 
-// The first bound of an aggregation.
-fn place_among(bounds: &[EveryBound], place: usize) -> Option<usize>
+// The likely place of the bound of an aggregation, where its bound stands there.
+fn place_among(bounds: &[EveryBound], likely: usize, place: usize) -> Option<usize>
     ensures { IfSome result (λ i. IsEveryOf bounds.now i place) }
 {
-    for i in 0..bounds.len() {
-        if bounds[i].place == place {
-            return Some(i);
-        }
+    if bounds.get(likely)?.place == place {
+        Some(likely)
+    } else {
+        None
     }
-    None
 }

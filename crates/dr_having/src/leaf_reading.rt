@@ -1,5 +1,4 @@
-ghost use Rattle.std.specs.Prelude.{◌≡◌, map, option_map, bytes_eq};
-ghost use Rattle.std.specs.List.{position};
+ghost use Rattle.std.specs.Prelude.{◌≡◌, map, option_map};
 ghost use Rattle.serde_json.specs.View.{view, members_view};
 ghost use Rattle.dr_having.specs.LeafOf.{comparison_of, named, value_text, aggregation_of, dimension_of, no_unlisted, place_of};
 ghost use Rattle.dr_having.specs.Refusal.{Gives};
@@ -8,6 +7,7 @@ use crate::comparison::Comparison;
 use crate::dimension_value::DimensionValue;
 use crate::group_value::GroupValue;
 use crate::having_error::HavingError;
+use crate::output_names::OutputNames;
 use dr_base::{Text, field, first_unlisted, int_field, text_field, text_value};
 use serde_json::{Map, Value};
 use std::alloc::Global;
@@ -35,7 +35,7 @@ pub fn aggregation(
     value: &Value,
     members: &Map<String, Value>,
     comparison: Comparison,
-    names: &[Text],
+    names: &OutputNames<'_>,
 ) -> Result<GroupValue, HavingError>
     ensures { Gives (λ c. c) result (aggregation_of comparison names.now (view value.now) (members_view members.now.entries)) }
 {
@@ -57,7 +57,7 @@ pub fn dimension(
     alloc: Global,
     value: &Value,
     members: &Map<String, Value>,
-    names: &[Text],
+    names: &OutputNames<'_>,
 ) -> Result<DimensionValue, HavingError>
     ensures { Gives (λ c. c) result (dimension_of names.now (view value.now) (members_view members.now.entries)) }
 {
@@ -81,20 +81,14 @@ fn value_text(alloc: Global, value: Option<&Value>) -> Result<Text, HavingError>
     }
 }
 
-/// The place of a name among the outputs.
-fn named(alloc: Global, names: &[Text], name: &str) -> Result<usize, HavingError>
+/// The place of a name among the outputs. Refusals: 77 `UnknownHavingColumn` with it where it isn't there.
+fn named(alloc: Global, names: &OutputNames<'_>, name: &str) -> Result<usize, HavingError>
     ensures { Gives (λ p. p) result (named names.now name.now) }
 {
-    match place(names, name) {
+    match names.place_of(name) {
         Some(place) => Ok(place),
         None => Err(HavingError::UnknownHavingColumn(Text::from_str(alloc, name)?)),
     }
-}
-
-fn place(names: &[Text], name: &str) -> Option<usize>
-    ensures { result ≡ position (bytes_eq name.now) names.now }
-{
-    names.iter().position(|other| name == other.as_str())
 }
 
 /// Refuses the first key that asks for something and is not listed, by 76 `Unsupported`.

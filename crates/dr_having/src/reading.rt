@@ -9,6 +9,7 @@ use crate::arranging::{every_of, some_of};
 use crate::having::Having;
 use crate::having_error::HavingError;
 use crate::leaf_reading::{aggregation, comparison_of, dimension, no_unlisted};
+use crate::output_names::OutputNames;
 use dr_base::{Text, list_field, object, required, text_field};
 use serde_json::{Map, Value};
 use std::alloc::Global;
@@ -30,8 +31,8 @@ impl Having {
     /// - 76 with the first key in byte order that is not one of these.
     ///
     /// A field that is required and absent or null is 2 `Missing` with its name, and one of another kind 3 `WrongKind`. 0
-    /// `NoMemory` may come in the place of any other answer. It takes memory for the conditions, and expected time by
-    /// the bytes of the value and, condition by condition, by the outputs.
+    /// `NoMemory` may come in the place of any other answer. It takes memory for the conditions and for a place of each
+    /// output, and expected time by the bytes of the value and of the names of the outputs: each name is found by hashing.
     #[tactic(auto, unfolding(crate::specs::HavingOf::having_of))]
     pub fn parse(
         alloc: Global,
@@ -41,11 +42,13 @@ impl Having {
     ) -> Result<Having, HavingError>
         ensures { Gives condition_in result (having_of dimensions.now aggregations.now (view value.now)) }
     {
+        let dimensions = OutputNames::of(alloc, dimensions)?;
+        let aggregations = OutputNames::of(alloc, aggregations)?;
         having_at(
             alloc,
             value,
-            dimensions,
-            aggregations,
+            &dimensions,
+            &aggregations,
             "having",
             MOST_LEVELS,
         )
@@ -57,8 +60,8 @@ impl Having {
 fn having_at(
     alloc: Global,
     value: &Value,
-    dimensions: &[Text],
-    aggregations: &[Text],
+    dimensions: &OutputNames<'_>,
+    aggregations: &OutputNames<'_>,
     name: &str,
     levels: usize,
 ) -> Result<Having, HavingError>
@@ -85,8 +88,8 @@ fn too_deep(alloc: Global, value: &Value, name: &str) -> Result<Having, HavingEr
 fn level(
     alloc: Global,
     value: &Value,
-    dimensions: &[Text],
-    aggregations: &[Text],
+    dimensions: &OutputNames<'_>,
+    aggregations: &OutputNames<'_>,
     name: &str,
     inside: usize,
 ) -> Result<Having, HavingError>
@@ -115,8 +118,8 @@ fn specs(
     alloc: Global,
     value: &Value,
     members: &Map<String, Value>,
-    dimensions: &[Text],
-    aggregations: &[Text],
+    dimensions: &OutputNames<'_>,
+    aggregations: &OutputNames<'_>,
     inside: usize,
 ) -> Result<Vec<Having>, HavingError>
     ensures { Gives (λ v. map condition_in v.items) result (specs_of (having_at inside dimensions.now aggregations.now) (view value.now) (members_view members.now.entries)) }
@@ -131,8 +134,8 @@ fn specs(
 fn each(
     alloc: Global,
     values: &[Value],
-    dimensions: &[Text],
-    aggregations: &[Text],
+    dimensions: &OutputNames<'_>,
+    aggregations: &OutputNames<'_>,
     inside: usize,
 ) -> Result<Vec<Having>, HavingError>
     ensures { Gives (λ v. map condition_in v.items) result (each (having_at inside dimensions.now aggregations.now (codes "havingSpecs")) (items_view values.now)) }
@@ -158,8 +161,8 @@ fn spec(
     alloc: Global,
     value: &Value,
     members: &Map<String, Value>,
-    dimensions: &[Text],
-    aggregations: &[Text],
+    dimensions: &OutputNames<'_>,
+    aggregations: &OutputNames<'_>,
     inside: usize,
 ) -> Result<Having, HavingError>
     ensures { Gives condition_in result (spec_of (having_at inside dimensions.now aggregations.now) (view value.now) (members_view members.now.entries)) }
@@ -176,8 +179,8 @@ fn simple(
     value: &Value,
     members: &Map<String, Value>,
     kind: &str,
-    dimensions: &[Text],
-    aggregations: &[Text],
+    dimensions: &OutputNames<'_>,
+    aggregations: &OutputNames<'_>,
 ) -> Result<Having, HavingError>
     ensures { Gives condition_in result (simple_by kind.now dimensions.now aggregations.now (view value.now) (members_view members.now.entries)) }
 {
@@ -199,7 +202,7 @@ fn other(
     value: &Value,
     members: &Map<String, Value>,
     kind: &str,
-    dimensions: &[Text],
+    dimensions: &OutputNames<'_>,
 ) -> Result<Having, HavingError>
     ensures { Gives condition_in result (other_by kind.now dimensions.now (view value.now) (members_view members.now.entries)) }
 {

@@ -4,6 +4,7 @@ ghost use Rattle.dr_having.specs.Meeting.{meets_value};
 
 use crate::group_value::GroupValue;
 use crate::some_bound::SomeBound;
+use indexmap::IndexMap;
 use std::alloc::{AllocError, Global};
 use std::marker::Model;
 
@@ -59,24 +60,29 @@ fn bounds_of(alloc: Global, members: &[Option<GroupValue>]) -> Result<Vec<SomeBo
     ensures { IfOk result (λ bounds. AreSome bounds.items members.now) }
 {
     let mut bounds = Vec::new(alloc);
+    let mut places = IndexMap::new(alloc);
     for member in members {
         match member {
-            Some(condition) => widen(alloc, &mut bounds, condition)?,
+            Some(condition) => widen(alloc, &mut bounds, &mut places, condition)?,
             None => (),
         }
     }
     Ok(bounds)
 }
 
-// Lets what one more comparison holds of through: by the bound of its aggregation, where there is one.
+// Lets what one more comparison holds of through: by the bound of its aggregation, where there is one. Each
+// aggregation that has a bound is found by hashing.
 fn widen(
     alloc: Global,
     bounds: &mut Vec<SomeBound>,
+    places: &mut IndexMap<usize, usize>,
     condition: &GroupValue,
 ) -> Result<(), AllocError>
     ensures { OnOk result ((values : List ℤ) → reach_some values bounds.new.items ≡ (reach_some values bounds.old.items || meets_value condition.now values)) }
 {
-    if let Some(i) = place_among(bounds.as_slice(), condition.place) {
+    let next = bounds.len();
+    let likely = *places.entry(condition.place)?.or_insert(next);
+    if let Some(i) = place_among(bounds.as_slice(), likely, condition.place) {
         let bound = &mut bounds[i];
         bound.add(condition)?;
         return Ok(());
@@ -85,14 +91,13 @@ fn widen(
     Ok(())
 }
 
-// The first bound of an aggregation.
-fn place_among(bounds: &[SomeBound], place: usize) -> Option<usize>
+// The likely place of the bound of an aggregation, where its bound stands there.
+fn place_among(bounds: &[SomeBound], likely: usize, place: usize) -> Option<usize>
     ensures { IfSome result (λ i. IsSomeOf bounds.now i place) }
 {
-    for i in 0..bounds.len() {
-        if bounds[i].place == place {
-            return Some(i);
-        }
+    if bounds.get(likely)?.place == place {
+        Some(likely)
+    } else {
+        None
     }
-    None
 }

@@ -11,6 +11,7 @@ use crate::order_columns::OrderColumns;
 use crate::order_error::OrderError;
 use crate::output::Output;
 use dr_base::{Text, field, list_value, object, text_field, text_value, wrong_kind};
+use dr_having::OutputNames;
 use serde_json::{Map, Value};
 use std::alloc::Global;
 
@@ -27,17 +28,30 @@ pub fn columns(
     match value {
         Some(value) => {
             let items = list_value(alloc, value, "columns")?;
-            each(alloc, items, dimensions, aggregations)
+            every(alloc, items, dimensions, aggregations)
         }
         None => Ok(OrderColumns::new(alloc)),
     }
 }
 
-fn each(
+fn every(
     alloc: Global,
     values: &[Value],
     dimensions: &[Text],
     aggregations: &[Text],
+) -> Result<OrderColumns, OrderError>
+    ensures { Gives (λ c. c) result (each (column_of dimensions.now aggregations.now) (items_view values.now)) }
+{
+    let dimensions = OutputNames::of(alloc, dimensions)?;
+    let aggregations = OutputNames::of(alloc, aggregations)?;
+    each(alloc, values, &dimensions, &aggregations)
+}
+
+fn each(
+    alloc: Global,
+    values: &[Value],
+    dimensions: &OutputNames<'_>,
+    aggregations: &OutputNames<'_>,
 ) -> Result<OrderColumns, OrderError>
     ensures { Gives (λ c. c) result (each (column_of dimensions.now aggregations.now) (items_view values.now)) }
 {
@@ -53,8 +67,8 @@ fn each(
 fn column(
     alloc: Global,
     value: &Value,
-    dimensions: &[Text],
-    aggregations: &[Text],
+    dimensions: &OutputNames<'_>,
+    aggregations: &OutputNames<'_>,
 ) -> Result<OrderColumn, OrderError>
     ensures { Gives (λ c. c) result (column_of dimensions.now aggregations.now (view value.now)) }
 {
@@ -76,8 +90,8 @@ fn column_object(
     alloc: Global,
     value: &Value,
     members: &Map<String, Value>,
-    dimensions: &[Text],
-    aggregations: &[Text],
+    dimensions: &OutputNames<'_>,
+    aggregations: &OutputNames<'_>,
 ) -> Result<OrderColumn, OrderError>
     ensures { Gives (λ c. c) result (column_object dimensions.now aggregations.now (view value.now) (members_view members.now.entries)) }
 {
@@ -107,8 +121,8 @@ fn is_aggregation(output: Output) -> bool
 fn named(
     alloc: Global,
     name: &str,
-    dimensions: &[Text],
-    aggregations: &[Text],
+    dimensions: &OutputNames<'_>,
+    aggregations: &OutputNames<'_>,
 ) -> Result<Output, OrderError>
     ensures { Gives (λ o. o) result (named dimensions.now aggregations.now name.now) }
 {
@@ -118,22 +132,20 @@ fn named(
     }
 }
 
-fn output(name: &str, dimensions: &[Text], aggregations: &[Text]) -> Option<Output>
+fn output(
+    name: &str,
+    dimensions: &OutputNames<'_>,
+    aggregations: &OutputNames<'_>,
+) -> Option<Output>
     ensures { result ≡ output_among (position (bytes_eq name.now) dimensions.now) (position (bytes_eq name.now) aggregations.now) }
 {
-    match place(name, dimensions) {
+    match dimensions.place_of(name) {
         Some(place) => Some(Output::Dimension(place)),
-        None => match place(name, aggregations) {
+        None => match aggregations.place_of(name) {
             Some(place) => Some(Output::Aggregation(place)),
             None => None,
         },
     }
-}
-
-fn place(name: &str, names: &[Text]) -> Option<usize>
-    ensures { result ≡ position (bytes_eq name.now) names.now }
-{
-    names.iter().position(|other| name == other.as_str())
 }
 
 /// Whether a direction is descending; an absent one isn't. Refusals: 3 of `direction`, 76 with another text.

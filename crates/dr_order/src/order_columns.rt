@@ -1,4 +1,4 @@
-ghost use Rattle.std.specs.Prelude.{◌≡◌, ◌++◌, ◌∷◌, [], OnOk, OnErr};
+ghost use Rattle.std.specs.Prelude.{◌≡◌, ◌++◌, ◌∷◌, [], true, OnOk, OnErr, IsTrue};
 ghost use Rattle.std.specs.List.{list_any};
 ghost use Rattle.dr_order.specs.Deciding.{is_output};
 ghost use Rattle.dr_order.specs.Order.{columns_cmp, groups_cmp};
@@ -6,6 +6,7 @@ ghost use Rattle.dr_order.specs.Order.{columns_cmp, groups_cmp};
 use crate::order_column::OrderColumn;
 use crate::output::Output;
 use dr_base::Text;
+use indexmap::IndexMap;
 use std::alloc::{AllocError, Global};
 use std::cmp::Ordering;
 use std::marker::Model;
@@ -16,6 +17,8 @@ pub struct OrderColumns {
     columns: Vec<OrderColumn>,
     // Those whose output didn't stand before, which alone decide.
     deciding: Vec<OrderColumn>,
+    // At which place among these the one of each output likely stands.
+    places: IndexMap<Output, usize>,
 }
 
 impl Model for OrderColumns {
@@ -39,6 +42,7 @@ impl OrderColumns {
         OrderColumns {
             columns: Vec::new(alloc),
             deciding: Vec::new(alloc),
+            places: IndexMap::new(alloc),
         }
     }
 
@@ -49,12 +53,14 @@ impl OrderColumns {
         self.columns.as_slice()
     }
 
-    /// Adds a column behind the others. The only error is that memory ran out. It takes time by the outputs that stood before.
+    /// Adds a column behind the others. The only error is that memory ran out. It takes constant expected time.
     pub fn push(&mut self, column: OrderColumn) -> Result<(), AllocError>
         ensures ok { OnOk result (self.new ≡ self.old ++ column ∷ []) }
         ensures err { OnErr result (self.new ≡ self.old) }
     {
-        let decides = !stands(self.deciding.as_slice(), column.output);
+        let last = self.deciding.len();
+        let likely = *self.places.entry(column.output)?.or_insert(last);
+        let decides = !stands_at(self.deciding.as_slice(), likely, column.output);
         self.deciding.reserve(1)?;
         self.columns.push(column)?;
         if decides {
@@ -86,11 +92,14 @@ impl OrderColumns {
     }
 }
 
-// Whether a column of this output stands among some.
-fn stands(columns: &[OrderColumn], output: Output) -> bool
-    ensures { result ≡ list_any (λ c. is_output c.output output) columns.now }
+// Whether a column of this output stands at a place among some.
+fn stands_at(columns: &[OrderColumn], place: usize, output: Output) -> bool
+    ensures { IsTrue result → list_any (λ c. is_output c.output output) columns.now ≡ true }
 {
-    columns.iter().any(|column| column.output.is_same(output))
+    match columns.get(place) {
+        Some(column) => column.output.is_same(output),
+        None => false,
+    }
 }
 
 fn by_columns(

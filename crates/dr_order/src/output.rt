@@ -2,7 +2,7 @@ ghost use Rattle.std.specs.Prelude.{◌≡◌};
 ghost use Rattle.dr_order.specs.Deciding.{is_output};
 
 /// An output of a groupBy, by its place among the dimensions or among the aggregations of the query, from 0.
-#[derive(Clone, Copy, Debug, PartialEq, Eq)]
+#[derive(Clone, Copy, Debug, PartialEq, Eq, Hash)]
 pub enum Output {
     Dimension(usize),
     Aggregation(usize),

@@ -27,8 +27,8 @@ impl LimitSpec {
     ///   `numeric`), then 76 with another key;
     /// - 76 with the first key in byte order that is not one of these.
     ///
-    /// 0 `NoMemory` may come in the place of any other answer. It takes memory for the columns, and time by the bytes of the
-    /// value and, column by column, by the outputs.
+    /// 0 `NoMemory` may come in the place of any other answer. It takes memory for the columns and for a place of each output,
+    /// and expected time by the bytes of the value and of the names of the outputs: each name is found by hashing.
     pub fn parse(
         alloc: Global,
         value: Option<&Value>,

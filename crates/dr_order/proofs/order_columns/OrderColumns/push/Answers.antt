@@ -1,4 +1,4 @@
-use Rattle.std.proofs.Common.{◌≡◌, true, ◌∙◌, sym}
+use Rattle.std.proofs.Common.{◌≡◌, true}
 use Rattle.std.specs.List.{list_any}
 use Rattle.dr_order.specs.Deciding.{is_output}
 use Rattle.dr_order.proofs.Deciding.{Decides-stood, Decides-push}
@@ -11,6 +11,6 @@ invariant_of-self-then-decides c =
 
 pub invariant_of-self-else-decides : goal.invariant_of-self-else-decides
 invariant_of-self-else-decides c =
-    let stood : list_any (λ d. is_output d.output c.args.column.output) c.as_slice.result.now ≡ true = sym c.stands-decides.ensures ∙ c.if-decides.false in
+    let stood : list_any (λ d. is_output d.output c.args.column.output) c.as_slice.result.now ≡ true = c.stands_at-decides.ensures c.if-decides.false in
     rw (c.in_ok-reserve.ensures.items, c.in_ok-push.ensures.items)
     (Decides-stood c.self.inside.deciding.items c.self.inside.columns.items c.args.column c.self.invariant (rw (← c.as_slice.ensures.value) stood))
