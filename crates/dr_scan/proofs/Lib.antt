@@ -5,3 +5,4 @@ mod RowsInTurn
 mod Batches
 mod EntryTokens
 mod PlaceLemmas
+mod ImageRows

@@ -3,6 +3,7 @@
 //! they are read, and where rows are ordered their places.
 #![tactic(auto)]
 
+mod choosing;
 mod columns_written;
 mod entries_writing;
 mod entry_writing;

@@ -6,10 +6,10 @@ ghost use Rattle.dr_scan.specs.Written.{at_end, before_row, count_with, entry_ba
 ghost use Rattle.dr_writer.specs.Written.{Adds};
 ghost use Rattle.std.specs.Prelude.{OnOk};
 
+use crate::choosing::{selection, selects};
 use crate::entry_writing::{begin_entry, end_entry};
 use crate::row_writing::write_row;
 use crate::segment::Segment;
-use crate::selecting::is_selected;
 use crate::window::Window;
 use dr_ask::{Query, Scan, ScanColumn};
 use dr_base::Text;
@@ -50,16 +50,17 @@ fn write_given(
     ensures tokens { Adds result out.old out.new (segment_tokens scan.now columns.now identifier.now 0 (given window.old (selected (asked query.now) rows.now))) }
     ensures window { OnOk result (window.new ≡ after window.old (length (selected (asked query.now) rows.now))) }
 {
+    let told = selection(alloc, query, rows)?;
     let mut dims = Vec::new(alloc);
     let mut count = 0;
     for i in 0..rows.len() {
-        let row = rows.row(i);
-        if !is_selected(query, &row, &mut dims)? {
+        if !selects(query, &told, rows, i, &mut dims)? {
             continue;
         }
         if !window.takes() {
             continue;
         }
+        let row = rows.row(i);
         write_before_row(out, scan, identifier, count)?;
         write_row(out, scan.result_format, columns, &row)?;
         count = count_with(scan.batch_size, count);
