@@ -6,3 +6,4 @@ mod Batches
 mod EntryTokens
 mod PlaceLemmas
 mod ImageRows
+mod LeftOut

@@ -5,6 +5,7 @@
 
 mod choosing;
 mod columns_written;
+mod counting;
 mod entries_writing;
 mod entry_writing;
 mod identifying;
