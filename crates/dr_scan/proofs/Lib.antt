@@ -5,3 +5,5 @@ mod RowsInTurn
 mod Batches
 mod EntryTokens
 mod PlaceLemmas
+mod ImageRows
+mod LeftOut

@@ -63,7 +63,7 @@ drop-none : (n : ℕ) → drop n (none_of) ≡ none_of
 drop-none zero = refl
 drop-none (suc n) = refl
 
-limited-none : (limit : Option ℕ) → limited limit none_of ≡ none_of
+pub limited-none : (limit : Option ℕ) → limited limit none_of ≡ none_of
 limited-none None = refl
 limited-none (Some zero) = refl
 limited-none (Some (suc n)) = refl

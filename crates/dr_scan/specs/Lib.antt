@@ -1,6 +1,7 @@
 pub mod Identified
 pub mod Identifier
 pub mod Rows
+pub mod Chosen
 pub mod Entries
 pub mod ScanText
 pub mod Window

@@ -3,7 +3,9 @@
 //! they are read, and where rows are ordered their places.
 #![tactic(auto)]
 
+mod choosing;
 mod columns_written;
+mod counting;
 mod entries_writing;
 mod entry_writing;
 mod identifying;

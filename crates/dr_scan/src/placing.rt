@@ -5,8 +5,8 @@ ghost use Rattle.dr_answers.specs.InOrder.{in_order_by};
 ghost use Rattle.dr_ask.specs.Asked.{asked};
 ghost use Rattle.dr_scan.specs.Places.{places_cmp, places_in, places_over};
 
+use crate::choosing::{selection, selects};
 use crate::row_place::RowPlace;
-use crate::selecting::is_selected;
 use dr_ask::{Query, TimeOrder};
 use dr_base::Text;
 use dr_fragment::LyingRows;
@@ -39,12 +39,12 @@ fn add_places(
 ) -> Result<(), AllocError>
     ensures { OnOk result (places.new.items ≡ places.old.items ++ places_in (asked query.now) segment 0 rows.now) }
 {
+    let told = selection(*dims.allocator(), query, rows)?;
     for row in 0..rows.len() {
-        let lying = rows.row(row);
-        if !is_selected(query, &lying, dims)? {
+        if !selects(query, &told, rows, row, dims)? {
             continue;
         }
-        let time = lying.time();
+        let time = rows.row(row).time();
         places.push(RowPlace { time, segment, row })?;
     }
     Ok(())

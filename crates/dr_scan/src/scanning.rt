@@ -25,10 +25,15 @@ use std::alloc::{AllocError, Global};
 /// all segments by their times, which has no identifier. A query that is no scan has no entries. The only error is that memory
 /// ran out.
 ///
-/// It takes time by the rows of the segments, with the filter for each, and by the bytes of the text; an order takes n log n in
-/// the rows that are selected. Rows that aren't written aren't read but for their time and, where there is a filter, their
-/// dimension values. The text grows in one buffer; beside it there is nothing without an order, and with one the place of each
-/// row that is selected.
+/// It takes time by the rows of the segments and by the bytes of the text; where the rows stand in an index, references to them are
+/// sorted, but not where the offset that is left is as large as their number: then those that are selected are counted as they lie.
+/// An order takes n log n in the rows that are selected. Of an image a filter takes time by its tests, each by the rows and by the
+/// dictionary's values; rows that were made are asked one by one. Rows that aren't written aren't read but for their time and,
+/// where they were made and there is a filter, their dimension values.
+///
+/// The text grows in one buffer. Beside it stand, of one segment at a time, of an index where each row lies, and of an image which
+/// rows are selected: a byte for each row and each level of the filter, and nothing where all its times lie in the intervals and
+/// there is no filter. With an order there are the places of all rows that are selected, and where the rows of each index lie.
 pub fn scan(alloc: Global, query: &Query, segments: &[Segment<'_>]) -> Result<Vec<u8>, AllocError>
     ensures { IfOk result (λ text. text.items ≡ scanned (asked query.now) segments.now) }
 {

@@ -1,7 +1,9 @@
-ghost use Rattle.std.specs.Prelude.{◌≡◌, IfOk};
+ghost use Rattle.std.specs.Prelude.{◌≡◌, IfOk, IfSome};
+ghost use Rattle.std.specs.List.Sorted.{IsPermutation};
 
 use dr_base::Text;
-use dr_fragment::{LyingRows, SharedFragment};
+use dr_fragment::{Form, LyingRows, SharedFragment};
+use dr_rollup::Arrived;
 use std::alloc::AllocError;
 use std::marker::Model;
 
@@ -34,5 +36,17 @@ impl<'a> Segment<'a> {
         ensures { IfOk result (λ rows. rows ≡ self.now.rows) }
     {
         self.fragment.ordered()
+    }
+
+    /// The rows in the order in which their keys came, where they stand in an index, of which none is sorted. It takes constant
+    /// time and no memory.
+    pub(crate) fn arrived(&self) -> Option<Arrived<'_>>
+        ensures { IfSome result (λ rows. IsPermutation rows self.now.rows) }
+    {
+        match self.fragment.form() {
+            Form::Index(index) => Some(index.arrived()),
+            Form::Rows(_) => None,
+            Form::Image(_) => None,
+        }
     }
 }

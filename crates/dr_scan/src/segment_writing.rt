@@ -1,4 +1,5 @@
-ghost use Rattle.std.specs.Prelude.{◌≡◌, ◌<◌, Some, length, option_map};
+ghost use Rattle.std.specs.Prelude.{◌≡◌, ◌<◌, ◌≤◌, Some, length, option_map, IfSome};
+ghost use Rattle.std.specs.List.Sorted.{IsPermutation};
 ghost use Rattle.dr_answers.specs.Selection.{selected};
 ghost use Rattle.dr_ask.specs.Asked.{asked};
 ghost use Rattle.dr_scan.specs.Window.{after, given};
@@ -6,14 +7,16 @@ ghost use Rattle.dr_scan.specs.Written.{at_end, before_row, count_with, entry_ba
 ghost use Rattle.dr_writer.specs.Written.{Adds};
 ghost use Rattle.std.specs.Prelude.{OnOk};
 
+use crate::choosing::{selection, selects};
+use crate::counting::leave_out;
 use crate::entry_writing::{begin_entry, end_entry};
 use crate::row_writing::write_row;
 use crate::segment::Segment;
-use crate::selecting::is_selected;
 use crate::window::Window;
 use dr_ask::{Query, Scan, ScanColumn};
 use dr_base::Text;
 use dr_fragment::LyingRows;
+use dr_rollup::Arrived;
 use json::Writer;
 use std::alloc::{AllocError, Global};
 
@@ -31,9 +34,26 @@ pub(crate) fn write_segment(
     ensures tokens { Adds result out.old out.new (segment_tokens scan.now columns.now segment.now.identifier 0 (given window.old (selected (asked query.now) segment.now.rows))) }
     ensures window { OnOk result (window.new ≡ after window.old (length (selected (asked query.now) segment.now.rows))) }
 {
-    let rows = segment.rows()?;
-    let identifier = segment.identifier();
-    write_given(alloc, out, window, query, scan, columns, identifier, &rows)
+    match left_out(*window, segment) {
+        Some(rows) => leave_out(alloc, window, query, &rows),
+        None => {
+            let rows = segment.rows()?;
+            let identifier = segment.identifier();
+            write_given(alloc, out, window, query, scan, columns, identifier, &rows)
+        }
+    }
+}
+
+/// The rows of a segment as their keys came, where they stand in an index and the window leaves out as many.
+fn left_out<'s>(window: Window, segment: &'s Segment<'_>) -> Option<Arrived<'s>>
+    ensures rows { IfSome result (λ rows. IsPermutation rows segment.now.rows) }
+    ensures none { IfSome result (λ rows. length rows ≤ window.skip) }
+{
+    let rows = segment.arrived()?;
+    if rows.len() as u64 > window.skip {
+        return None;
+    }
+    Some(rows)
 }
 
 /// Writes the entries of a segment with this identifier and these rows.
@@ -50,16 +70,17 @@ fn write_given(
     ensures tokens { Adds result out.old out.new (segment_tokens scan.now columns.now identifier.now 0 (given window.old (selected (asked query.now) rows.now))) }
     ensures window { OnOk result (window.new ≡ after window.old (length (selected (asked query.now) rows.now))) }
 {
+    let told = selection(alloc, query, rows)?;
     let mut dims = Vec::new(alloc);
     let mut count = 0;
     for i in 0..rows.len() {
-        let row = rows.row(i);
-        if !is_selected(query, &row, &mut dims)? {
+        if !selects(query, &told, rows, i, &mut dims)? {
             continue;
         }
         if !window.takes() {
             continue;
         }
+        let row = rows.row(i);
         write_before_row(out, scan, identifier, count)?;
         write_row(out, scan.result_format, columns, &row)?;
         count = count_with(scan.batch_size, count);
