@@ -52,7 +52,7 @@ abbrev pub Tells : Result (Schema × Asked) LoadError → List ℕ → Type 0
 Tells (Ok asked) text = TellsRaw asked.0 asked.1 text
 Tells (Err e) text = ⊥
 
--- what is refused before a file is read is the answer, unless memory ran out; where nothing is, no answer tells it
+-- what is refused before a file is read is the answer, unless memory ran out; where nothing is, no refusal is one of these
 abbrev pub RefusesFirst : {X : Type 0} → Result (Schema × Asked) LoadError → Result X LoadError → Type 0
 RefusesFirst (Ok asked) result = IfErr result (λ e. is_of_files e ≡ true)
 RefusesFirst (Err e) result = (result ≡ Err e) ⊎ ((m : LoadError) × (is_memory m ≡ true) × (result ≡ Err m))
