@@ -1,4 +1,5 @@
 pub mod Policy
+pub mod FailureRefusal
 pub mod Refusal
 pub mod Load
 pub mod Totals

@@ -4,9 +4,9 @@ ghost use Rattle.dr_ask.specs.MadeFor.{MadeFor};
 ghost use Rattle.dr_ask.specs.Matching.{is_matching};
 ghost use Rattle.dr_base.specs.Reading.{GivesUnless};
 ghost use Rattle.dr_load.specs.Load.{told, told_of};
-ghost use Rattle.dr_load.specs.Refusal.{is_lack};
+ghost use Rattle.dr_load.specs.FailureRefusal.{is_lack};
 
-use crate::load_error::LoadError;
+use crate::failure::Failure;
 use dr_ask::Query;
 use dr_counts::counts_line;
 use dr_node::Closed;
@@ -23,7 +23,7 @@ pub(crate) fn answered<T: Threads + Wait + Sync>(
     closed: &Closed,
     counts: (u64, u64),
     workers: u8,
-) -> Result<Vec<u8>, LoadError>
+) -> Result<Vec<u8>, Failure>
     requires query { MadeFor closed.now.snapshot.schema (asked query.now) }
     requires matching { is_matching (asked query.now) ≡ true }
     ensures { GivesUnless is_lack (λ text. text.items) result (told_of closed.now.snapshot.schema (asked query.now) closed.now.snapshot.stream counts) }

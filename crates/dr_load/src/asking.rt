@@ -2,7 +2,7 @@ ghost use Rattle.std.specs.Prelude.{◌≡◌};
 ghost use Rattle.dr_ask.specs.Asked.{asked};
 ghost use Rattle.dr_ask.specs.MadeFor.{MadeFor};
 
-use crate::load_error::LoadError;
+use crate::failure::Failure;
 use crate::progress::progress_of;
 use crate::waiting::wait;
 use crate::watch::Watch;
@@ -27,7 +27,7 @@ pub(crate) fn ask<B: Books, T: Wait + Clock, W: Watch>(
     query: &Query,
     stop: &Stop,
     watch: &W,
-) -> Result<(), LoadError>
+) -> Result<(), Failure>
     requires { MadeFor B.schema (asked query.now) }
 {
     let mut answers = 0u64;

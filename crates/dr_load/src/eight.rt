@@ -5,7 +5,7 @@ ghost use Rattle.dr_ask.specs.MadeFor.{MadeFor};
 ghost use Rattle.dr_ask.specs.Matching.{is_matching};
 ghost use Rattle.dr_load.specs.Load.{TellsRaw};
 
-use crate::load_error::LoadError;
+use crate::failure::Failure;
 use crate::node_load::load_into;
 use crate::order::Order;
 use crate::watch::Watch;
@@ -25,7 +25,7 @@ pub(crate) fn on_eight_seats<
     R: Read + Send + Drop,
     Q: Threads + Wait + Clock + Sync,
     N: Watch + Sync,
->(rt: &Q, alloc: Global, order: Order<R>, watch: &N) -> Result<Vec<u8>, LoadError>
+>(rt: &Q, alloc: Global, order: Order<R>, watch: &N) -> Result<Vec<u8>, Failure>
     requires query { MadeFor order.spec (asked (box_value order.query)) }
     requires matching { is_matching (asked (box_value order.query)) ≡ true }
     requires files { length order.files.items ≤ 6 }
@@ -101,7 +101,7 @@ fn of_eight<
     seat_5: (Blank, Blank),
     seat_6: (Blank, Blank),
     seat_7: (Blank, Blank),
-) -> Result<Vec<u8>, LoadError>
+) -> Result<Vec<u8>, Failure>
     requires schema { order.spec ≡ A.schema }
     requires query { MadeFor A.schema (asked (box_value order.query)) }
     requires matching { is_matching (asked (box_value order.query)) ≡ true }
@@ -162,7 +162,7 @@ fn of_pairs<
     second: (U::Blanks, V::Blanks),
     third: (W::Blanks, X::Blanks),
     fourth: (Y::Blanks, Z::Blanks),
-) -> Result<Vec<u8>, LoadError>
+) -> Result<Vec<u8>, Failure>
     requires schema { order.spec ≡ S.schema }
     requires query { MadeFor S.schema (asked (box_value order.query)) }
     requires matching { is_matching (asked (box_value order.query)) ≡ true }
@@ -200,7 +200,7 @@ fn of_four<
     watch: &N,
     first: (S::Blanks, T::Blanks),
     second: (U::Blanks, V::Blanks),
-) -> Result<Vec<u8>, LoadError>
+) -> Result<Vec<u8>, Failure>
     requires schema { order.spec ≡ S.schema }
     requires query { MadeFor S.schema (asked (box_value order.query)) }
     requires matching { is_matching (asked (box_value order.query)) ≡ true }
@@ -226,7 +226,7 @@ fn of_two<
     order: Order<R>,
     watch: &N,
     blanks: (S::Blanks, T::Blanks),
-) -> Result<Vec<u8>, LoadError>
+) -> Result<Vec<u8>, Failure>
     requires schema { order.spec ≡ S.schema }
     requires query { MadeFor S.schema (asked (box_value order.query)) }
     requires matching { is_matching (asked (box_value order.query)) ≡ true }
@@ -245,7 +245,7 @@ fn of_books<B: Books, R: Read + Send + Drop, Q: Threads + Wait + Clock + Sync, N
     order: Order<R>,
     watch: &N,
     blanks: B::Blanks,
-) -> Result<Vec<u8>, LoadError>
+) -> Result<Vec<u8>, Failure>
     requires schema { order.spec ≡ B.schema }
     requires query { MadeFor B.schema (asked (box_value order.query)) }
     requires matching { is_matching (asked (box_value order.query)) ≡ true }

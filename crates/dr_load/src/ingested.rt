@@ -1,4 +1,4 @@
-use crate::load_error::LoadError;
+use crate::failure::Failure;
 use crate::tally::Tally;
 
 /// What became of the lines of one file.
@@ -6,5 +6,5 @@ use crate::tally::Tally;
 pub(crate) struct Ingested {
     pub(crate) tally: Tally,
     /// Why not all lines were read.
-    pub(crate) refusal: Option<LoadError>,
+    pub(crate) refusal: Option<Failure>,
 }

@@ -1,7 +1,7 @@
 ghost use Rattle.std.specs.Prelude.{◌≡◌};
 
+use crate::failure::Failure;
 use crate::ingested::Ingested;
-use crate::load_error::LoadError;
 use crate::tally::Tally;
 use dr_books::Books;
 use dr_events::{EventReader, Unparseable};
@@ -45,7 +45,7 @@ fn ingest_file<B: Books, R: Read, T: Wait>(
     seat: &mut Seat<B>,
     file: &mut Counted<R>,
     tally: &mut Tally,
-) -> Result<(), LoadError>
+) -> Result<(), Failure>
     requires { spec.now ≡ B.schema }
 {
     let mut lines = LineReader::new(alloc)?;
@@ -63,7 +63,7 @@ fn ingest_lines<B: Books, R: Read, T: Wait>(
     lines: &mut LineReader,
     events: &mut EventReader,
     tally: &mut Tally,
-) -> Result<(), LoadError>
+) -> Result<(), Failure>
     requires { events.old ≡ B.schema }
 {
     'lines: loop {
@@ -71,17 +71,19 @@ fn ingest_lines<B: Books, R: Read, T: Wait>(
             NextLine::Line => match events.read(alloc, seat.number(), lines.line()) {
                 Ok(event) => {
                     if node.keeps(&event) {
-                        node.accept(rt, seat, event)?;
+                        if let Err(error) = node.accept(rt, seat, event) {
+                            return Err(Failure::of_node(error));
+                        }
                     } else {
                         tally.thrown_away = tally.thrown_away.saturating_add(1);
                     }
                 }
-                Err(Unparseable::NoMemory) => return Err(LoadError::NoMemory),
+                Err(Unparseable::NoMemory) => return Err(Failure::NoMemory),
                 Err(_) => tally.unparseable = tally.unparseable.saturating_add(1),
             },
             NextLine::TooLong => tally.unparseable = tally.unparseable.saturating_add(1),
             NextLine::End => return Ok(()),
-            NextLine::Failed => return Err(LoadError::ReadFault),
+            NextLine::Failed => return Err(Failure::ReadFault),
         }
     }
 }

@@ -5,6 +5,7 @@
 mod answering;
 mod asking;
 mod eight;
+mod failure;
 mod ingested;
 mod ingesting;
 mod load;
@@ -19,6 +20,7 @@ mod totals;
 mod waiting;
 mod watch;
 
+pub use failure::Failure;
 pub use load::{load_run, load_watched};
 pub use load_error::LoadError;
 pub use progress::Progress;

@@ -28,9 +28,9 @@ use std::time::Clock;
 ///
 /// Refusals, the first in this order: those of the spec and of the query; 97 `NotMatching` where the query doesn't match, a scan
 /// among them; what ended the thread of the first file that wasn't read whole (0, 80 `WorkerNotStarted`, 90 `StreamFull`, 99
-/// `ReadFault`); 94 `HistoryMismatch`; those of the answer. Where a text is answered, it is byte for byte that of the raw answer
-/// over the events that the node kept. It waits for its threads, and takes time by the bytes of the files and memory by their
-/// events.
+/// `ReadFault`); 94 `HistoryMismatch`; those of the answer (0, 80, 81). Where the spec and the query are taken and the query
+/// matches, none of the first three comes. Where a text is answered, it is byte for byte that of the raw answer over the events
+/// that the node kept. It waits for its threads, and takes time by the bytes of the files and memory by their events.
 pub fn load_run<R: Read + Send + Drop, T: Threads + Wait + Clock + Sync + AllocGlobal>(
     rt: &T,
     spec: &[u8],
@@ -71,7 +71,7 @@ pub fn load_watched<
         files,
         workers,
     };
-    on_eight_seats(rt, alloc, order, watch)
+    Ok(on_eight_seats(rt, alloc, order, watch)?)
 }
 
 // The query of a text, which has to match.

@@ -1,14 +1,11 @@
 ghost use Rattle.std.specs.Prelude.{◌≡◌};
 ghost use Rattle.dr_load.specs.declared.load_error.LoadError.TheVariants as error;
-ghost use Rattle.dr_timeline.specs.declared.ask_error.AskError.TheVariants as ask_error;
 ghost use Rattle.dr_load.specs.Refusal.{number_of, name_of, arg_of};
 
-use dr_answers::AnswerError;
+use crate::failure::Failure;
 use dr_ask::QueryError;
 use dr_base::Arg;
-use dr_node::NodeError;
 use dr_spec::SpecError;
-use dr_timeline::AskError;
 use std::alloc::{AllocError, AllocFailed};
 
 /// Why files weren't loaded.
@@ -22,14 +19,8 @@ pub enum LoadError {
     Query(QueryError),
     /// 97: the query doesn't match, a scan among them.
     NotMatching,
-    /// 80: the system started no thread for a file.
-    WorkerNotStarted,
-    /// 99: a read of a file failed, or 2^32 reads were made.
-    ReadFault,
-    /// A refusal of the node: 0, 90, or 94.
-    Node(NodeError),
-    /// A refusal of the last answer: 0, 80 where the system started no thread for a worker, or 81.
-    Answer(AskError),
+    /// Spec and query were taken: 0, 80, 81, 90, 94 or 99.
+    Failed(Failure),
 }
 
 impl LoadError {
@@ -42,10 +33,7 @@ impl LoadError {
             LoadError::Spec(error) => error.number(),
             LoadError::Query(error) => error.number(),
             LoadError::NotMatching => 97,
-            LoadError::WorkerNotStarted => 80,
-            LoadError::ReadFault => 99,
-            LoadError::Node(error) => error.number(),
-            LoadError::Answer(error) => error.number(),
+            LoadError::Failed(error) => error.number(),
         }
     }
 
@@ -58,10 +46,7 @@ impl LoadError {
             LoadError::Spec(error) => error.name(),
             LoadError::Query(error) => error.name(),
             LoadError::NotMatching => "NotMatching",
-            LoadError::WorkerNotStarted => "WorkerNotStarted",
-            LoadError::ReadFault => "ReadFault",
-            LoadError::Node(error) => error.name(),
-            LoadError::Answer(error) => error.name(),
+            LoadError::Failed(error) => error.name(),
         }
     }
 
@@ -93,27 +78,11 @@ impl From<QueryError> for LoadError {
     }
 }
 
-impl From<NodeError> for LoadError {
-    ghost from_gives = { λ e result. result ≡ error.Node e };
+impl From<Failure> for LoadError {
+    ghost from_gives = { λ e result. result ≡ error.Failed e };
 
-    fn from(error: NodeError) -> LoadError {
-        LoadError::Node(error)
-    }
-}
-
-impl From<AskError> for LoadError {
-    ghost from_gives = { λ e result. result ≡ error.Answer e };
-
-    fn from(error: AskError) -> LoadError {
-        LoadError::Answer(error)
-    }
-}
-
-impl From<AnswerError> for LoadError {
-    ghost from_gives = { λ e result. result ≡ error.Answer (ask_error.Answer e) };
-
-    fn from(error: AnswerError) -> LoadError {
-        LoadError::Answer(AskError::Answer(error))
+    fn from(error: Failure) -> LoadError {
+        LoadError::Failed(error)
     }
 }
 

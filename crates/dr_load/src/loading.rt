@@ -3,9 +3,9 @@ ghost use Rattle.dr_ask.specs.Asked.{asked};
 ghost use Rattle.dr_ask.specs.MadeFor.{MadeFor};
 
 use crate::asking::ask;
+use crate::failure::Failure;
 use crate::ingested::Ingested;
 use crate::ingesting::ingest;
-use crate::load_error::LoadError;
 use crate::publish_all::PublishAll;
 use crate::tally::Tally;
 use crate::watch::Watch;
@@ -37,7 +37,7 @@ pub(crate) fn ingest_all<
     query: &Query,
     files: Vec<R>,
     watch: &W,
-) -> Result<Vec<Ingested>, LoadError>
+) -> Result<Vec<Ingested>, Failure>
     requires spec { spec.now ≡ B.schema }
     requires query { MadeFor B.schema (asked query.now) }
     requires seats { length files.items + 2 ≤ length seats.old }
@@ -55,7 +55,7 @@ pub(crate) fn ingest_all<
     thread::scope(
         thread::scope_env(),
         rt,
-        |scope| -> Result<Vec<Ingested>, LoadError>
+        |scope| -> Result<Vec<Ingested>, Failure>
             requires { (spec.now ≡ B.schema) × MadeFor B.schema (asked query.now) }
         {
             let merger = scope.spawn(move || node.merger(rt, merging, policy, stop).is_ok());
@@ -86,7 +86,7 @@ fn ingest_each<'s, E: 's, B: Books + 's, R: Read + Send + Drop + 's, T: Threads 
     seats: &'s mut [Seat<B>],
     spec: &'s IngestSpec,
     files: Vec<R>,
-) -> Result<Vec<Ingested>, LoadError>
+) -> Result<Vec<Ingested>, Failure>
     requires { spec.now ≡ B.schema }
 {
     let mut running = Vec::with_capacity(alloc, files.len())?;
@@ -116,7 +116,7 @@ fn ended<T: Threads>(rt: &T, thread: Option<JoinHandle<Ingested>>) -> Ingested {
                 unparseable: 0,
                 thrown_away: 0,
             },
-            refusal: Some(LoadError::WorkerNotStarted),
+            refusal: Some(Failure::WorkerNotStarted),
         },
     }
 }

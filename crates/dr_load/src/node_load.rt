@@ -5,13 +5,13 @@ ghost use Rattle.dr_ask.specs.Matching.{is_matching};
 ghost use Rattle.dr_load.specs.Load.{TellsRaw};
 
 use crate::answering::answered;
-use crate::load_error::LoadError;
+use crate::failure::Failure;
 use crate::loading::ingest_all;
 use crate::totals::counts_of;
 use crate::watch::Watch;
 use dr_ask::Query;
 use dr_books::Books;
-use dr_node::{Node, Seat};
+use dr_node::{Closed, Node, Seat};
 use dr_spec::IngestSpec;
 use std::alloc::Global;
 use std::io::Read;
@@ -35,7 +35,7 @@ pub(crate) fn load_into<
     files: Vec<R>,
     workers: u8,
     watch: &W,
-) -> Result<Vec<u8>, LoadError>
+) -> Result<Vec<u8>, Failure>
     requires schema { spec.now ≡ B.schema }
     requires query { MadeFor B.schema (asked query.now) }
     requires matching { is_matching (asked query.now) ≡ true }
@@ -53,6 +53,16 @@ pub(crate) fn load_into<
         watch,
     )?;
     let counts = counts_of(told)?;
-    let closed = node.close(seats)?;
+    let closed = close(node, seats)?;
     answered(rt, alloc, query, &closed, counts, workers)
+}
+
+// The node closed with its seats.
+fn close<B: Books>(node: Node<B>, seats: Vec<Seat<B>>) -> Result<Closed, Failure>
+    ensures schema { IfOk result (λ closed. closed.snapshot.schema ≡ B.schema) }
+{
+    match node.close(seats) {
+        Ok(closed) => Ok(closed),
+        Err(error) => Err(Failure::of_node(error)),
+    }
 }

@@ -1,12 +1,12 @@
 ghost use Rattle.std.specs.Prelude.{◌≡◌};
 ghost use Rattle.dr_load.specs.Totals.{counts_of};
 
+use crate::failure::Failure;
 use crate::ingested::Ingested;
-use crate::load_error::LoadError;
 
 /// How many lines of all files were no events and how many events weren't kept, or the refusal that ended the first of the
 /// files that weren't read whole.
-pub(crate) fn counts_of(told: Vec<Ingested>) -> Result<(u64, u64), LoadError>
+pub(crate) fn counts_of(told: Vec<Ingested>) -> Result<(u64, u64), Failure>
     ensures { result ≡ counts_of told.items }
 {
     let mut unparseable = 0u64;

@@ -30,6 +30,21 @@ const EVENTS: [&str; 5] = [
 /// The bits of the events in a choice of seals.
 const BITS: [usize; 5] = [1, 2, 4, 8, 16];
 
+/// Two dimensions and a metric of each kind, rolled up by hour.
+const HOURS: &str =
+    r#"{"dataSchema":{"dataSource":"w","timestampSpec":{"column":"t","format":"iso"},"dimensionsSpec":{"dimensions":["page","lang"]},"metricsSpec":[{"type":"count","name":"n"},{"type":"longSum","name":"added","fieldName":"a"},{"type":"longMin","name":"lo","fieldName":"a"},{"type":"longMax","name":"hi","fieldName":"a"}],"granularitySpec":{"segmentGranularity":"day","queryGranularity":"hour"}}}"#;
+
+/// Two events of one hour and key, one of the next hour.
+const THREE: [&str; 3] = [
+    r#"{"t":"2024-01-01T00:10:00Z","page":"A","lang":"en","a":5}"#,
+    r#"{"t":"2024-01-01T00:50:00Z","page":"A","lang":"en","a":7}"#,
+    r#"{"t":"2024-01-01T01:30:00Z","page":"B","lang":"en","a":-2}"#,
+];
+
+/// Sums and the number of rows, hour by hour.
+const BY_HOUR: &str =
+    r#"{"queryType":"timeseries","dataSource":"w","intervals":["2024-01-01/2024-01-02"],"granularity":"hour","aggregations":[{"type":"longSum","name":"added","fieldName":"added"},{"type":"longSum","name":"n","fieldName":"n"},{"type":"count","name":"cnt"}]}"#;
+
 /// The sum of the added, whatever the rows.
 const ADDED: &str =
     r#"{"queryType":"timeseries","dataSource":"w","intervals":["2024-01-01/2024-01-02"],"granularity":"all","aggregations":[{"type":"longSum","name":"added","fieldName":"added"}]}"#;
@@ -63,7 +78,11 @@ impl Model for Steps {
 
 impl Steps {
     fn new(alloc: Global) -> Result<Steps, Fail> {
-        let spec = IngestSpec::parse(alloc, SPEC.as_bytes())?;
+        Steps::over(alloc, SPEC)
+    }
+
+    fn over(alloc: Global, spec: &str) -> Result<Steps, Fail> {
+        let spec = IngestSpec::parse(alloc, spec.as_bytes())?;
         Ok(Steps {
             spec,
             list: Vec::new(alloc),
@@ -113,13 +132,21 @@ impl Steps {
         Ok(run_core_one(alloc, self.spec, self.list.as_slice())?)
     }
 
-    /// The replies where queries are answered by three workers.
-    fn run_by_workers<R: Threads + Wait + Sync>(
+    /// The replies where queries are answered by so many workers.
+    fn run_by<R: Threads + Wait + Sync>(
         self,
         rt: &R,
         alloc: Global,
+        workers: usize,
     ) -> Result<Vec<Reply>, Fail> {
-        Ok(run_core(rt, alloc, self.spec, self.list.as_slice(), 3, &OpenGate)?)
+        Ok(run_core(
+            rt,
+            alloc,
+            self.spec,
+            self.list.as_slice(),
+            workers,
+            &OpenGate,
+        )?)
     }
 }
 
@@ -266,7 +293,7 @@ fn replies_over_two<R: Threads + Wait + Sync>(
     let mut steps = Steps::new(alloc)?;
     two_ranges(alloc, &mut steps)?;
     let replies = if by_workers {
-        steps.run_by_workers(rt, alloc)?
+        steps.run_by(rt, alloc, 3)?
     } else {
         steps.run(alloc)?
     };
@@ -284,12 +311,50 @@ fn workers_reply_as_one_thread_does(rt: HostRuntime) -> Result<(), Fail> {
     Ok(())
 }
 
+/// A range that is sealed behind the first event, and an open one, asked hour by hour.
+fn hours(alloc: Global) -> Result<Steps, Fail> {
+    let mut steps = Steps::over(alloc, HOURS)?;
+    steps.accept(alloc, THREE[0])?;
+    steps.seal()?;
+    steps.accept(alloc, THREE[1])?;
+    steps.accept(alloc, THREE[2])?;
+    steps.pin()?;
+    steps.ask(alloc, 0, BY_HOUR)?;
+    Ok(steps)
+}
+
+/// The replies hour by hour, by one thread or by two workers.
+fn replies_by_hour<R: Threads + Wait + Sync>(
+    rt: &R,
+    alloc: Global,
+    by_workers: bool,
+) -> Result<String, Fail> {
+    let steps = hours(alloc)?;
+    let replies = if by_workers {
+        steps.run_by(rt, alloc, 2)?
+    } else {
+        steps.run(alloc)?
+    };
+    replies_of(alloc, &replies)
+}
+
+#[test]
+fn replies_hour_by_hour(rt: HostRuntime) -> Result<(), Fail> {
+    let wanted =
+        r#"a0; sealed; a1; a2; pin 0; [{"result":{"added":12,"cnt":2,"n":2},"timestamp":"2024-01-01T00:00:00.000Z"},{"result":{"added":-2,"cnt":1,"n":1},"timestamp":"2024-01-01T01:00:00.000Z"}]; "#;
+    let told = replies_by_hour(&rt, rt.alloc(), false)?;
+    assert_eq!(rt; told.as_str(), wanted);
+    let told = replies_by_hour(&rt, rt.alloc(), true)?;
+    assert_eq!(rt; told.as_str(), wanted);
+    Ok(())
+}
+
 /// Refusals, scans and audits by workers.
 fn replies_by_workers<R: Threads + Wait + Sync>(rt: &R, alloc: Global) -> Result<String, Fail> {
     let mut steps = Steps::new(alloc)?;
     merge_before_two_pins(alloc, &mut steps)?;
     asks_and_refusals(alloc, &mut steps)?;
-    replies_of(alloc, &steps.run_by_workers(rt, alloc)?)
+    replies_of(alloc, &steps.run_by(rt, alloc, 3)?)
 }
 
 #[test]

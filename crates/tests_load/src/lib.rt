@@ -4,8 +4,12 @@
 #[cfg(test)]
 mod bell;
 #[cfg(test)]
+mod ending;
+#[cfg(test)]
 mod loads;
 #[cfg(test)]
 mod meeting;
+#[cfg(test)]
+mod publications;
 #[cfg(test)]
 mod signals;

@@ -1,5 +1,7 @@
 use crate::bell::Bell;
+use crate::ending::Ending;
 use crate::meeting::Meeting;
+use crate::publications::Publications;
 use crate::signals::Signals;
 use dr_load::{load_run, load_watched};
 use std::sync::atomic::AtomicBool;
@@ -7,6 +9,10 @@ use std::test::Fail;
 
 const SPEC: &[u8] =
     br#"{"dataSchema":{"dataSource":"w","timestampSpec":{"column":"t","format":"iso"},"dimensionsSpec":{"dimensions":["page"]},"metricsSpec":[{"type":"count","name":"cnt"},{"type":"longSum","name":"added","fieldName":"added"}],"granularitySpec":{"segmentGranularity":"day","queryGranularity":"hour"}}}"#;
+
+/// The same, with a range for each event.
+const SINGLE: &[u8] =
+    br#"{"dataSchema":{"dataSource":"w","timestampSpec":{"column":"t","format":"iso"},"dimensionsSpec":{"dimensions":["page"]},"metricsSpec":[{"type":"count","name":"cnt"},{"type":"longSum","name":"added","fieldName":"added"}],"granularitySpec":{"segmentGranularity":"day","queryGranularity":"hour"}},"tuningConfig":{"maxRowsInMemory":1}}"#;
 
 const QUERY: &[u8] =
     br#"{"queryType":"timeseries","dataSource":"w","intervals":["2024-01-01/2024-01-02"],"granularity":"all","aggregations":[{"type":"longSum","name":"added","fieldName":"added"}]}"#;
@@ -45,6 +51,22 @@ fn a_file_that_waits_for_an_answer_is_loaded(rt: HostRuntime) -> Result<(), Fail
         panic!(rt; "no answer");
     };
     assert!(rt; text.as_slice() == TOLD);
+    Ok(())
+}
+
+/// Two events of one chunk, each sealed at once.
+#[test]
+fn a_file_that_waits_for_a_publication_is_loaded(rt: HostRuntime) -> Result<(), Fail> {
+    let published = AtomicBool::new(false);
+    let mut files = Vec::with_capacity(rt.alloc(), 1)?;
+    files.push(Ending::new(FIRST, &published))?;
+    let watch = Publications { seen: &published };
+    let Ok(text) = load_watched(&rt, SINGLE, QUERY, files, 1, &watch) else {
+        panic!(rt; "no answer");
+    };
+    let wanted =
+        b"processed 2 unparseable 0 thrownAway 0\n[{\"result\":{\"added\":12},\"timestamp\":\"2024-01-01T00:00:00.000Z\"}]\n";
+    assert!(rt; text.as_slice() == wanted.as_slice());
     Ok(())
 }
 

@@ -42,8 +42,8 @@ impl Read for Meeting<'_> {
     }
 }
 
-// Waits until a flag is set, for so many turns at most, and tells whether it was.
-fn wait_for(flag: &AtomicBool) -> bool {
+/// Waits until a flag is set, for so many turns at most, and tells whether it was.
+pub fn wait_for(flag: &AtomicBool) -> bool {
     for _ in 0..1_000_000u32 {
         if flag.load(Ordering::SeqCst) {
             return true;

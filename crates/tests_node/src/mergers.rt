@@ -26,12 +26,14 @@ enum Beside {
     Publishes,
 }
 
-/// What a merger told, whether the policy was held for all turns, and how many ranges a last pin has sealed.
+/// What a merger told, whether the policy was held for all turns, how many ranges a last pin has sealed, and the version of the
+/// first.
 #[derive(Drop)]
 struct Seen {
     report: MergerReport,
     late: bool,
     sealed: usize,
+    version: u64,
 }
 
 fn sealed_in(ranges: &[RangeInfo]) -> usize {
@@ -42,6 +44,11 @@ fn sealed_in(ranges: &[RangeInfo]) -> usize {
         }
     }
     count
+}
+
+fn first_version(ranges: &[RangeInfo]) -> Option<u64> {
+    let range = ranges.first()?;
+    Some(range.version)
 }
 
 /// Seals a range with one event, and another one.
@@ -113,7 +120,7 @@ fn at_once<B: Books, R: Threads + Wait + Sync>(
     report.zip(second)
 }
 
-/// What a merger tells that merges two ranges while another thread uses the node.
+/// What a merger tells that merges or publishes two ranges while another thread uses the node.
 fn merged<
     A: NodeLedger + Send + Sync,
     B: Ledger + Send + Sync,
@@ -126,6 +133,7 @@ fn merged<
     spec: IngestSpec,
     blanks: ((Blank, Blank), (Blank, Blank)),
     while_asked: bool,
+    purpose: Purpose,
     beside: Beside,
 ) -> Option<Seen>
     requires schema { spec ≡ A.schema }
@@ -136,7 +144,7 @@ fn merged<
 {
     let copy = copy_of(&spec)?;
     let (node, seats) = Node::<Two<A, B, C, D>>::new(alloc, spec, blanks).ok()?;
-    merged_by(rt, alloc, &node, &copy, seats, while_asked, beside)
+    merged_by(rt, alloc, &node, &copy, seats, while_asked, purpose, beside)
 }
 
 /// The same on a node that was made.
@@ -147,19 +155,21 @@ fn merged_by<B: Books, R: Threads + Wait + Sync>(
     spec: &IngestSpec,
     seats: Vec<Seat<B>>,
     while_asked: bool,
+    purpose: Purpose,
     beside: Beside,
 ) -> Option<Seen>
     requires { spec.now ≡ B.schema }
 {
     let (first, mut second) = pair_of(seats)?;
     two_ranges(rt, alloc, node, spec, &mut second)?;
-    let policy = Once::new(while_asked);
+    let policy = Once::new(while_asked, purpose);
     let (report, mut seat) = at_once(rt, alloc, node, spec, &policy, beside, first, second)?;
     let snapshot = node.pin(rt, &mut seat).ok()?;
     Some(Seen {
         report,
         late: policy.late.load(Ordering::SeqCst),
         sealed: sealed_in(snapshot.ranges()),
+        version: first_version(snapshot.ranges())?,
     })
 }
 
@@ -167,35 +177,45 @@ fn told<R: Threads + Wait + Sync>(
     rt: &R,
     alloc: Global,
     while_asked: bool,
+    purpose: Purpose,
     beside: Beside,
 ) -> Option<Seen> {
     let spec = new_spec(alloc)?;
-    merged::<Brand, Brand, Brand, Brand, R>(rt, alloc, spec, blanks(), while_asked, beside)
+    merged::<Brand, Brand, Brand, Brand, R>(rt, alloc, spec, blanks(), while_asked, purpose, beside)
 }
 
 #[test]
 fn an_event_is_accepted_while_the_policy_is_asked(rt: HostRuntime) {
-    let Some(told) = told(&rt, rt.alloc(), true, Beside::Accepts) else {
+    let Some(told) = told(&rt, rt.alloc(), true, Purpose::Merge, Beside::Accepts) else {
         panic!(rt; "no answer");
     };
     assert!(rt; !told.late);
     assert!(rt; told.report.commits == 1 && told.report.stale == 0);
-    assert!(rt; told.sealed == 1);
+    assert!(rt; told.sealed == 1 && told.version == 0);
 }
 
 #[test]
 fn an_event_is_accepted_while_a_job_is_planned(rt: HostRuntime) {
-    let Some(told) = told(&rt, rt.alloc(), false, Beside::Accepts) else {
+    let Some(told) = told(&rt, rt.alloc(), false, Purpose::Merge, Beside::Accepts) else {
         panic!(rt; "no answer");
     };
     assert!(rt; !told.late);
     assert!(rt; told.report.commits == 1 && told.report.stale == 0);
-    assert!(rt; told.sealed == 1);
+    assert!(rt; told.sealed == 1 && told.version == 0);
+}
+
+#[test]
+fn what_a_policy_publishes_has_a_version(rt: HostRuntime) {
+    let Some(told) = told(&rt, rt.alloc(), true, Purpose::Publish, Beside::Accepts) else {
+        panic!(rt; "no answer");
+    };
+    assert!(rt; told.report.commits == 1 && told.report.stale == 0);
+    assert!(rt; told.sealed == 1 && told.version == 1);
 }
 
 #[test]
 fn a_job_is_stale_once_another_thread_published_its_range(rt: HostRuntime) {
-    let Some(told) = told(&rt, rt.alloc(), false, Beside::Publishes) else {
+    let Some(told) = told(&rt, rt.alloc(), false, Purpose::Merge, Beside::Publishes) else {
         panic!(rt; "no answer");
     };
     assert!(rt; !told.late);

@@ -15,13 +15,14 @@ pub fn wait_for(flag: &AtomicBool) -> bool {
     false
 }
 
-/// A policy that names the first two ranges once, and stops its merger at its next turn. It is held until another thread has
+/// A policy that names the first two ranges once, to be merged or published, and stops its merger at its next turn. It is held until another thread has
 /// answered, while it is asked or once the job is planned.
 #[derive(Drop)]
 pub struct Once {
     /// What its merger is stopped by.
     pub stop: Stop,
     while_asked: bool,
+    purpose: Purpose,
     asked: AtomicBool,
     /// Whether it is held, or was.
     pub entered: AtomicBool,
@@ -32,10 +33,11 @@ pub struct Once {
 }
 
 impl Once {
-    pub fn new(while_asked: bool) -> Once {
+    pub fn new(while_asked: bool, purpose: Purpose) -> Once {
         Once {
             stop: Stop::new(),
             while_asked,
+            purpose,
             asked: AtomicBool::new(false),
             entered: AtomicBool::new(false),
             answered: AtomicBool::new(false),
@@ -59,7 +61,7 @@ impl Policy for Once {
         if self.while_asked {
             self.hold();
         }
-        Some((DAY, 0, 2, Purpose::Merge))
+        Some((DAY, 0, 2, self.purpose))
     }
 
     fn planned(&self) {

@@ -1,5 +1,5 @@
 use crate::answers::pinned;
-use crate::both_entered::BothEntered;
+use crate::entries::Entries;
 use std::alloc::Global;
 use std::sync::Wait;
 use std::test::Fail;
@@ -19,7 +19,7 @@ const SUMS: &str =
 fn sums_by_two<R: Threads + Wait + Sync>(
     rt: &R,
     alloc: Global,
-    gate: &BothEntered,
+    gate: &Entries,
 ) -> Result<Vec<u8>, Fail> {
     let (snapshot, query) = pinned(alloc, &EVENTS, 1, SUMS)?;
     Ok(snapshot.answer(rt, &query, 2, gate)?)
@@ -27,7 +27,7 @@ fn sums_by_two<R: Threads + Wait + Sync>(
 
 #[test]
 fn two_workers_answer_at_once(rt: HostRuntime) -> Result<(), Fail> {
-    let gate = BothEntered::new();
+    let gate = Entries::new(rt.alloc(), 2, 2)?;
     let text = sums_by_two(&rt, rt.alloc(), &gate)?;
     let wanted =
         br#"[{"result":{"added":12,"n":2},"timestamp":"2024-01-01T00:00:00.000Z"},{"result":{"added":-2,"n":1},"timestamp":"2024-01-01T01:00:00.000Z"}]"#;

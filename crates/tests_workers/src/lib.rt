@@ -5,7 +5,7 @@
 #[cfg(test)]
 mod answers;
 #[cfg(test)]
-mod both_entered;
+mod entries;
 #[cfg(test)]
 mod gated;
 #[cfg(test)]

@@ -1,4 +1,4 @@
-use crate::both_entered::BothEntered;
+use crate::entries::Entries;
 use crate::queries::query_of;
 use crate::ranges::Ranges;
 use dr_ask::Query;
@@ -95,11 +95,30 @@ fn each_range_alone_has_its_groups(rt: HostRuntime) -> Result<(), Fail> {
     Ok(())
 }
 
+/// Whether so many workers, each of whom is held until so many entries were made, enter each of so many ranges once.
+fn is_passed_by<R: Threads + Wait + Sync>(
+    rt: &R,
+    alloc: Global,
+    count: u32,
+    workers: usize,
+    awaited: usize,
+) -> Result<bool, Fail> {
+    let gate = Entries::new(alloc, count as usize, awaited)?;
+    groups_by(rt, alloc, count, workers, &gate)?;
+    Ok(gate.is_passed())
+}
+
 #[test]
-fn two_workers_run_at_once(rt: HostRuntime) -> Result<(), Fail> {
-    let gate = BothEntered::new();
-    let groups = groups_by(&rt, rt.alloc(), 2, 2, &gate)?;
-    assert!(rt; groups.len() == 2);
-    assert!(rt; gate.is_passed());
+fn as_many_workers_as_ranges_run_at_once(rt: HostRuntime) -> Result<(), Fail> {
+    for count in [2u32, 3, 16] {
+        let workers = count as usize;
+        assert!(rt; is_passed_by(&rt, rt.alloc(), count, workers, workers)?);
+    }
+    Ok(())
+}
+
+#[test]
+fn each_range_of_a_share_is_entered_once(rt: HostRuntime) -> Result<(), Fail> {
+    assert!(rt; is_passed_by(&rt, rt.alloc(), 5, 2, 0)?);
     Ok(())
 }
