@@ -14,7 +14,7 @@ use dr_filter::Filter;
 use dr_having::Having;
 
 /// Whether a query selects the rows of a key: its time, which is truncated, lies in one of the query's intervals, and the key
-/// passes the query's filter. It takes no memory, and time by the intervals and the tests of the filter.
+/// passes the query's filter. It takes no memory, and time logarithmic in the number of the intervals and by the tests of the filter.
 pub fn selects(query: &Query, key: &Key) -> bool
     ensures { result ≡ selects_of (asked query.now) key.now }
 {
@@ -32,7 +32,7 @@ fn passes(filter: &Option<Filter>, key: &Key) -> bool
 
 /// The start of the bucket of a query in which a time from 0001-01-01 to 9999-12-31 lies, in milliseconds since
 /// 1970-01-01T00:00:00Z. With granularity `all` it is the start of the union of the intervals, none where that is empty. It
-/// takes constant time, and with `all` time by the intervals.
+/// takes constant time and no memory.
 pub fn bucket_of(query: &Query, time: i64) -> Option<i64>
     requires { IsInstant time }
     ensures { result ≡ gran.bucket query.now.granularity query.now.intervals time }

@@ -1,3 +1,4 @@
+-- What is of the first of two books, or of the second.
 use Rattle.std.specs.Prelude.{◌≡◌, ℕ, List, ◌++◌, ◌+◌, length}
 use Rattle.std.proofs.Common.{arith, length-append}
 use Rattle.dr_books.specs.declared.side.Side.{Side}

@@ -1,4 +1,4 @@
--- What a timeline keeps of its chunks: the rows of each range. No public contract cites this file.
+-- What a timeline keeps of its chunks: the rows of each range. The public calls of this crate are stated by it, and no contract above it.
 use Rattle.std.specs.Prelude.{◌≡◌, ℕ, ℤ, ◌+◌, ◌-◌, ◌<◌, Bool, nat_le, nat_lt, true, false, Option, Some, None, List, [], ◌∷◌, ◌++◌, length, map, take, drop, if◌then◌else◌}
 use Rattle.std.specs.List.{AllByRecursion}
 use Rattle.std.specs.Ordering.{int_cmp, match_ordering}

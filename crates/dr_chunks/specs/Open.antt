@@ -1,4 +1,4 @@
--- An open range, and what it keeps. No public contract cites this file.
+-- An open range, and what it keeps. The public calls of this crate are stated by it, and no contract above it.
 use Rattle.std.specs.Prelude.{◌≡◌, ◌<◌, List, [], Option, Some, None, length}
 use Rattle.dr_base.specs.declared.row.Row.{Row}
 use Rattle.dr_schema.specs.declared.schema.Schema.{Schema}

@@ -31,7 +31,7 @@ pub enum CliError {
 }
 
 impl CliError {
-    /// The number of the refusal.
+    /// The number of the refusal: 50 to 58, 96, 101, 103, or one of a load.
     pub fn number(&self) -> u16
         ensures { result ≡ number_of self.now }
     {

@@ -1,4 +1,4 @@
-//! The program `druid-node`: its command line and its streams.
+//! The program `druid-node`: its arguments, files and streams. What it is asked for is done by `dr_script`, `dr_load` and `dr_dump`.
 #![tactic(auto)]
 
 ghost use Rattle.std.specs.Prelude.{◌≡◌, ◌≤◌, IfOk, length};

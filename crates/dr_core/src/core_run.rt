@@ -28,6 +28,8 @@ use std::alloc::{AllocError, Global};
 ///
 /// Whatever the steps seal, merge and publish, and however late, often or in whatever order jobs are committed: each answer to a
 /// matching query on a snapshot is, byte for byte, the answer over the raw events that were accepted before its pin.
+///
+/// It takes what its steps take one after the other, and memory for a reply to each and for a copy of each accepted event.
 pub fn run_core_one(
     alloc: Global,
     spec: IngestSpec,

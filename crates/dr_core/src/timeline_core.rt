@@ -77,7 +77,7 @@ impl Core {
     }
 
     /// Seals the open range of a chunk, which is named by its start in milliseconds since the epoch. An error leaves the core
-    /// as it was. Refusals: 91 `NothingToSeal` where that range has no event.
+    /// as it was. Refusals: 91 `NothingToSeal` where that range has no event. What it costs, [`Timeline::seal`] says.
     pub fn seal(&mut self, chunk: i64) -> Result<(), CoreError>
         ensures step { GivesUnless is_memory (λ _. self.new) result (step.seal chunk self.old) }
         ensures err { OnErr result (self.new ≡ self.old) }

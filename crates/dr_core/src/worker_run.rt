@@ -27,7 +27,7 @@ use std::thread::Threads;
 ///
 /// Whatever the steps seal, merge and publish, and however late, often or in whatever order jobs are committed, and whatever the number of
 /// workers and the gate: each answer to a matching query on a snapshot is, byte for byte, the answer over the raw events
-/// that were accepted before its pin.
+/// that were accepted before its pin. Its cost is that of `run_core_one`, with that of [`ask_by`] for each query.
 pub fn run_core<R: Threads + Wait + Sync, G: Gate + Sync>(
     rt: &R,
     alloc: Global,

@@ -1,4 +1,4 @@
--- The tokens of JSON that are written for a row.
+-- The tokens of JSON that are written for a row. No public contract cites this file.
 use Rattle.std.specs.Prelude.{◌≡◌, List, ◌++◌, Result, OnOk}
 use Rattle.std.specs.List.{flat_map}
 use Rattle.json.specs.Token.{Token}

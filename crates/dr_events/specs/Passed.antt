@@ -1,4 +1,5 @@
--- What a text is by its tokens: whether an object begins, its members, and what follows a value that was passed over.
+-- What a text is by its tokens: whether an object begins, its members, and what follows a value that was passed over. No public
+-- contract cites this file.
 use Rattle.std.specs.Prelude.{◌≡◌, ℕ, List, [], ◌∷◌, length, Bool, true, false, Option, Some, None, option_map, Result}
 use Rattle.json.specs.Token.{Token}
 use Rattle.json.specs.Json.{members, value}

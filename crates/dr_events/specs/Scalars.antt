@@ -1,4 +1,4 @@
--- What columns tell of the values of a JSON object.
+-- What columns tell of the values of a JSON object. No public contract cites this file.
 use Rattle.std.specs.Prelude.{◌≡◌, ◌++◌, ℕ, ℤ, ⊤, List, Option, Some, None, option_map, slice_get, Result, Ok}
 use Rattle.std.specs.List.{AllZip}
 use Rattle.serde_json.specs.Data.{Num, unsigned, negative, float, Data, null, boolean, number, string, array, object, no_items, Members}

@@ -20,7 +20,8 @@ use std::alloc::Global;
 /// The event that a line spells, with that seat's mark: its time in milliseconds since the epoch, a text for each dimension
 /// and a number for each metric, in the order of the spec. The first refusal of these, in this order, is answered:
 /// 30 `NotAnObject` (no JSON either), 31 `NoTimestamp`, 32 `BadTimestamp`, 33 `BadDimension` and 34 `BadMetric`, both with
-/// the place of the first bad one in the spec, from 0.
+/// the place of the first bad one in the spec, from 0; 0 `NoMemory` may come in the place of any. A reader is made for this line
+/// alone: it takes time by the columns of the spec and the bytes of the line, and memory by the columns.
 pub fn read_event(
     alloc: Global,
     spec: &IngestSpec,

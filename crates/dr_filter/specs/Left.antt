@@ -1,4 +1,4 @@
--- What is left of a pattern and a text behind a piece of the pattern.
+-- What is left of a pattern and a text behind a piece of the pattern. No public contract cites this file.
 use Rattle.std.specs.Prelude.{◌≡◌, ℕ, ◌<◌, true, false, List, ◌++◌, length}
 use Rattle.std.specs.Str.{chars}
 use Rattle.dr_filter.specs.declared.walked.Walked.{Walked}

@@ -1,4 +1,4 @@
--- Characters that a text lacks.
+-- Characters that a text lacks. No public contract cites this file.
 use Rattle.std.specs.Prelude.{ℕ, ◌==◌, List}
 use Rattle.std.specs.Str.{NonePass}
 

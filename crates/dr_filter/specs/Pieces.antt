@@ -1,4 +1,4 @@
--- Where a text is searched for a piece of a pattern, which stands between two runs.
+-- Where a text is searched for a piece of a pattern, which stands between two runs. No public contract cites this file.
 use Rattle.std.specs.Prelude.{◌≡◌, ℕ, false, List, ◌∷◌, ◌++◌}
 use Rattle.dr_filter.specs.Like.{fits, behind_some_run}
 

@@ -1,5 +1,5 @@
-//! From the partial result of a query to the groups that it gives: buckets filled, groups kept that a `having` keeps, put in
-//! order, without the first ones and at most so many.
+//! From the partial result of a query to the groups that it gives. Buckets are filled, groups kept that a `having` keeps, put in
+//! order, the first ones left out, and at most so many given.
 #![tactic(auto)]
 
 mod bound;

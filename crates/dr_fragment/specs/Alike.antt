@@ -1,4 +1,4 @@
--- Rows of the same keys in two orders.
+-- Rows of the same keys in two orders. No public contract cites this file.
 use Rattle.std.specs.Prelude.{◌≡◌, List}
 use Rattle.dr_base.specs.declared.key.Key.{Key}
 use Rattle.dr_base.specs.declared.row.Row.{Row}

@@ -57,7 +57,7 @@ impl Fragment {
     }
 
     /// A fragment of the bytes of an image, which it keeps, and nothing else: it takes no memory. Refusals: 50 to 58, the
-    /// first check that fails, as `SegmentView::open` says; every other bytes are the image of a range.
+    /// first check that fails, as `SegmentView::open` says; every other bytes are the image of a range. It reads each byte a few times.
     pub fn of_image(bytes: Vec<u8>) -> Result<Fragment, ImageError>
         ensures { result ≡ range_opened bytes.items }
     {

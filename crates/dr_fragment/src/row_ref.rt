@@ -133,7 +133,7 @@ impl<'a> RowRef<'a> {
         }
     }
 
-    /// The metrics in memory of their own. The only error is that memory ran out.
+    /// The metrics in memory of their own. The only error is that memory ran out. It takes time and memory by the metrics.
     pub fn metrics(&self, alloc: Global) -> Result<Numbers, AllocError>
         ensures { IfOk result (λ metrics. metrics ≡ self.now.metrics) }
     {
@@ -168,7 +168,8 @@ impl<'a> RowRef<'a> {
         }
     }
 
-    /// Whether the other row has the same key and the same metrics.
+    /// Whether the other row has the same key and the same metrics. It takes no memory, and time by the columns and the bytes of the
+    /// dimension values.
     pub fn equals(&self, other: &RowRef) -> bool
         ensures { IsTrue result ↔ (self.now ≡ other.now) }
     {

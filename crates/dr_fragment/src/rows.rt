@@ -38,7 +38,7 @@ impl Rows {
         self.0.len()
     }
 
-    /// Whether the other rows are the same, in the same order.
+    /// Whether the other rows are the same, in the same order. It takes no memory, and time by the rows up to the first that differs.
     pub fn equals(&self, other: &Rows) -> bool
         ensures { IsTrue result ↔ (self.now ≡ other.now) }
     {

@@ -45,7 +45,8 @@ impl SharedIndex {
 
     /// Adds an event to the index of this share alone. Where there are other shares, the index is copied first, and they
     /// keep what they have. An error leaves the rows as they were. Refusals: 41 `IndexFull` exactly where a new row would be
-    /// one more than there may be, unless memory runs out first.
+    /// one more than there may be, unless memory runs out first, which is 0 `NoMemory`. It takes what [`OpenIndex::add`] takes, and
+    /// where there are other shares what [`OpenIndex::copy`] takes besides: time and memory by the rows.
     pub fn add(&mut self, alloc: Global, event: &Event) -> Result<(), RollupError>
         requires { FitsSchema self.old.schema event.now }
         ensures ok { OnOk result (self.new ≡ with_rows self.old (rows_with self.old event.now)) }

@@ -38,7 +38,8 @@ impl Gran {
     /// whose other keys are passed over where they hold null, false, an empty list or an empty object.
     ///
     /// Refusals: 22 `UnsupportedGranularity` with the text as it was written, or with that of `type`, or with
-    /// `granularity` where there is neither.
+    /// `granularity` where there is neither. It takes time by the bytes of the name and by the keys of the object, and memory for a
+    /// name that is refused alone.
     pub fn parse(alloc: Global, value: &Value) -> Result<Gran, GranError>
         ensures { Gives (λ g. g) result (gran_of (view value.now)) }
     {

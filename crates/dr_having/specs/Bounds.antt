@@ -1,4 +1,4 @@
--- What many comparisons of the value of one aggregation say together, all of them or one of them.
+-- What many comparisons of the value of one aggregation say together, all of them or one of them. No public contract cites this file.
 use Rattle.std.specs.Prelude.{ℤ, Bool, true, false, not, ◌||◌, ◌&&◌, Option, Some, None, int_lt}
 use Rattle.std.specs.List.{list_any}
 use Rattle.std.specs.Int.{int_min, int_max}

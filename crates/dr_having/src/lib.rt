@@ -1,5 +1,5 @@
-//! Conditions on the groups of a groupBy, as `having` asks for them: read from JSON over the outputs of a query, and asked of
-//! a group.
+//! Conditions on the groups of a groupBy, as `having` asks for them, read from JSON over the outputs of a query. Each is asked
+//! of a group, and many comparisons of one aggregation at once.
 #![tactic(auto)]
 
 mod arranging;

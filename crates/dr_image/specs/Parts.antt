@@ -1,4 +1,4 @@
--- What a contract sees of a dimension whose bytes are borrowed.
+-- What a contract sees of a dimension whose bytes are borrowed. No public contract cites this file.
 use Rattle.std.specs.Prelude.{◌≡◌, ℕ, [], length, map, Result, Ok, Err}
 use Rattle.dr_image.specs.declared.part.Part as borrowed
 use Rattle.dr_image.specs.Words.{word}

@@ -1,4 +1,4 @@
--- Where the dimensions of an image begin.
+-- Where the dimensions of an image begin. No public contract cites this file.
 use Rattle.std.specs.Prelude.{◌≡◌, true, ℕ, ◌+◌, ◌<◌, ◌≤◌, List, length, drop, get_or}
 use Rattle.dr_image.specs.declared.header.Header.{Header}
 use Rattle.dr_image.specs.Layout.{behind, part_size, dims_at}

@@ -55,7 +55,8 @@ impl<'a> SegmentView<'a> {
     }
 
     /// A view of bytes that are known to be an image of at most 1073741824 bytes, as those that were just written: what `open`
-    /// gives. It reads the numbers in front and the two at the front of each dimension, and no other byte.
+    /// gives. It reads the numbers in front and the two at the front of each dimension, and no other byte: it takes time by the
+    /// dimensions, and no memory.
     pub fn of_image(bytes: &'a [u8]) -> SegmentView<'a>
         requires { IsImage bytes.now }
         ensures value { open_of bytes.now ≡ Ok result }

@@ -39,7 +39,7 @@ pub fn intervals(alloc: Global, value: &Value) -> Result<Union, IntervalsError>
 }
 
 /// The least start of the intervals that aren't empty, in milliseconds since the epoch, of a union of such intervals. It can
-/// be printed. It takes time by the number of the intervals.
+/// be printed. It takes constant time and no memory.
 #[tactic(auto, using(crate::proofs::PrintableIntervals::printable_starts))]
 pub fn start(union: &Union) -> Option<i64>
     requires { All StartsPrintable union.now }

@@ -1,4 +1,4 @@
--- A line that comes in parts.
+-- A line that comes in parts. No public contract cites this file.
 use Rattle.std.specs.Prelude.{◌≡◌, ◌≢◌, ℕ, ◌+◌, ◌-◌, ◌<◌, ◌≤◌, get_or, Bool, not, ◌&&◌, ◌==◌, if◌then◌else◌, Result, MatchResult, List, [], ◌∷◌, ◌++◌, length, take, drop, MatchBool}
 use Rattle.dr_lines.specs.Lines.{Reading, IsInLine, longest_line, CountsFailure}
 use Rattle.dr_lines.specs.declared.next_line.NextLine.{NextLine}

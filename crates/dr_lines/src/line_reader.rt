@@ -56,7 +56,8 @@ impl Model for LineReader {
 }
 
 impl LineReader {
-    /// A reader of lines that has read nothing.
+    /// A reader of lines that has read nothing. It takes memory for its buffer and for the longest line, some 1.1 MB. The only error
+    /// is that memory ran out.
     pub fn new(alloc: Global) -> Result<LineReader, AllocError>
         ensures ahead { IfOk result (λ r. r.ahead ≡ []) }
         ensures reads { IfOk result (λ r. r.reads ≡ 0) }
@@ -79,14 +80,16 @@ impl LineReader {
         self.line.as_slice()
     }
 
-    /// Whether a whole line was read ahead, so that the next line needs no read.
+    /// Whether a whole line was read ahead, so that the next line needs no read. It takes constant time.
     pub fn has_line(&self) -> bool
         ensures { IsTrue result ↔ Contains self.now.ahead 10 }
     {
         self.start < self.whole
     }
 
-    /// Reads the next line.
+    /// Reads the next line, and says what came of it: `Line`, which [`LineReader::line`] gives from then on; `TooLong`, one of over
+    /// 1048576 bytes, which is skipped; `End`, that no byte is left; or `Failed`, that a read failed, or that 2^32 were made. It takes
+    /// time by the bytes of the line, and no memory.
     pub fn next_line<R: Read>(&mut self, reader: &mut Counted<R>) -> NextLine
         ensures answer { AnswersLine result
             (left_to_read self.old (R.remaining (inner_of reader.old)))

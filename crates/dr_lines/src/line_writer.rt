@@ -28,7 +28,7 @@ impl Model for LineWriter {
 }
 
 impl LineWriter {
-    /// A writer of lines that has written nothing.
+    /// A writer of lines that has written nothing. It takes memory for its buffer. The only error is that memory ran out.
     pub fn new(alloc: Global) -> Result<LineWriter, AllocError>
         ensures { IfOk result (λ w. w ≡ []) }
     {
@@ -37,7 +37,7 @@ impl LineWriter {
         })
     }
 
-    /// Writes the line and a newline (the byte 10), or keeps them for a later write.
+    /// Writes the line and a newline (the byte 10), or keeps them for a later write. It takes time by the bytes, and no memory.
     /// Refusals: 100 `WriteFault` where a write fails.
     pub fn put_line<W: Write>(
         &mut self,
@@ -53,7 +53,7 @@ impl LineWriter {
         self.put(writer, b"\n")
     }
 
-    /// Writes what is not yet written, and flushes the stream.
+    /// Writes what is not yet written, at most 65536 bytes, and flushes the stream. It takes no memory.
     /// Refusals: 100 `WriteFault` where a write fails.
     pub fn flush<W: Write>(&mut self, writer: &mut Counted<W>) -> Result<(), LineError>
         ensures empty { self.new ≡ [] }
@@ -69,7 +69,7 @@ impl LineWriter {
         }
     }
 
-    /// Writes the bytes, or keeps them for a later write.
+    /// Writes the bytes, or keeps them for a later write. It takes time by the bytes, and no memory.
     /// Refusals: 100 `WriteFault` where a write fails.
     pub fn put<W: Write>(&mut self, writer: &mut Counted<W>, bytes: &[u8]) -> Result<(), LineError>
         ensures bytes { Puts (W.contents (inner_of writer.old)) (W.contents (inner_of writer.new))

@@ -1,4 +1,4 @@
--- Which ranges are published while files are loaded.
+-- Which ranges are published while files are loaded. No public contract cites this file.
 use Rattle.std.specs.Prelude.{ℕ, ℤ, suc, nat_lt, ◌&&◌, Option, Some, None, List, [], ◌∷◌, if◌then◌else◌}
 use Rattle.std.specs.Ordering.{int_eq}
 use Rattle.dr_cuts.specs.declared.range_info.RangeInfo.{RangeInfo}

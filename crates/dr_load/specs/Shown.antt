@@ -1,4 +1,4 @@
--- What is shown of a load while it runs.
+-- What is shown of a load while it runs. No public contract cites this file.
 use Rattle.std.specs.Prelude.{ℕ, List, nat_lt, ◌&&◌}
 use Rattle.std.specs.List.{count_by}
 use Rattle.dr_cuts.specs.declared.range_info.RangeInfo.{RangeInfo}

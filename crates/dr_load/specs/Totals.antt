@@ -1,4 +1,4 @@
--- What becomes of several files together.
+-- What becomes of several files together. No public contract cites this file.
 use Rattle.std.specs.Prelude.{ℕ, List, [], ◌∷◌, ◌-◌, ◌^◌, Option, Some, None, Result, Ok, Err, map, min, sum}
 use Rattle.dr_load.specs.declared.ingested.Ingested.{Ingested}
 use Rattle.dr_load.specs.declared.failure.Failure.{Failure}

@@ -1,5 +1,5 @@
-//! Files of events that threads ingest into one node while a merger publishes and queries are answered: one ingester per file, a
-//! merger and a query thread share the node, and the answer over all events comes after they have ended.
+//! Files of events that threads ingest into one node, one for each file, while a merger publishes and a query is asked. The answer
+//! over all events comes after they have ended.
 #![tactic(auto)]
 
 mod answering;

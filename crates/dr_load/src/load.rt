@@ -26,8 +26,8 @@ use std::time::Clock;
 /// and a query thread pins and answers, while files are ingested; a refusal that these two meet ends that thread alone. A line
 /// over 1048576 bytes is unparseable, and a final newline starts no line.
 ///
-/// Refusals, the first in this order: those of the spec and of the query; 97 `NotMatching` where the query doesn't match, a scan
-/// among them; what ended the thread of the first file that wasn't read whole (0, 80 `WorkerNotStarted`, 90 `StreamFull`, 99
+/// Refusals, the first in this order: those of the spec (0 to 3, 20 to 27) and of the query (0 to 3, 11 to 13, 22, 60 to 62, 70 to
+/// 77); 97 `NotMatching` where the query doesn't match, a scan among them; what ended the thread of the first file that wasn't read whole (0, 80 `WorkerNotStarted`, 90 `StreamFull`, 99
 /// `ReadFault`); 94 `HistoryMismatch`; those of the answer (0, 80, 81). Where the spec and the query are taken and the query
 /// matches, none of the first three comes. Where a text is answered, it is byte for byte that of the raw answer over the events
 /// that the node kept. It waits for its threads, and takes time by the bytes of the files and memory by their events.

@@ -24,7 +24,7 @@ pub enum LoadError {
 }
 
 impl LoadError {
-    /// The number of the refusal.
+    /// The number of the refusal: 0 to 3, 11 to 13, 20 to 27, 60 to 62, 70 to 77, 80, 81, 90, 94, 97 or 99.
     pub fn number(&self) -> u16
         ensures { result ≡ number_of self.now }
     {

@@ -1,6 +1,6 @@
-//! A timeline that many threads share: it lies behind one lock, together with the books of its seats. Threads accept events and
-//! pin snapshots through seats, and merge outside of the lock. What a seat knows of its own events holds whatever other threads
-//! do, and closing a node shows which events were kept.
+//! A timeline that many threads share, behind one lock with the books of its seats: threads accept events and pin snapshots through
+//! seats, and merge outside of the lock. What a seat knows of its own events holds whatever other threads do, and closing a node
+//! shows which events were kept.
 #![tactic(auto)]
 
 mod act;

@@ -21,7 +21,7 @@ impl<B: Books> Node<B> {
     /// Merges in turns until it is stopped, and tells what it did: it pins, asks the policy over the ranges of the snapshot, which
     /// it has let go, plans the job that the policy names, tells it so, joins the fragments of the job and commits it. Where the
     /// policy names none, the turn ends. A job whose ranges aren't there, when it is planned or when it is committed, is counted
-    /// as stale. Refusals: each other one of planning, joining and committing ends it.
+    /// as stale. Refusals, each of which ends it: 0 `NoMemory`, 59 `ImageTooLarge`, 95 `CommitsFull`.
     ///
     /// It holds the lock three times a turn, for as long as a pin, a plan and a commit take; the policy is asked and fragments
     /// are joined outside of it. It waits for the lock, and ends once it is stopped.

@@ -82,8 +82,9 @@ impl<B: Books> Node<B> {
     }
 
     /// Accepts an event with the mark of the seat that fits the node's schema. The seat has then seen the stream up to that
-    /// event, and keeps a share of it. An error leaves the node and the seat as they were. Refusals: those of
-    /// `Timeline::accept`. It may wait for the lock, and takes what `Timeline::accept` takes.
+    /// event, and keeps a share of it. An error leaves the node and the seat as they were. Refusals: 0 `NoMemory`, and 90
+    /// `StreamFull` where as many events are retained as the spec's `maxRetained`. It may wait for the lock, and takes what
+    /// `Timeline::accept_shared` takes, and memory for a share of the event in the seat's list.
     pub fn accept<R: Wait>(
         &self,
         rt: &R,

@@ -1,4 +1,4 @@
--- Which columns decide an order: a column whose output stood before decides nothing.
+-- Which columns decide an order: a column whose output stood before decides nothing. No public contract cites this file.
 use Rattle.std.specs.Prelude.{◌≡◌, ◌==◌, ℕ, ℤ, Bool, false, List}
 use Rattle.dr_order.specs.declared.output.Output.{Output}
 use Rattle.dr_order.specs.declared.output.Output.TheVariants.{Dimension, Aggregation}

@@ -1,5 +1,5 @@
-//! The order and the limits of the groups of a groupBy, as `limitSpec` asks for them: read from JSON over the outputs of a
-//! query, and which of two groups comes first.
+//! The order and the limits of the groups of a groupBy, as `limitSpec` asks for them, read from JSON over the outputs of a
+//! query. It also says which of two groups comes first.
 #![tactic(auto)]
 
 mod column_reading;

@@ -22,7 +22,7 @@ pub enum CommandError {
 }
 
 impl CommandError {
-    /// The number of the refusal.
+    /// The number of the refusal: 0, 98 to 100, or 101.
     pub fn number(self) -> u16
         ensures { result ≡ number_of self }
     {

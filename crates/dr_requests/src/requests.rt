@@ -7,7 +7,8 @@ use crate::request::Request;
 use crate::words::{number_in, one_word, split_word, two_parts};
 use dr_merge::Purpose;
 
-/// A line of a script as what it asks for. Refusals: 101 `BadCommand` where it fits no command.
+/// A line of a script as what it asks for, in bytes of the line. Refusals: 101 `BadCommand` where it fits no command. It takes no
+/// memory, and time by the bytes of its words.
 pub fn request_in(line: &[u8]) -> Result<Request<&[u8]>, CommandError>
     ensures { Gives seen_request result (request_in line.now) }
 {

@@ -76,7 +76,7 @@ fn are_digits(word: &[u8]) -> bool
 }
 
 /// The instant that a word spells (ISO 8601), in milliseconds since the epoch. Refusals: 10 `BadInstant`, also for bytes
-/// that aren't UTF-8, and 11 `OutOfRange`.
+/// that aren't UTF-8, and 11 `OutOfRange`. It takes no memory, and time by the bytes.
 pub fn instant_in(word: &[u8]) -> Result<i64, TimeError>
     ensures value { result ≡ instant_in word.now }
     ensures range { IfOk result IsInstant }

@@ -19,7 +19,8 @@ pub struct KeyOf<'a> {
 }
 
 impl KeyOf<'_> {
-    /// The key in memory of its own, but for texts of more than 14 bytes, which are shared. The only error is that memory ran out.
+    /// The key in memory of its own, but for texts of more than 14 bytes, which are shared. The only error is that memory ran out. It
+    /// takes time and memory by the dimension values.
     pub fn copy(&self, alloc: Global) -> Result<Key, AllocError>
         ensures { IfOk result (λ key. key ≡ record { time = self.now.time; dims = self.now.dims.now }) }
     {

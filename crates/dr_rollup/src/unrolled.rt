@@ -9,7 +9,8 @@ use dr_agg::Kind;
 use dr_schema::{Metric, Schema};
 use std::alloc::{AllocError, Global};
 
-/// The kinds of the metric columns of a schema, in order. The only error is that memory ran out.
+/// The kinds of the metric columns of a schema, in order. The only error is that memory ran out. It takes time and memory by the
+/// columns.
 pub fn columns_of(alloc: Global, schema: &Schema) -> Result<Vec<Kind>, AllocError>
     ensures { IfOk result (λ kinds. kinds.items ≡ kinds_of schema.now) }
 {

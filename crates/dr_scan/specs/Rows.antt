@@ -1,4 +1,4 @@
--- A row among others.
+-- A row among others. No public contract cites this file.
 use Rattle.std.specs.Prelude.{ℕ, pos, List, [], slice_get, unwrap_or}
 use Rattle.dr_base.specs.declared.row.Row.{Row}
 

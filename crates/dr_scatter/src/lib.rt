@@ -1,4 +1,4 @@
-//! The partial result of a timeseries or groupBy over the ranges of a snapshot by several threads at once: each works on a share
+//! The partial result of a timeseries or groupBy over the ranges of a snapshot by several threads at once. Each works on a share
 //! of the ranges, and what they found is merged.
 #![tactic(auto)]
 

@@ -1,4 +1,4 @@
--- What a reply of the program says, and what one line of a script does.
+-- What a reply of the program says, and what one line of a script does. No public contract cites this file.
 use Rattle.std.specs.Prelude.{◌≡◌, ◌⊎◌, ℕ, Bool, true, List, ◌++◌, Option, Some, None, Result, Ok, Err, codes, decimal, if◌then◌else◌}
 use Rattle.std.specs.Io.KnownBytes.{IsAtEnd}
 use Rattle.hex.specs.Hex.{encode_lower}

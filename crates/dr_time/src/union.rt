@@ -38,7 +38,7 @@ impl Union {
         })
     }
 
-    /// An equal union. The only error is that memory ran out.
+    /// An equal union. The only error is that memory ran out. It takes time and memory by the intervals.
     pub fn copy(&self) -> Result<Union, AllocError>
         ensures { IfOk result (λ u. u ≡ self.now) }
     {
@@ -62,7 +62,8 @@ impl Union {
         self.joined.contains(time)
     }
 
-    /// The least start of the intervals that aren't empty, which is the first time of the union.
+    /// The least start of the intervals that aren't empty, which is the first time of the union, in milliseconds since the epoch; none
+    /// where all are empty. It takes constant time and no memory.
     pub fn start(&self) -> Option<i64>
         ensures { result ≡ union_start self.now }
     {

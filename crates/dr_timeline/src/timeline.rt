@@ -59,7 +59,8 @@ impl Model for Timeline {
 }
 
 impl Timeline {
-    /// A timeline with no event yet. The only error is that memory ran out.
+    /// A timeline with no event yet. The only error is that memory ran out. It takes constant time, and no memory before the first
+    /// event.
     pub fn new(alloc: Global, spec: IngestSpec) -> Result<Timeline, AllocError>
         ensures empty { IfOk result (λ timeline. timeline ≡ empty_state spec) }
         ensures well_formed { IfOk result (λ timeline. IsWellFormed timeline.schema) }
@@ -103,7 +104,7 @@ impl Timeline {
     /// Accepts an event that fits the schema, and answers its number in the stream, from 0. Where the open range of its
     /// chunk then has as many rows as the spec's `maxRowsInMemory`, the range is sealed in the same step. An error leaves
     /// the timeline as it was. Refusals: 90 `StreamFull` exactly where as many events are retained as the spec's
-    /// `maxRetained`.
+    /// `maxRetained`; elsewhere 0 `NoMemory`. It takes what [`Timeline::accept_shared`] takes, and memory for a share of the event.
     pub fn accept(&mut self, event: Event) -> Result<u64, TimelineError>
         requires { FitsSchema self.old.schema event }
         ensures number { IfOk result (λ n. n ≡ length self.old.stream) }
@@ -171,7 +172,8 @@ impl Timeline {
     }
 
     /// Seals the open range of a chunk, which is named by its start in milliseconds since the epoch. An error leaves the
-    /// timeline as it was. Refusals: 91 `NothingToSeal` exactly where that range has no event.
+    /// timeline as it was. Refusals: 91 `NothingToSeal` exactly where that range has no event; elsewhere 0 `NoMemory`. It reads no
+    /// row: it takes time logarithmic in the number of chunks, and memory for a range's place in a list.
     pub fn seal(&mut self, chunk: i64) -> Result<(), TimelineError>
         ensures ok { OnOk result (self.new ≡ sealed_at chunk self.old) }
         ensures err { OnErr result (self.new ≡ self.old) }
@@ -194,7 +196,8 @@ impl Timeline {
 
     /// A job over the sealed ranges of a chunk at the places from `lo` to before `hi`, in the order in which they stand
     /// now. The chunk is named by its start in milliseconds since the epoch. Refusals: 92 `NoSuchRange` exactly where
-    /// these places name no sealed ranges, or none. Each job can be worked on.
+    /// these places name no sealed ranges, or none; elsewhere 0 `NoMemory`. Each job can be worked on. It takes time and memory by
+    /// the ranges that are named, and copies no row.
     pub fn plan(
         &self,
         chunk: i64,
@@ -221,9 +224,11 @@ impl Timeline {
 
     /// Puts the fragment that the inputs of a job are joined to in the place of their ranges, wherever these stand by now,
     /// and answers its version: a job to publish raises the number of the chunk's publications by one, which is the version, and a
-    /// job to merge gives the least version of the ranges, 0 where one of them isn't published. An error leaves the timeline as it was. Refusals: 93 `Stale` exactly where the job's ranges
-    /// don't stand next to each other any more, with its serials and rows; then 95 `CommitsFull` exactly where there were
-    /// as many commits as the spec's `maxCommits`.
+    /// job to merge gives the least version of the ranges, 0 where one of them isn't published. An error leaves the timeline as it was,
+    /// and lets the fragment go. Refusals: 93 `Stale` exactly where the job's ranges don't stand next to each other any more, with its
+    /// serials and rows; then 95 `CommitsFull` exactly where there were as many commits as the spec's `maxCommits`; elsewhere 0
+    /// `NoMemory`. It takes time by the sealed ranges of the chunk, and where these have the job's serials what comparing their rows
+    /// takes: constant time for shares of the same index, else time by the rows or the bytes of their images.
     pub fn commit(&mut self, job: &Job, fragment: Fragment) -> Result<u64, TimelineError>
         requires { fragment ≡ joined_fragment self.old.schema job.now }
         ensures ok { IfOk result (λ version. Commits self.old job.now version self.new) }

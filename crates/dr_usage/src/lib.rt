@@ -1,4 +1,4 @@
-//! The command line of the program `druid-node`: what its words ask for, as `clap` reads them.
+//! The command line of the program `druid-node`: what its words ask for, as `clap` reads them. Whatever else they are is bad usage.
 #![tactic(auto)]
 
 mod command;

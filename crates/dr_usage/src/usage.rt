@@ -17,7 +17,8 @@ pub const USAGE: &str =
     "usage: druid-node run [--workers N] | load [--workers N] SPEC QUERY FILE.. | dump FILE";
 
 /// What the words behind the program's name ask for, as `clap` reads them: `run` alone is a run with one worker.
-/// Refusals: 103 `BadUsage` for all other words.
+/// There are 1 to 16 workers and 1 to 6 files. Refusals: 103 `BadUsage` for all other words, and 0 `NoMemory`. It takes time and
+/// memory by the bytes of the words.
 pub fn command_of<'a>(alloc: Global, words: &'a [&'a str]) -> Result<Command<'a>, UsageError>
     ensures command { Gives seen result (command_of (map (λ word. word.now) words.now)) }
     ensures bounds { IfOk result IsInBounds }

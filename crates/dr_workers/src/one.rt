@@ -30,7 +30,7 @@ pub fn scatter_one(
     scatter_here(alloc, query, fragments, &OpenGate)
 }
 
-/// What [`scatter_one`] gives, with the gate entered before each range.
+/// What [`scatter_one`] gives, with the gate entered before each range. Error and cost are those of `scatter_one`.
 pub fn scatter_here<G: Gate>(
     alloc: Global,
     query: &Query,

@@ -11,7 +11,7 @@ use std::alloc::{AllocError, Global};
 
 /// The groups of the rows of ranges that stand next to each other, of which the first has that number among all of them: the rows
 /// of each range in turn, before which the gate is entered, are added to the groups of those before it. The only error is that
-/// memory ran out.
+/// memory ran out. It takes what [`Partial::add_fragment`] takes for each range.
 pub fn partial_of<G: Gate>(
     alloc: Global,
     query: &Query,

@@ -1,4 +1,4 @@
--- The outputs of a query in the order of their names, and the members that a group has of them.
+-- The outputs of a query in the order of their names, and the members that a group has of them. No public contract cites this file.
 use Rattle.std.specs.Prelude.{ℕ, ◌+◌, List, [], ◌∷◌, Option, Some, None, option_map, slice_get}
 use Rattle.std.specs.Ordering.{nat_cmp}
 use Rattle.std.specs.Cmp.Lexicographic.{slice_cmp}

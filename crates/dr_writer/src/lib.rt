@@ -1,4 +1,4 @@
-//! The text of the groups that a query gives, as compact JSON.
+//! The text of the groups that a query gives, as compact JSON. It is written into one buffer, token by token.
 #![tactic(auto)]
 
 mod group_writing;
