@@ -150,21 +150,6 @@ apart us least greatest u t is low high later =
     let first = subst (IsFirstTime (λ x. int_le least x && union_holds us x)) (sym is) (union_first_from-first least us) in
     no_time (union_holds us u) (λ h. before greatest t u later (first.1 u (from_and_held least u (union_holds us u) low h)) high)
 
-pub within : (us : List Interval) (k : ℕ) (d : Interval) (u : ℤ) → k < length us → holds_time (get_or us k d) u ≡ true → union_holds us u ≡ true
-within [] k d u lt h = absurd (omega (arith, lt))
-within (y ∷ us) zero d u lt h = ap (λ b. b || union_holds us u) h
-within (y ∷ us) (suc k) d u lt h = ap (λ b. holds_time y u || b) (within us k d u (omega (arith, lt)) h) ∙ or_true (holds_time y u)
-  where
-    or_true : (b : Bool) → (b || true) ≡ true
-    or_true true = refl
-    or_true false = refl
-
-pub held-between : (x : Interval) (least greatest u : ℤ) → int_le x.start least ≡ true → int_lt greatest x.end ≡ true → least ≤ℤ u → u ≤ℤ greatest → holds_time x u ≡ true
-held-between x least greatest u from to low high = between x.start x.end least greatest u from to low high
-  where
-    between : (s e a b v : ℤ) → int_le s a ≡ true → int_lt b e ≡ true → a ≤ℤ v → v ≤ℤ b → (int_le s v && int_lt v e) ≡ true
-    between s e a b v f g h i = grind (arith, ints)
-
 pub time-from : (t : Table) (i : ℕ) (least : ℤ) → i < length t.times → All (λ x. least ≤ℤ x) t.times → least ≤ℤ (key_at t i).time
 time-from t i least lt low = subst (λ x. least ≤ℤ x) (sym (key-time t i)) (All-get_or (λ x. least ≤ℤ x) t.times i (pos 0) lt low)
 

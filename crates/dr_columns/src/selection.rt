@@ -46,9 +46,10 @@ impl Selection {
     }
 }
 
-/// Which rows of an image a query selects. Where one of the query's intervals holds all of the image's times, and the query has no
-/// filter, it is each row, which takes no memory. Else it takes a byte for each row and each level of the filter, and time by
-/// the tests of the filter, each by the rows and the dictionary's values. The only error is that memory ran out.
+/// Which rows of an image a query selects. Where the query's intervals, one or several that touch, hold each time from the image's
+/// least to its greatest, which takes time logarithmic in their number, and the query has no filter, it is each row, which takes
+/// no memory. Else it takes a byte for each row and each level of the filter, and time by the tests of the filter, each by the
+/// rows and the dictionary's values. The only error is that memory ran out.
 pub fn rows_selected(
     alloc: Global,
     query: &Query,
@@ -84,16 +85,9 @@ pub fn is_apart(view: &SegmentView<'_>, union: &Union) -> bool
     }
 }
 
-// Whether one interval holds the times of all rows.
+// Whether the intervals hold each time from the least of the rows to the greatest.
 fn is_within(view: &SegmentView<'_>, union: &Union) -> bool
     ensures { result ≡ true → (i : ℕ) → i < length view.now.times → union_holds union.now (key_at view.now i).time ≡ true }
 {
-    let least = view.min_time();
-    let greatest = view.max_time();
-    for interval in union.intervals() {
-        if interval.start <= least && greatest < interval.end {
-            return true;
-        }
-    }
-    false
+    union.holds_all(view.min_time(), view.max_time())
 }

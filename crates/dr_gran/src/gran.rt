@@ -9,6 +9,9 @@ ghost use Rattle.dr_gran.specs.Nesting.{nests};
 use crate::step::Step;
 use dr_time::{DAY_MILLIS, first_day_of_month, month_of_day};
 
+// A day as the length of a bucket, in milliseconds.
+const DAY: u32 = DAY_MILLIS as u32;
+
 /// 2001-01-01T00:00:00.000Z, a Monday.
 const MONDAY: i64 = 978_307_200_000;
 
@@ -72,7 +75,7 @@ impl Gran {
             Gran::Hour => Step::Millis(0, 3_600_000),
             Gran::SixHour => Step::Millis(0, 21_600_000),
             Gran::EightHour => Step::Millis(0, 28_800_000),
-            Gran::Day => Step::Millis(0, 86_400_000),
+            Gran::Day => Step::Millis(0, DAY),
             Gran::Week => Step::Millis(MONDAY, 604_800_000),
             Gran::Month => Step::Months(1),
             Gran::Quarter => Step::Months(3),
@@ -127,7 +130,7 @@ fn into_bucket(time: i64, origin: i64, length: u32) -> i64
         1_000 => past.rem_euclid(1_000),
         60_000 => past.rem_euclid(60_000),
         3_600_000 => past.rem_euclid(3_600_000),
-        86_400_000 => past.rem_euclid(86_400_000),
+        DAY => past.rem_euclid(DAY_MILLIS),
         _ => past.rem_euclid(i64::from(length)),
     }
 }

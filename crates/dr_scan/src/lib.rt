@@ -1,6 +1,6 @@
 //! Scans: the text of the rows that a query selects, segment by segment or by their times, and the identifiers of segments.
-//! Rows are read where they lie, and nothing is kept but the text, a list of where the rows of an index lie while
-//! they are read, and where rows are ordered their places.
+//! Rows are read where they lie, and nothing is kept but the text, where the rows of an index lie or which rows of an image are
+//! selected while these are read, and where rows are ordered their places.
 #![tactic(auto)]
 
 mod choosing;

@@ -5,14 +5,14 @@ use Rattle.std.specs.List.{AllByRecursion, AllWithin}
 use Rattle.std.specs.List.Sorted.{IsPartitionedBy, IsPermutation, IsSortedByKey}
 use Rattle.std.specs.Ordering.{int_cmp, is_lt}
 use Rattle.std.proofs.lemmas.Grind.{common_steps}
-use Rattle.std.proofs.lemmas.Int.{ints}
+use Rattle.std.proofs.lemmas.Int.{ints, by_lt_z}
 use native.Mathlib.Numerals.{unary_clauses}
 use Rattle.std.proofs.lemmas.List.Folds.{list_any-append, list_any_more}
 use Rattle.std.proofs.lemmas.List.{drop_more}
 use Rattle.std.proofs.lemmas.List.Sorted.{list_any-IsPermutation}
 use Rattle.dr_time.specs.declared.interval.Interval.{Interval}
 use Rattle.dr_time.specs.Interval.{holds_time, is_empty, first_time, first_time_from}
-use Rattle.dr_time.specs.Union.{union_holds}
+use Rattle.dr_time.specs.Union.{HoldsAll, union_holds}
 use Rattle.dr_time.specs.Joined.{AreApart, Rise, HoldSame, longer}
 use Rattle.dr_time.specs.Laws.{IsFirstTime}
 use Rattle.dr_time.proofs.UnionLemmas.{IsFirstTime-same}
@@ -358,3 +358,67 @@ one_more_held is js sorted n d lt same more t =
 
 pub sorted-held : (is js : List Interval) → IsPermutation is js → HoldSame js is
 sorted-held is js moved t = sym (list_any-IsPermutation (λ i. holds_time i t) is js moved)
+
+-- ---- all times from one to another
+
+or_last : (a b : Bool) → b ≡ true → a || b ≡ true
+or_last true b e = refl
+or_last false b e = e
+
+-- what one of them holds is held
+held_by : (is : List Interval) (k : ℕ) (d : Interval) (t : ℤ) → k < length is → holds_time (get_or is k d) t ≡ true → union_holds is t ≡ true
+held_by [] k d t lt h = absurd (omega arith)
+held_by (i ∷ is) zero d t lt h = rw h refl
+held_by (i ∷ is) (suc k) d t lt h = or_last (holds_time i t) (union_holds is t) (held_by is k d t (omega arith) h)
+
+not_held : (held : Bool) → (held ≡ true → ⊥) → held ≡ false
+not_held true never = absurd (never refl)
+not_held false never = refl
+
+-- the end of one of them isn't
+end-free : (is : List Interval) (k : ℕ) (d : Interval) → AreApart is → k < length is → union_holds is (get_or is k d).end ≡ false
+end-free [] k d apart lt = absurd (omega arith)
+end-free (i ∷ is) zero d apart lt =
+    rw (above i.start i.end i.end (omega (arith, ints))) (not_held (union_holds is i.end) (λ h. let past = held-from is i.end i.end apart.1 h in omega (arith, ints)))
+end-free (i ∷ is) (suc k) d apart lt =
+    let next = all_at (λ y. i.end <ℤ y.start) is k d apart.1 (omega arith) in
+    let some = some_at is k d apart.2 (omega arith) in
+    rw (above i.start i.end (get_or is k d).end (omega (arith, ints))) (end-free is k d apart.2 (omega arith))
+
+between : (s e least greatest t : ℤ) → int_le s least ≡ true → int_lt greatest e ≡ true → least ≤ℤ t → t ≤ℤ greatest → int_le s t && int_lt t e ≡ true
+between s e least greatest t from to low high = grind (arith, ints)
+
+below_end : (t e : ℤ) → int_lt t e ≡ true → t ≤ℤ e
+below_end t e h = grind (arith, ints)
+
+is_below : (t e : ℤ) → t <ℤ e → int_lt t e ≡ true
+is_below t e lt = grind (arith, ints)
+
+-- of the last of them that starts not behind the least
+pub all_held : (is : List Interval) (least greatest : ℤ) (place : ℕ) (d : Interval) → (place ≡ 0 → ⊥) → place ≤ length is → AllWithin (λ i. int_le i.start least ≡ true) is 0 place
+    → int_lt greatest (get_or is (place - 1) d).end ≡ true → HoldsAll is least greatest
+all_held is least greatest zero d some le low h = absurd (some refl)
+all_held is least greatest (suc k) d some le low h =
+    let h = simp unary_clauses at h in
+    λ t from to. held_by is k d t (omega arith) (between (get_or is k d).start (get_or is k d).end least greatest t (low k d (omega arith) (omega arith)) h from to)
+
+pub ends_behind : (is : List Interval) (least greatest : ℤ) (place : ℕ) (d : Interval) → AreApart is → least ≤ℤ greatest → (place ≡ 0 → ⊥) → place ≤ length is
+    → AllWithin (λ i. int_le i.start least ≡ true) is 0 place → AllWithin (λ i. int_le i.start least ≡ false) is place (length is)
+    → HoldsAll is least greatest → int_lt greatest (get_or is (place - 1) d).end ≡ true
+ends_behind is least greatest zero d apart rise some le low high all = absurd (some refl)
+ends_behind is least greatest (suc k) d apart rise some le low high all = simp unary_clauses (behind (get_or is k d).end refl)
+  where
+    behind : (e : ℤ) → e ≡ (get_or is k d).end → int_lt greatest e ≡ true
+    behind e same =
+        by_lt_z greatest e
+        (λ lt. is_below greatest e lt)
+        (λ past. let begun = sym (last_started least is k d apart (omega arith) low high) ∙ all least (omega (arith, ints)) rise in
+        let from = below_end least e (subst (λ x. int_lt least x ≡ true) (sym same) begun) in
+        absurd (cc (sym (end-free is k d apart (omega arith)) ∙ subst (λ x. union_holds is x ≡ true) same (all e from past))))
+
+-- where none starts before the least
+pub some_started : (is : List Interval) (least greatest : ℤ) → least ≤ℤ greatest → AllWithin (λ i. int_le i.start least ≡ false) is 0 (length is) → HoldsAll is least greatest → ⊥
+some_started is least greatest rise high all = absurd (cc (sym (none_started least is high) ∙ all least (omega (arith, ints)) rise))
+
+pub not_behind : (greatest least : ℤ) → int_lt greatest least ≡ false → least ≤ℤ greatest
+not_behind greatest least h = grind (arith, ints)

@@ -1,8 +1,8 @@
-ghost use Rattle.std.specs.Prelude.{◌≡◌, ◌≤ℤ◌, ◌||◌, ℤ, IfOk, OnOk};
+ghost use Rattle.std.specs.Prelude.{◌≡◌, ◌≤ℤ◌, ◌||◌, ℤ, true, IfOk, OnOk};
 ghost use Rattle.std.specs.List.{AllByRecursion};
 ghost use Rattle.dr_time.specs.Interval.{holds_time};
 ghost use Rattle.dr_time.specs.Joined.{AreApart, Rise, HoldSame, longer as longer_of};
-ghost use Rattle.dr_time.specs.Union.{union_holds, union_start, union_first_from};
+ghost use Rattle.dr_time.specs.Union.{HoldsAll, union_holds, union_start, union_first_from};
 
 use crate::interval::Interval;
 use std::alloc::{AllocError, Global};
@@ -51,6 +51,22 @@ impl Joined {
             return false;
         }
         self.0[place - 1].contains(time)
+    }
+
+    // Whether one of them holds each time from `least` to `greatest`, which is found in logarithmic time: no two of them hold such
+    // times together, since they don't touch.
+    pub fn holds_all(&self, least: i64, greatest: i64) -> bool
+        ensures all { result ≡ true → HoldsAll self.now least greatest }
+        ensures only { HoldsAll self.now least greatest → result ≡ true }
+    {
+        if greatest < least {
+            return true;
+        }
+        let place = self.0.partition_point(|interval| interval.start <= least);
+        if place == 0 {
+            return false;
+        }
+        greatest < self.0[place - 1].end
     }
 
     // The start of the first.

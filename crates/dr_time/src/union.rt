@@ -1,5 +1,5 @@
-ghost use Rattle.std.specs.Prelude.{◌≡◌, IfOk};
-ghost use Rattle.dr_time.specs.Union.{union_holds, union_start, union_first_from};
+ghost use Rattle.std.specs.Prelude.{◌≡◌, true, IfOk};
+ghost use Rattle.dr_time.specs.Union.{HoldsAll, union_holds, union_start, union_first_from};
 
 use crate::interval::Interval;
 use crate::joined::Joined;
@@ -60,6 +60,16 @@ impl Union {
         ensures { result ≡ union_holds self.now time }
     {
         self.joined.contains(time)
+    }
+
+    /// Whether each time from `least` to `greatest`, both inside, lies in one of the intervals, which may hold them together; where
+    /// `greatest` lies before `least` there is no such time, and it is true. It takes time logarithmic in the number of the
+    /// intervals, and no memory.
+    pub fn holds_all(&self, least: i64, greatest: i64) -> bool
+        ensures all { result ≡ true → HoldsAll self.now least greatest }
+        ensures only { HoldsAll self.now least greatest → result ≡ true }
+    {
+        self.joined.holds_all(least, greatest)
     }
 
     /// The least start of the intervals that aren't empty, which is the first time of the union, in milliseconds since the epoch; none
