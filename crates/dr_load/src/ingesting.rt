@@ -68,22 +68,41 @@ fn ingest_lines<B: Books, R: Read, T: Wait>(
 {
     'lines: loop {
         match lines.next_line(file) {
-            NextLine::Line => match events.read(alloc, seat.number(), lines.line()) {
-                Ok(event) => {
-                    if node.keeps(&event) {
-                        if let Err(error) = node.accept(rt, seat, event) {
-                            return Err(Failure::of_node(error));
-                        }
-                    } else {
-                        tally.thrown_away = tally.thrown_away.saturating_add(1);
-                    }
-                }
-                Err(Unparseable::NoMemory) => return Err(Failure::NoMemory),
-                Err(_) => tally.unparseable = tally.unparseable.saturating_add(1),
-            },
+            NextLine::Line => take_line(rt, alloc, node, seat, events, lines.line(), tally)?,
             NextLine::TooLong => tally.unparseable = tally.unparseable.saturating_add(1),
             NextLine::End => return Ok(()),
             NextLine::Failed => return Err(Failure::ReadFault),
         }
+    }
+}
+
+// Accepts the event of a line, or counts the line.
+fn take_line<B: Books, T: Wait>(
+    rt: &T,
+    alloc: Global,
+    node: &Node<B>,
+    seat: &mut Seat<B>,
+    events: &mut EventReader,
+    line: &[u8],
+    tally: &mut Tally,
+) -> Result<(), Failure>
+    requires { events.old ≡ B.schema }
+    ensures { events.new ≡ events.old }
+{
+    let event = match events.read(alloc, seat.number(), line) {
+        Ok(event) => event,
+        Err(Unparseable::NoMemory) => return Err(Failure::NoMemory),
+        Err(_) => {
+            tally.unparseable = tally.unparseable.saturating_add(1);
+            return Ok(());
+        }
+    };
+    if !node.keeps(&event) {
+        tally.thrown_away = tally.thrown_away.saturating_add(1);
+        return Ok(());
+    }
+    match node.accept(rt, seat, event) {
+        Ok(_) => Ok(()),
+        Err(error) => Err(Failure::of_node(error)),
     }
 }
