@@ -1,6 +1,7 @@
 ghost use Rattle.std.specs.Prelude.{◌≡◌, ◌<◌, IfOk};
 ghost use Rattle.std.specs.List.{AllByRecursion};
 ghost use Rattle.dr_time.specs.Instant.{IsInstant};
+ghost use Rattle.dr_workers.specs.Shared.{rows_of};
 
 use dr_ask::Query;
 use dr_base::{Key, Numbers, Row, Text, Texts};
@@ -53,20 +54,26 @@ impl Ranges {
         Ok(())
     }
 
-    /// What is found over each range alone.
-    pub fn each(&self, alloc: Global, query: &Query) -> Result<Vec<Partial>, AllocError> {
-        let mut found = Vec::new(alloc);
-        for i in 0..self.0.len() {
-            found.push(Partial::of_fragment(alloc, query, &self.0[i])?)?;
-        }
-        Ok(found)
-    }
-
     pub fn as_slice(&self) -> &[SharedFragment]
         ensures { result.now ≡ self.now }
     {
         self.0.as_slice()
     }
+}
+
+/// What is found over each range alone.
+pub fn each(
+    alloc: Global,
+    query: &Query,
+    ranges: &[SharedFragment],
+) -> Result<Vec<Partial>, AllocError>
+    requires { AllByRecursion (λ row. IsInstant row.key.time) (rows_of ranges.now) }
+{
+    let mut found = Vec::new(alloc);
+    for i in 0..ranges.len() {
+        found.push(Partial::of_fragment(alloc, query, &ranges[i])?)?;
+    }
+    Ok(found)
 }
 
 // The range of that place.

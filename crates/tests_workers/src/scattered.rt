@@ -1,6 +1,6 @@
 use crate::entries::Entries;
 use crate::queries::query_of;
-use crate::ranges::Ranges;
+use crate::ranges::{Ranges, each};
 use dr_ask::Query;
 use dr_partial::Partial;
 use dr_scatter::scatter;
@@ -85,8 +85,9 @@ fn workers_leave_out_no_range(rt: HostRuntime) -> Result<(), Fail> {
 fn each_range_alone_has_its_groups(rt: HostRuntime) -> Result<(), Fail> {
     let alloc = rt.alloc();
     let query = sums(alloc)?;
+    let ranges = Ranges::new(alloc, 3)?;
     let mut values = Vec::new(alloc);
-    for groups in Ranges::new(alloc, 3)?.each(alloc, &query)? {
+    for groups in each(alloc, &query, ranges.as_slice())? {
         for value in values_of(alloc, groups)? {
             values.push(value)?;
         }
