@@ -4,3 +4,4 @@ pub mod Refusal
 pub mod Load
 pub mod Totals
 pub mod Shown
+pub mod OfSeat
