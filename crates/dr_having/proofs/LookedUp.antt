@@ -1,8 +1,7 @@
 -- The conditions on dimensions among the members of an `and` or an `or`, looked up together.
-use Rattle.std.proofs.Common.{◌≡◌, ◌∙◌, sym, refl, ap, ℕ, ℤ, ◌<◌, Bool, true, false, not, ◌||◌, ◌&&◌, List, [], ◌∷◌, ◌++◌, get_or, set, Option, Some, None, bytes_eq}
+use Rattle.std.proofs.Common.{◌≡◌, ◌∙◌, refl, ap, ℕ, ℤ, true, false, not, ◌||◌, ◌&&◌, List, [], ◌∷◌, ◌++◌, get_or, set, Option, Some, None, bytes_eq}
 use Rattle.std.specs.List.{list_any}
 use Rattle.std.proofs.lemmas.List.Folds.{list_any-append}
-use Rattle.std.specs.Cmp.Lexicographic.{bytes_decides}
 use Rattle.dr_having.specs.declared.dimension_value.DimensionValue.{DimensionValue}
 use Rattle.dr_having.specs.declared.text_look_up.TextLookUp.{TextLookUp}
 use Rattle.dr_having.specs.Condition.{Condition, dimension, excluded, conditions_of, members_of, meets, meets_every, meets_some}
