@@ -1,6 +1,6 @@
-use Rattle.std.proofs.Common.{◌≡◌, ◌∙◌, sym, ap, ◌&&◌, not, map}
+use Rattle.std.proofs.Common.{◌∙◌, sym, ap, ◌&&◌, not, map}
 use Rattle.dr_filter.specs.Condition.{condition_in, conditions_in, members_of, ranges, every_matches, some_matches}
-use Rattle.dr_filter.specs.LookUps.{as_test, as_range, tests_in, every_holds, some_holds}
+use Rattle.dr_filter.specs.LookUps.{as_test, tests_in, some_holds}
 use Rattle.dr_filter.proofs.LookedUp.{some_matches-members, every_matches-denied, every_matches-ranges}
 use Rattle.dr_columns.specs.Rows.{key_at}
 use Rattle.dr_columns.proofs.NarrowLemmas.{neither, narrowed-thrice}
