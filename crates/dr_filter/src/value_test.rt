@@ -3,6 +3,7 @@ ghost use Rattle.dr_filter.specs.Match.{lies_within, passes as passes_of};
 
 use crate::bounds::Bounds;
 use crate::like::fits;
+use crate::ranges::Ranges;
 use dr_base::Text;
 use dr_dict::TextSet;
 use std::alloc::AllocError;
@@ -16,6 +17,8 @@ pub enum ValueTest {
     Among(TextSet),
     /// `bound`: it lies in this range.
     Within(Bounds),
+    /// `bound`s of one `or`: it lies in one of these ranges.
+    WithinOne(Ranges),
     /// `like`: it fits this pattern, in which `%` is any run of characters and `_` one Unicode scalar value.
     Like(Text),
 }
@@ -32,6 +35,7 @@ impl ValueTest {
             ValueTest::Equals(text) => value == text.as_str(),
             ValueTest::Among(texts) => texts.contains(value),
             ValueTest::Within(bounds) => bounds.hold(value),
+            ValueTest::WithinOne(ranges) => ranges.hold(value),
             ValueTest::Like(pattern) => fits(pattern.as_str(), value),
         }
     }
