@@ -1,15 +1,13 @@
--- The comparisons among the members of an `and` or an `or`, asked together, and the members of which they are taken.
-use Rattle.std.proofs.Common.{◌≡◌, ◌∙◌, sym, refl, ap, ℕ, ℤ, zero, suc, ◌+◌, ◌<◌, Bool, true, false, ◌||◌, ◌&&◌, List, [], ◌∷◌, ◌++◌, length, get_or, set, Option, Some, None, map, length-append, arith}
+-- The comparisons among the members of an `and` or an `or`, asked together.
+use Rattle.std.proofs.Common.{◌≡◌, ◌∙◌, refl, ap, ℕ, ℤ, zero, suc, ◌<◌, Bool, true, false, ◌||◌, ◌&&◌, List, [], ◌∷◌, ◌++◌, length, get_or, set, Option, Some, None, arith}
 use Rattle.std.specs.List.{list_all, list_any}
-use Rattle.std.proofs.lemmas.List.{map-append}
 use Rattle.std.proofs.lemmas.List.Folds.{list_all-append, list_any-append}
 use Rattle.dr_having.specs.declared.every_bound.EveryBound.{EveryBound}
 use Rattle.dr_having.specs.declared.group_value.GroupValue.{GroupValue}
-use Rattle.dr_having.specs.declared.having.Having.{Having}
 use Rattle.dr_having.specs.declared.some_bound.SomeBound.{SomeBound}
 use Rattle.dr_having.specs.Bounds.{lies_in, reaches, narrowed}
 use Rattle.dr_having.specs.Compared.{every_holds, some_holds, lies_in_at, lie_in_all, reaches_at, reach_some, IsEveryOf, IsSomeOf}
-use Rattle.dr_having.specs.Condition.{Condition, aggregation, condition_in, conditions_of, members_of, meets, meets_every, meets_some}
+use Rattle.dr_having.specs.Condition.{Condition, aggregation, conditions_of, members_of, meets, meets_every, meets_some}
 use Rattle.dr_having.specs.Meeting.{compares, meets_value, number_at}
 use Rattle.dr_having.proofs.Narrowing.{lies_in-narrowed, place-narrowed}
 use Rattle.dr_having.proofs.Truths.{and_regroups, and_swaps, and_moves, and_ends, or_regroups, or_swaps, or_moves, or_ends}
@@ -23,9 +21,9 @@ module _ (f : EveryBound → Bool) (old new : EveryBound) (b : Bool) where
   list_all-set (x ∷ xs) zero lt is h = ap (λ a. a && list_all f xs) (h ∙ ap (λ z. f z && b) is) ∙ and_swaps (f x) b (list_all f xs)
   list_all-set (x ∷ xs) (suc i) lt is h = ap (λ a. f x && a) (list_all-set xs i (omega (arith, lt)) is h) ∙ and_regroups (f x) (list_all f xs) b
 
-module _ (f : SomeBound → Bool) (old new : SomeBound) (b : Bool) where
+module _ {A : Type 0} (f : A → Bool) (old new : A) (b : Bool) where
   -- where one bound gives way to another that lets more through
-  list_any-set : (bounds : List SomeBound) (i : ℕ) → i < length bounds → old ≡ get_or bounds i old → f new ≡ (f old || b) → list_any f (set bounds i new) ≡ (list_any f bounds || b)
+  pub list_any-set : (bounds : List A) (i : ℕ) → i < length bounds → old ≡ get_or bounds i old → f new ≡ (f old || b) → list_any f (set bounds i new) ≡ (list_any f bounds || b)
   list_any-set [] i lt is h = absurd (omega (arith, lt))
   list_any-set (x ∷ xs) zero lt is h = ap (λ a. a || list_any f xs) (h ∙ ap (λ z. f z || b) is) ∙ or_swaps (f x) b (list_any f xs)
   list_any-set (x ∷ xs) (suc i) lt is h = ap (λ a. f x || a) (list_any-set xs i (omega (arith, lt)) is h) ∙ or_regroups (f x) (list_any f xs) b
@@ -61,7 +59,7 @@ widened-behind bounds b c values is =
 
 -- all members hold where all the comparisons and all the others do
 meets_every-members : (dims : List (List ℕ)) (values : List ℤ) (ms : List (Option GroupValue)) (cs : List Condition)
-    → meets_every dims values (conditions_of (members_of ms cs)) ≡ (every_holds values ms && meets_every dims values (conditions_of cs))
+    → meets_every dims values (conditions_of (members_of aggregation ms cs)) ≡ (every_holds values ms && meets_every dims values (conditions_of cs))
 meets_every-members dims values [] cs = refl
 meets_every-members dims values (Some c ∷ ms) cs =
     ap (λ b. meets_value c values && b) (meets_every-members dims values ms cs) ∙ and_regroups (meets_value c values) (every_holds values ms) (meets_every dims values (conditions_of cs))
@@ -71,7 +69,7 @@ meets_every-members dims values (None ∷ ms) (c ∷ cs) =
 
 -- some member holds where one of the comparisons or one of the others does
 meets_some-members : (dims : List (List ℕ)) (values : List ℤ) (ms : List (Option GroupValue)) (cs : List Condition)
-    → meets_some dims values (conditions_of (members_of ms cs)) ≡ (some_holds values ms || meets_some dims values (conditions_of cs))
+    → meets_some dims values (conditions_of (members_of aggregation ms cs)) ≡ (some_holds values ms || meets_some dims values (conditions_of cs))
 meets_some-members dims values [] cs = refl
 meets_some-members dims values (Some c ∷ ms) cs =
     ap (λ b. meets_value c values || b) (meets_some-members dims values ms cs) ∙ or_regroups (meets_value c values) (some_holds values ms) (meets_some dims values (conditions_of cs))
@@ -80,68 +78,14 @@ meets_some-members dims values (None ∷ ms) (c ∷ cs) =
     ap (λ b. meets dims values c || b) (meets_some-members dims values ms cs) ∙ or_moves (meets dims values c) (some_holds values ms) (meets_some dims values (conditions_of cs))
 
 module _ (dims : List (List ℕ)) (values : List ℤ) (ms : List (Option GroupValue)) (cs : List Condition) where
-  pub meets_every-others : every_holds values ms ≡ true → meets_every dims values (conditions_of (members_of ms cs)) ≡ meets_every dims values (conditions_of cs)
+  pub meets_every-others : every_holds values ms ≡ true → meets_every dims values (conditions_of (members_of aggregation ms cs)) ≡ meets_every dims values (conditions_of cs)
   meets_every-others all = meets_every-members dims values ms cs ∙ ap (λ b. b && meets_every dims values (conditions_of cs)) all
 
-  pub meets_every-fails : every_holds values ms ≡ false → meets_every dims values (conditions_of (members_of ms cs)) ≡ false
+  pub meets_every-fails : every_holds values ms ≡ false → meets_every dims values (conditions_of (members_of aggregation ms cs)) ≡ false
   meets_every-fails not_all = meets_every-members dims values ms cs ∙ ap (λ b. b && meets_every dims values (conditions_of cs)) not_all
 
-  pub meets_some-comparisons : some_holds values ms ≡ true → meets_some dims values (conditions_of (members_of ms cs)) ≡ true
+  pub meets_some-comparisons : some_holds values ms ≡ true → meets_some dims values (conditions_of (members_of aggregation ms cs)) ≡ true
   meets_some-comparisons one = meets_some-members dims values ms cs ∙ ap (λ b. b || meets_some dims values (conditions_of cs)) one
 
-  pub meets_some-others : some_holds values ms ≡ false → meets_some dims values (conditions_of (members_of ms cs)) ≡ meets_some dims values (conditions_of cs)
+  pub meets_some-others : some_holds values ms ≡ false → meets_some dims values (conditions_of (members_of aggregation ms cs)) ≡ meets_some dims values (conditions_of cs)
   meets_some-others none = meets_some-members dims values ms cs ∙ ap (λ b. b || meets_some dims values (conditions_of cs)) none
-
--- ---- the members of a list of conditions in turn
-
--- how many members are no comparisons
-abbrev pub others_in : List (Option GroupValue) → ℕ
-others_in [] = zero
-others_in (Some c ∷ ms) = others_in ms
-others_in (None ∷ ms) = suc (others_in ms)
-
-others_in-comparison : (ms : List (Option GroupValue)) (c : GroupValue) → others_in (ms ++ Some c ∷ []) ≡ others_in ms
-others_in-comparison [] c = refl
-others_in-comparison (Some m ∷ ms) c = others_in-comparison ms c
-others_in-comparison (None ∷ ms) c = ap suc (others_in-comparison ms c)
-
-others_in-other : (ms : List (Option GroupValue)) → others_in (ms ++ None ∷ []) ≡ suc (others_in ms)
-others_in-other [] = refl
-others_in-other (Some m ∷ ms) = others_in-other ms
-others_in-other (None ∷ ms) = ap suc (others_in-other ms)
-
-members-comparison : (ms : List (Option GroupValue)) (cs : List Condition) (v : GroupValue) → others_in ms ≡ length cs → members_of (ms ++ Some v ∷ []) cs ≡ members_of ms cs ++ aggregation v ∷ []
-members-comparison [] [] v h = refl
-members-comparison [] (c ∷ cs) v h = absurd (omega (arith, h))
-members-comparison (Some m ∷ ms) cs v h = ap (λ l. aggregation m ∷ l) (members-comparison ms cs v h)
-members-comparison (None ∷ ms) [] v h = absurd (omega (arith, h))
-members-comparison (None ∷ ms) (c ∷ cs) v h = ap (λ l. c ∷ l) (members-comparison ms cs v (omega (arith, h)))
-
-members-other : (ms : List (Option GroupValue)) (cs : List Condition) (o : Condition) → others_in ms ≡ length cs → members_of (ms ++ None ∷ []) (cs ++ o ∷ []) ≡ members_of ms cs ++ o ∷ []
-members-other [] [] o h = refl
-members-other [] (c ∷ cs) o h = absurd (omega (arith, h))
-members-other (Some m ∷ ms) cs o h = ap (λ l. aggregation m ∷ l) (members-other ms cs o h)
-members-other (None ∷ ms) [] o h = absurd (omega (arith, h))
-members-other (None ∷ ms) (c ∷ cs) o h = ap (λ l. c ∷ l) (members-other ms cs o (omega (arith, h)))
-
-module _ (done : List Having) (h : Having) (ms more : List (Option GroupValue)) where
-  pub shown-comparison : (others : List Having) (c : GroupValue) → condition_in h ≡ aggregation c → more ≡ ms ++ Some c ∷ []
-      → others_in ms ≡ length (map condition_in others) → members_of ms (map condition_in others) ≡ map condition_in done → members_of more (map condition_in others) ≡ map condition_in (done ++ h ∷ [])
-  shown-comparison others c is grown count shown =
-      ap (λ m. members_of m (map condition_in others)) grown ∙ members-comparison ms (map condition_in others) c count ∙ ap (λ l. l ++ aggregation c ∷ []) shown
-      ∙ ap (λ c. map condition_in done ++ c ∷ []) (sym is) ∙ sym (map-append condition_in done (h ∷ []))
-
-  pub counted-comparison : (others : List Having) (c : GroupValue) → more ≡ ms ++ Some c ∷ [] → others_in ms ≡ length (map condition_in others) → others_in more ≡ length (map condition_in others)
-  counted-comparison others c grown count = ap others_in grown ∙ others_in-comparison ms c ∙ count
-
-  pub shown-other : (others others' : List Having) → more ≡ ms ++ None ∷ [] → others' ≡ others ++ h ∷ []
-      → others_in ms ≡ length (map condition_in others) → members_of ms (map condition_in others) ≡ map condition_in done → members_of more (map condition_in others') ≡ map condition_in (done ++ h ∷ [])
-  shown-other others others' grown behind count shown =
-      (λ k. members_of (grown k) (map condition_in (behind k))) ∙ ap (members_of (ms ++ None ∷ [])) (map-append condition_in others (h ∷ [])) ∙ members-other ms (map condition_in others) (condition_in h) count
-      ∙ ap (λ l. l ++ condition_in h ∷ []) shown ∙ sym (map-append condition_in done (h ∷ []))
-
-  pub counted-other : (others others' : List Having) → more ≡ ms ++ None ∷ [] → others' ≡ others ++ h ∷ [] → others_in ms ≡ length (map condition_in others) → others_in more ≡ length (map condition_in others')
-  counted-other others others' grown behind count =
-      let a : others_in more ≡ suc (others_in ms) = ap others_in grown ∙ others_in-other ms in
-      let b : length (map condition_in others') ≡ length (map condition_in others) + 1 = ap (λ l. length (map condition_in l)) behind ∙ ap length (map-append condition_in others (h ∷ [])) ∙ length-append (map condition_in others) (condition_in h ∷ []) in
-      omega (arith, a, b, count)

@@ -1,5 +1,5 @@
 -- Laws of `and` and `or` of truth values.
-use Rattle.std.proofs.Common.{◌≡◌, refl, Bool, true, false, ◌||◌, ◌&&◌}
+use Rattle.std.proofs.Common.{◌≡◌, refl, Bool, true, false, not, ◌||◌, ◌&&◌}
 
 pub and_regroups : (a b c : Bool) → (a && (b && c)) ≡ ((a && b) && c)
 and_regroups true b c = refl
@@ -22,6 +22,10 @@ pub and_ends : (a b : Bool) → (a && (b && true)) ≡ (a && b)
 and_ends false b = refl
 and_ends true false = refl
 and_ends true true = refl
+
+pub none_of_more : (a b c : Bool) → (not a && (not b && c)) ≡ (not (a || b) && c)
+none_of_more true b c = refl
+none_of_more false b c = refl
 
 pub or_regroups : (a b c : Bool) → (a || (b || c)) ≡ ((a || b) || c)
 or_regroups true b c = refl

@@ -40,19 +40,31 @@ abbrev mutual
   meets_some dims values no_conditions = false
   meets_some dims values (condition c cs) = meets dims values c || meets_some dims values cs
 
--- the members of an `and` or an `or` in their order: the comparisons of aggregations among them, and the others, which stand apart
-abbrev pub members_of : List (Option GroupValue) → List Condition → List Condition
-members_of [] cs = cs
-members_of (Some c ∷ ms) cs = aggregation c ∷ members_of ms cs
-members_of (None ∷ ms) [] = members_of ms []
-members_of (None ∷ ms) (c ∷ cs) = c ∷ members_of ms cs
+-- the members of an `and` or an `or` in their order: those of one form among them, and the others, which stand apart
+abbrev pub members_of : {A : Type 0} → (A → Condition) → List (Option A) → List Condition → List Condition
+members_of form [] cs = cs
+members_of form (Some a ∷ ms) cs = form a ∷ members_of form ms cs
+members_of form (None ∷ ms) [] = members_of form ms []
+members_of form (None ∷ ms) (c ∷ cs) = c ∷ members_of form ms cs
+
+-- a text that the value of a dimension is not
+abbrev pub excluded : DimensionValue → Condition
+excluded c = opposite (dimension c)
+
+-- the members of an `and`, with the comparisons and the excluded texts among them, and those of an `or`, with the comparisons and
+-- the conditions on dimensions
+abbrev pub members_of_every : List (Option GroupValue) → List (Option DimensionValue) → List Condition → List Condition
+members_of_every comparisons exclusions others = members_of aggregation comparisons (members_of excluded exclusions others)
+
+abbrev pub members_of_some : List (Option GroupValue) → List (Option DimensionValue) → List Condition → List Condition
+members_of_some comparisons selectors others = members_of aggregation comparisons (members_of dimension selectors others)
 
 -- one level, with the conditions inside already seen
 abbrev pub condition_step : Having-F Condition → Condition
 condition_step (Having-F.Aggregation c) = aggregation c
 condition_step (Having-F.Dimension c) = dimension c
-condition_step (Having-F.And comparisons others) = every (conditions_of (members_of comparisons others.items))
-condition_step (Having-F.Or comparisons others) = some (conditions_of (members_of comparisons others.items))
+condition_step (Having-F.And comparisons exclusions others) = every (conditions_of (members_of_every comparisons exclusions others.items))
+condition_step (Having-F.Or comparisons selectors others) = some (conditions_of (members_of_some comparisons selectors others.items))
 condition_step (Having-F.Not inner) = opposite (box_value inner)
 
 -- the condition that a `having` stands for

@@ -2,6 +2,7 @@ pub mod Refusal
 pub mod Meeting
 pub mod Bounds
 pub mod Compared
+pub mod LookUps
 pub mod Condition
 pub mod Places
 pub mod LeafOf

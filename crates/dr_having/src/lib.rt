@@ -1,5 +1,5 @@
 //! Conditions on the groups of a groupBy, as `having` asks for them, read from JSON over the outputs of a query. Each is asked
-//! of a group, and many comparisons of one aggregation at once.
+//! of a group, and many comparisons of one aggregation, or many texts of one dimension, at once.
 #![tactic(auto)]
 
 mod arranging;
@@ -15,8 +15,11 @@ mod leaf_reading;
 mod number_set;
 mod output_names;
 mod reading;
+mod selectors;
 mod some_bound;
 mod some_comparison;
+mod text_look_up;
+mod text_set;
 
 pub use comparison::Comparison;
 pub use dimension_value::{DimensionValue, text_at};
@@ -25,4 +28,5 @@ pub use group_value::{GroupValue, number_at};
 pub use having::Having;
 pub use having_error::HavingError;
 pub use output_names::OutputNames;
+pub use selectors::Selectors;
 pub use some_comparison::SomeComparison;

@@ -20,13 +20,14 @@ use Rattle.dr_having.proofs.group_value.GroupValue.TheSendSync as group_value
 use Rattle.dr_having.proofs.dimension_value.DimensionValue.TheSendSync as dimension_value
 use Rattle.dr_having.proofs.every_comparison.EveryComparison.TheSendSync as every_comparison
 use Rattle.dr_having.proofs.some_comparison.SomeComparison.TheSendSync as some_comparison
+use Rattle.dr_having.proofs.selectors.Selectors.TheSendSync as having_selectors
 use Rattle.dr_gran.proofs.gran.Gran.TheSendSync as gran
 
 filter-sync : IsSync (Filter.the_field).row
 filter-sync = filter.sync-Filter test.the_field_sync union.the_sync Vec-sync selectors.the_sync Box-sync
 
 having-sync : IsSync (Having.the_field).row
-having-sync = having.sync-Having group_value.the_field_sync dimension_value.the_field_sync every_comparison.the_sync Vec-sync some_comparison.the_sync Box-sync
+having-sync = having.sync-Having group_value.the_field_sync dimension_value.the_field_sync every_comparison.the_sync having_selectors.the_sync Vec-sync some_comparison.the_sync Box-sync
 
 group-sync : IsSync (GroupBy.the_field).row
 group-sync = search (sendable, crosses, having-sync, limit.the_field_sync, dimensions.the_sync) depth 20

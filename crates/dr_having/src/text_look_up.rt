@@ -1,0 +1,46 @@
+ghost use Rattle.std.specs.Prelude.{◌≡◌, ◌||◌, ℕ, List, IfOk, OnOk, bytes_eq};
+ghost use Rattle.std.specs.List.{list_any};
+ghost use Rattle.dr_having.specs.LookUps.{is_found};
+ghost use Rattle.dr_having.specs.Meeting.{meets_dimension};
+
+use crate::dimension_value::{DimensionValue, text_at};
+use crate::text_set::TextSet;
+use dr_base::Text;
+use std::alloc::{AllocError, Global};
+
+/// The texts that some conditions on the value of one dimension name, and the place of the dimension.
+#[derive(Debug, Drop)]
+pub struct TextLookUp {
+    pub place: usize,
+    pub texts: TextSet,
+}
+
+impl TextLookUp {
+    // The text of one condition.
+    pub(crate) fn of(alloc: Global, condition: &DimensionValue) -> Result<TextLookUp, AllocError>
+        ensures { IfOk result (λ l. (dims : List (List ℕ)) → is_found dims l ≡ meets_dimension condition.now dims) }
+    {
+        let mut texts = TextSet::new(alloc);
+        texts.add(&condition.value)?;
+        Ok(TextLookUp {
+            place: condition.place,
+            texts,
+        })
+    }
+
+    // Adds the text of one more condition.
+    pub(crate) fn add(&mut self, condition: &DimensionValue) -> Result<(), AllocError>
+        ensures place { OnOk result (self.new.place ≡ self.old.place) }
+        ensures more { OnOk result ((value : List ℕ) → list_any (bytes_eq value) self.new.texts ≡ (list_any (bytes_eq value) self.old.texts || bytes_eq value condition.now.value)) }
+    {
+        self.texts.add(&condition.value)
+    }
+
+    /// Whether the value of the dimension is one of the texts. It takes no memory, and expected time by the bytes of the value,
+    /// however many texts there are.
+    pub fn finds(&self, dims: &[Text]) -> bool
+        ensures { result ≡ is_found dims.now self.now }
+    {
+        self.texts.contains(text_at(dims, self.place))
+    }
+}
