@@ -1,14 +1,14 @@
 ghost use Rattle.std.specs.Prelude.{◌≡◌, ◌<◌, ◌&&◌, ℕ, false, true, not, length, map, get_or, OnOk, IfOk};
 ghost use Rattle.dr_time.specs.Union.{union_holds};
-ghost use Rattle.dr_filter.specs.Condition.{condition_in, conditions_in, conditions_of, members_of, every_matches, some_matches, matches};
-ghost use Rattle.dr_filter.specs.LookUps.{some_holds};
+ghost use Rattle.dr_filter.specs.Condition.{condition_in, conditions_in, conditions_of, members_of, selects, ranges, every_matches, some_matches, matches};
+ghost use Rattle.dr_filter.specs.LookUps.{every_holds, some_holds};
 ghost use Rattle.dr_filter.specs.Match.{holds_of, passes};
 ghost use Rattle.dr_image.specs.Checked.{column_at};
 ghost use Rattle.dr_columns.specs.Rows.{Narrows, key_at, meets};
 
 use crate::cells::{known_place, value_at};
 use crate::telling::{all_true, drop_where, keep_true};
-use dr_filter::{DimensionTest, Filter, Selectors, ValueTest};
+use dr_filter::{DimensionTest, EveryBound, Filter, Selectors, ValueTest};
 use dr_image::SegmentView;
 use dr_time::Union;
 use std::alloc::{AllocError, Global};
@@ -16,7 +16,8 @@ use std::alloc::{AllocError, Global};
 /// Makes false what is told of the rows of an image that a filter doesn't keep. A test of a dimension is asked once for each value
 /// of the dimension's dictionary, and the time of a row once for each run of equal times. The only error is that memory ran out.
 /// It takes time by the tests of the filter, each by the rows and as [`ValueTest::passes`] by the values; the selectors among the
-/// members of one `or` count as one test for each dimension that they name.
+/// members of one `or`, those of which one `and` has the `not`, and the bounds among the members of one `and` count as one test
+/// each for each dimension that they name.
 #[cycle(narrowing)]
 pub fn narrow(
     alloc: Global,
@@ -33,7 +34,9 @@ pub fn narrow(
             keep_held(view, union, told);
             Ok(())
         }
-        Filter::And(filters) => narrow_every(alloc, view, filters.as_slice(), told),
+        Filter::And(denied, bounds, filters) => {
+            narrow_every(alloc, view, denied, bounds, filters.as_slice(), told)
+        }
         Filter::Or(selectors, filters) => {
             let none = meet_none(alloc, view, selectors, filters.as_slice())?;
             drop_where(told, none.as_slice());
@@ -48,9 +51,29 @@ pub fn narrow(
     }
 }
 
-// Makes false what is told of the rows that don't meet all of some filters.
+// Makes false what is told of the rows of which one of some selectors holds, or not all of some bounds, or which don't meet all of
+// some filters, which together are the members of an `and`.
 #[cycle(narrowing)]
 fn narrow_every(
+    alloc: Global,
+    view: &SegmentView<'_>,
+    denied: &Selectors,
+    bounds: &EveryBound,
+    filters: &[Filter],
+    told: &mut [bool],
+) -> Result<(), AllocError>
+    requires { length told.old ≡ length view.now.times }
+    ensures { OnOk result (Narrows (λ i. every_matches (key_at view.now i).time (key_at view.now i).dims (conditions_of (members_of (selects false) denied.now (members_of ranges bounds.now (map condition_in filters.now))))) told.old told.new) }
+{
+    drop_passing(alloc, view, denied.look_ups(), told)?;
+    keep_passing_all(alloc, view, bounds.look_ups(), told)?;
+    narrow_others(alloc, view, filters, told)?;
+    Ok(())
+}
+
+// Makes false what is told of the rows that don't meet all of some filters.
+#[cycle(narrowing)]
+fn narrow_others(
     alloc: Global,
     view: &SegmentView<'_>,
     filters: &[Filter],
@@ -75,7 +98,7 @@ fn meet_none(
     filters: &[Filter],
 ) -> Result<Vec<bool>, AllocError>
     ensures count { IfOk result (λ none. length none.items ≡ length view.now.times) }
-    ensures each { IfOk result (λ none. (i : ℕ) → i < length view.now.times → get_or none.items i false ≡ not (some_matches (key_at view.now i).time (key_at view.now i).dims (conditions_of (members_of selectors.now (map condition_in filters.now))))) }
+    ensures each { IfOk result (λ none. (i : ℕ) → i < length view.now.times → get_or none.items i false ≡ not (some_matches (key_at view.now i).time (key_at view.now i).dims (conditions_of (members_of (selects true) selectors.now (map condition_in filters.now))))) }
 {
     let mut none = pass_none(alloc, view, selectors.look_ups())?;
     for filter in filters {
@@ -84,6 +107,39 @@ fn meet_none(
         drop_where(none.as_mut_slice(), met.as_slice());
     }
     Ok(none)
+}
+
+// Makes false what is told of the rows that pass one of some tests.
+fn drop_passing(
+    alloc: Global,
+    view: &SegmentView<'_>,
+    tests: &[DimensionTest],
+    told: &mut [bool],
+) -> Result<(), AllocError>
+    requires { length told.old ≡ length view.now.times }
+    ensures { OnOk result (Narrows (λ i. not (some_holds (key_at view.now i).dims tests.now)) told.old told.new) }
+{
+    for test in tests {
+        let mut met = all_true(alloc, view)?;
+        keep_passing(alloc, view, test, met.as_mut_slice())?;
+        drop_where(told, met.as_slice());
+    }
+    Ok(())
+}
+
+// Makes false what is told of the rows that don't pass all of some tests.
+fn keep_passing_all(
+    alloc: Global,
+    view: &SegmentView<'_>,
+    tests: &[DimensionTest],
+    told: &mut [bool],
+) -> Result<(), AllocError>
+    ensures { OnOk result (Narrows (λ i. every_holds (key_at view.now i).dims tests.now) told.old told.new) }
+{
+    for test in tests {
+        keep_passing(alloc, view, test, told)?;
+    }
+    Ok(())
 }
 
 // Of each row, whether it passes none of some tests.

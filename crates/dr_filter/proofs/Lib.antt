@@ -6,4 +6,6 @@ pub mod Places
 pub mod PieceParts
 pub mod DistinctValues
 pub mod Levels
+pub mod Truths
 pub mod LookedUp
+pub mod Ends

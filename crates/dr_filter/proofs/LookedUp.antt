@@ -1,39 +1,17 @@
--- The selectors of an `or`, looked up together, and the members of which they are taken.
-use Rattle.std.proofs.Common.{◌≡◌, ◌∙◌, sym, refl, ap, ℕ, zero, suc, ◌+◌, ◌<◌, Bool, true, false, ◌||◌, List, [], ◌∷◌, ◌++◌, length, get_or, set, Option, Some, None, map, length-append, bytes_eq, ℤ, arith}
-use Rattle.std.specs.List.{list_any}
+-- The members of an `and` or an `or` that are asked together, and the members of which they are taken.
+use Rattle.std.proofs.Common.{◌≡◌, ◌∙◌, sym, refl, ap, ℕ, zero, suc, ◌+◌, ◌<◌, Bool, true, false, not, ◌||◌, ◌&&◌, List, [], ◌∷◌, ◌++◌, length, get_or, set, Option, Some, None, map, length-append, bytes_eq, ℤ, arith}
+use Rattle.std.specs.List.{list_any, list_all}
 use Rattle.std.proofs.lemmas.List.{map-append}
-use Rattle.std.proofs.lemmas.List.Folds.{list_any-append}
+use Rattle.std.proofs.lemmas.List.Folds.{list_any-append, list_all-append}
+use Rattle.dr_filter.specs.declared.bound.Bound.{Bound}
 use Rattle.dr_filter.specs.declared.dimension_test.DimensionTest.{DimensionTest}
 use Rattle.dr_filter.specs.declared.filter.Filter.{Filter}
 use Rattle.dr_filter.specs.declared.selector.Selector.{Selector}
 use Rattle.dr_filter.specs.declared.value_test.ValueTest.{ValueTest}
-use Rattle.dr_filter.specs.Condition.{Condition, dimension, condition_in, conditions_of, matches, some_matches, members_of}
-use Rattle.dr_filter.specs.LookUps.{as_test, tests_in, some_holds, AreLookedUp, IsTestOf}
-use Rattle.dr_filter.specs.Match.{passes, value_at, holds_of}
-
--- ---- truths
-
-or_regroups : (a b c : Bool) → (a || (b || c)) ≡ ((a || b) || c)
-or_regroups true b c = refl
-or_regroups false b c = refl
-
-or_swaps : (a b c : Bool) → ((a || b) || c) ≡ ((a || c) || b)
-or_swaps true b c = refl
-or_swaps false true true = refl
-or_swaps false true false = refl
-or_swaps false false true = refl
-or_swaps false false false = refl
-
-or_moves : (a b c : Bool) → (a || (b || c)) ≡ (b || (a || c))
-or_moves true true c = refl
-or_moves true false c = refl
-or_moves false true c = refl
-or_moves false false c = refl
-
-or_ends : (a b : Bool) → (a || (b || false)) ≡ (a || b)
-or_ends true b = refl
-or_ends false true = refl
-or_ends false false = refl
+use Rattle.dr_filter.specs.Condition.{Condition, condition_in, conditions_of, matches, every_matches, some_matches, members_of, selects, ranges}
+use Rattle.dr_filter.specs.LookUps.{as_test, as_range, tests_in, some_holds, every_holds, AreLookedUp, IsTestOf}
+use Rattle.dr_filter.specs.Match.{lies_within, passes, value_at, holds_of}
+use Rattle.dr_filter.proofs.Truths.{or_regroups, or_swaps, or_moves, or_ends, and_regroups, and_swaps, and_moves, and_ends, neither_and}
 
 -- ---- tests
 
@@ -43,6 +21,12 @@ module _ (f : DimensionTest → Bool) (t new : DimensionTest) (b : Bool) where
   list_any-set [] i lt is h = absurd (omega (arith, lt))
   list_any-set (x ∷ xs) zero lt is h = ap (λ a. a || list_any f xs) (h ∙ ap (λ z. f z || b) is) ∙ or_swaps (f x) b (list_any f xs)
   list_any-set (x ∷ xs) (suc i) lt is h = ap (λ a. f x || a) (list_any-set xs i (omega (arith, lt)) is h) ∙ or_regroups (f x) (list_any f xs) b
+
+  -- one test asks one thing more than the one in whose place it is put
+  list_all-set : (tests : List DimensionTest) (i : ℕ) → i < length tests → t ≡ get_or tests i t → f new ≡ (f t && b) → list_all f (set tests i new) ≡ (list_all f tests && b)
+  list_all-set [] i lt is h = absurd (omega (arith, lt))
+  list_all-set (x ∷ xs) zero lt is h = ap (λ a. a && list_all f xs) (h ∙ ap (λ z. f z && b) is) ∙ and_swaps (f x) b (list_all f xs)
+  list_all-set (x ∷ xs) (suc i) lt is h = ap (λ a. f x && a) (list_all-set xs i (omega (arith, lt)) is h) ∙ and_regroups (f x) (list_all f xs) b
 
 pub added-there : (tests : List DimensionTest) (i : ℕ) (t : DimensionTest) (new : ValueTest) (s : Selector) → IsTestOf tests i s.place → t ≡ get_or tests i t
     → ((value : List ℕ) → passes new value ≡ (passes t.test value || bytes_eq value s.text)) → (dims : List (List ℕ)) → some_holds dims (set tests i (record { place = t.place; test = new })) ≡ (some_holds dims tests || holds_of (as_test s) dims)
@@ -55,73 +39,119 @@ pub added-behind : (tests : List DimensionTest) (t : DimensionTest) (s : Selecto
 added-behind tests t s dims is =
     list_any-append (λ x. holds_of x dims) tests (t ∷ []) ∙ or_ends (some_holds dims tests) (holds_of t dims) ∙ ap (λ b. some_holds dims tests || b) is
 
+pub narrowed-there : (tests : List DimensionTest) (i : ℕ) (t : DimensionTest) (new : ValueTest) (b : Bound) → IsTestOf tests i b.place → t ≡ get_or tests i t
+    → ((value : List ℕ) → passes new value ≡ (passes t.test value && lies_within b.bounds value)) → (dims : List (List ℕ)) → every_holds dims (set tests i (record { place = t.place; test = new })) ≡ (every_holds dims tests && holds_of (as_range b) dims)
+narrowed-there tests i t new b at is more dims =
+    let here : t.place ≡ b.place = ap (λ (x : DimensionTest). x.place) is ∙ at.1 t in
+    list_all-set (λ x. holds_of x dims) t (record { place = t.place; test = new }) (holds_of (as_range b) dims) tests i at.0 is
+    (more (value_at t.place dims) ∙ ap (λ p. holds_of t dims && lies_within b.bounds (value_at p dims)) here)
+
+pub narrowed-behind : (tests : List DimensionTest) (t : DimensionTest) (dims : List (List ℕ)) → every_holds dims (tests ++ t ∷ []) ≡ (every_holds dims tests && holds_of t dims)
+narrowed-behind tests t dims =
+    list_all-append (λ x. holds_of x dims) tests (t ∷ []) ∙ and_ends (every_holds dims tests) (holds_of t dims)
+
 -- ---- members
 
-tests_in-selector : (ms : List (Option Selector)) (s : Selector) → tests_in (ms ++ Some s ∷ []) ≡ tests_in ms ++ as_test s ∷ []
+tests_in-selector : (ms : List (Option Selector)) (s : Selector) → tests_in as_test (ms ++ Some s ∷ []) ≡ tests_in as_test ms ++ as_test s ∷ []
 tests_in-selector [] s = refl
 tests_in-selector (Some m ∷ ms) s = ap (λ ts. as_test m ∷ ts) (tests_in-selector ms s)
 tests_in-selector (None ∷ ms) s = tests_in-selector ms s
 
-tests_in-other : (ms : List (Option Selector)) → tests_in (ms ++ None ∷ []) ≡ tests_in ms
+tests_in-other : (ms : List (Option Selector)) → tests_in as_test (ms ++ None ∷ []) ≡ tests_in as_test ms
 tests_in-other [] = refl
 tests_in-other (Some m ∷ ms) = ap (λ ts. as_test m ∷ ts) (tests_in-other ms)
 tests_in-other (None ∷ ms) = tests_in-other ms
 
--- how many members are no selectors
-abbrev pub others_in : List (Option Selector) → ℕ
-others_in [] = zero
-others_in (Some s ∷ ms) = others_in ms
-others_in (None ∷ ms) = suc (others_in ms)
-
-pub others_in-selector : (ms : List (Option Selector)) (s : Selector) → others_in (ms ++ Some s ∷ []) ≡ others_in ms
-others_in-selector [] s = refl
-others_in-selector (Some m ∷ ms) s = others_in-selector ms s
-others_in-selector (None ∷ ms) s = ap suc (others_in-selector ms s)
-
-pub others_in-other : (ms : List (Option Selector)) → others_in (ms ++ None ∷ []) ≡ suc (others_in ms)
-others_in-other [] = refl
-others_in-other (Some m ∷ ms) = others_in-other ms
-others_in-other (None ∷ ms) = ap suc (others_in-other ms)
-
 pub looked_up-selector : (old new : List DimensionTest) (ms : List (Option Selector)) (s : Selector) → AreLookedUp old ms → ((dims : List (List ℕ)) → some_holds dims new ≡ (some_holds dims old || holds_of (as_test s) dims)) → AreLookedUp new (ms ++ Some s ∷ [])
 looked_up-selector old new ms s were added = λ dims.
-    added dims ∙ ap (λ b. b || holds_of (as_test s) dims) (were dims) ∙ sym (ap (some_holds dims) (tests_in-selector ms s) ∙ added-behind (tests_in ms) (as_test s) s dims refl)
+    added dims ∙ ap (λ b. b || holds_of (as_test s) dims) (were dims) ∙ sym (ap (some_holds dims) (tests_in-selector ms s) ∙ added-behind (tests_in as_test ms) (as_test s) s dims refl)
 
 pub looked_up-other : (tests : List DimensionTest) (ms : List (Option Selector)) → AreLookedUp tests ms → AreLookedUp tests (ms ++ None ∷ [])
 looked_up-other tests ms were = λ dims. were dims ∙ sym (ap (some_holds dims) (tests_in-other ms))
 
-pub members-selector : (ms : List (Option Selector)) (cs : List Condition) (s : Selector) → others_in ms ≡ length cs → members_of (ms ++ Some s ∷ []) cs ≡ members_of ms cs ++ dimension (as_test s) ∷ []
-members-selector [] [] s h = refl
-members-selector [] (c ∷ cs) s h = absurd (omega (arith, h))
-members-selector (Some m ∷ ms) cs s h = ap (λ l. dimension (as_test m) ∷ l) (members-selector ms cs s h)
-members-selector (None ∷ ms) [] s h = absurd (omega (arith, h))
-members-selector (None ∷ ms) (c ∷ cs) s h = ap (λ l. c ∷ l) (members-selector ms cs s (omega (arith, h)))
+module _ {A : Type 0} where
+  -- how many members stand apart
+  abbrev pub others_in : List (Option A) → ℕ
+  others_in [] = zero
+  others_in (Some m ∷ ms) = others_in ms
+  others_in (None ∷ ms) = suc (others_in ms)
 
-pub members-other : (ms : List (Option Selector)) (cs : List Condition) (o : Condition) → others_in ms ≡ length cs → members_of (ms ++ None ∷ []) (cs ++ o ∷ []) ≡ members_of ms cs ++ o ∷ []
-members-other [] [] o h = refl
-members-other [] (c ∷ cs) o h = absurd (omega (arith, h))
-members-other (Some m ∷ ms) cs o h = ap (λ l. dimension (as_test m) ∷ l) (members-other ms cs o h)
-members-other (None ∷ ms) [] o h = absurd (omega (arith, h))
-members-other (None ∷ ms) (c ∷ cs) o h = ap (λ l. c ∷ l) (members-other ms cs o (omega (arith, h)))
+  others_in-found : (ms : List (Option A)) (m : A) → others_in (ms ++ Some m ∷ []) ≡ others_in ms
+  others_in-found [] m = refl
+  others_in-found (Some n ∷ ms) m = others_in-found ms m
+  others_in-found (None ∷ ms) m = ap suc (others_in-found ms m)
+
+  others_in-other : (ms : List (Option A)) → others_in (ms ++ None ∷ []) ≡ suc (others_in ms)
+  others_in-other [] = refl
+  others_in-other (Some n ∷ ms) = others_in-other ms
+  others_in-other (None ∷ ms) = ap suc (others_in-other ms)
+
+  module _ (meant : A → Condition) where
+    members-found : (ms : List (Option A)) (cs : List Condition) (m : A) → others_in ms ≡ length cs → members_of meant (ms ++ Some m ∷ []) cs ≡ members_of meant ms cs ++ meant m ∷ []
+    members-found [] [] m h = refl
+    members-found [] (c ∷ cs) m h = absurd (omega (arith, h))
+    members-found (Some n ∷ ms) cs m h = ap (λ l. meant n ∷ l) (members-found ms cs m h)
+    members-found (None ∷ ms) [] m h = absurd (omega (arith, h))
+    members-found (None ∷ ms) (c ∷ cs) m h = ap (λ l. c ∷ l) (members-found ms cs m (omega (arith, h)))
+
+    members-other : (ms : List (Option A)) (cs : List Condition) (o : Condition) → others_in ms ≡ length cs → members_of meant (ms ++ None ∷ []) (cs ++ o ∷ []) ≡ members_of meant ms cs ++ o ∷ []
+    members-other [] [] o h = refl
+    members-other [] (c ∷ cs) o h = absurd (omega (arith, h))
+    members-other (Some n ∷ ms) cs o h = ap (λ l. meant n ∷ l) (members-other ms cs o h)
+    members-other (None ∷ ms) [] o h = absurd (omega (arith, h))
+    members-other (None ∷ ms) (c ∷ cs) o h = ap (λ l. c ∷ l) (members-other ms cs o (omega (arith, h)))
 
 -- ---- rows
 
 -- some member matches where one of the selectors holds, or one of the others matches
 pub some_matches-members : (time : ℤ) (dims : List (List ℕ)) (ms : List (Option Selector)) (cs : List Condition)
-    → some_matches time dims (conditions_of (members_of ms cs)) ≡ (some_holds dims (tests_in ms) || some_matches time dims (conditions_of cs))
+    → some_matches time dims (conditions_of (members_of (selects true) ms cs)) ≡ (some_holds dims (tests_in as_test ms) || some_matches time dims (conditions_of cs))
 some_matches-members time dims [] cs = refl
 some_matches-members time dims (Some s ∷ ms) cs =
-    ap (λ b. holds_of (as_test s) dims || b) (some_matches-members time dims ms cs) ∙ or_regroups (holds_of (as_test s) dims) (some_holds dims (tests_in ms)) (some_matches time dims (conditions_of cs))
+    ap (λ b. holds_of (as_test s) dims || b) (some_matches-members time dims ms cs) ∙ or_regroups (holds_of (as_test s) dims) (some_holds dims (tests_in as_test ms)) (some_matches time dims (conditions_of cs))
 some_matches-members time dims (None ∷ ms) [] = some_matches-members time dims ms []
 some_matches-members time dims (None ∷ ms) (c ∷ cs) =
-    ap (λ b. matches time dims c || b) (some_matches-members time dims ms cs) ∙ or_moves (matches time dims c) (some_holds dims (tests_in ms)) (some_matches time dims (conditions_of cs))
+    ap (λ b. matches time dims c || b) (some_matches-members time dims ms cs) ∙ or_moves (matches time dims c) (some_holds dims (tests_in as_test ms)) (some_matches time dims (conditions_of cs))
+
+-- every member matches where none of the denied selectors holds, and all the others match
+pub every_matches-denied : (time : ℤ) (dims : List (List ℕ)) (ms : List (Option Selector)) (cs : List Condition)
+    → every_matches time dims (conditions_of (members_of (selects false) ms cs)) ≡ (not (some_holds dims (tests_in as_test ms)) && every_matches time dims (conditions_of cs))
+every_matches-denied time dims [] cs = refl
+every_matches-denied time dims (Some s ∷ ms) cs =
+    ap (λ b. not (holds_of (as_test s) dims) && b) (every_matches-denied time dims ms cs) ∙ neither_and (holds_of (as_test s) dims) (some_holds dims (tests_in as_test ms)) (every_matches time dims (conditions_of cs))
+every_matches-denied time dims (None ∷ ms) [] = every_matches-denied time dims ms []
+every_matches-denied time dims (None ∷ ms) (c ∷ cs) =
+    ap (λ b. matches time dims c && b) (every_matches-denied time dims ms cs) ∙ and_moves (matches time dims c) (not (some_holds dims (tests_in as_test ms))) (every_matches time dims (conditions_of cs))
+
+-- every member matches where all the bounds hold, and all the others match
+pub every_matches-ranges : (time : ℤ) (dims : List (List ℕ)) (ms : List (Option Bound)) (cs : List Condition)
+    → every_matches time dims (conditions_of (members_of ranges ms cs)) ≡ (every_holds dims (tests_in as_range ms) && every_matches time dims (conditions_of cs))
+every_matches-ranges time dims [] cs = refl
+every_matches-ranges time dims (Some b ∷ ms) cs =
+    ap (λ a. holds_of (as_range b) dims && a) (every_matches-ranges time dims ms cs) ∙ and_regroups (holds_of (as_range b) dims) (every_holds dims (tests_in as_range ms)) (every_matches time dims (conditions_of cs))
+every_matches-ranges time dims (None ∷ ms) [] = every_matches-ranges time dims ms []
+every_matches-ranges time dims (None ∷ ms) (c ∷ cs) =
+    ap (λ a. matches time dims c && a) (every_matches-ranges time dims ms cs) ∙ and_moves (matches time dims c) (every_holds dims (tests_in as_range ms)) (every_matches time dims (conditions_of cs))
 
 module _ (time : ℤ) (dims : List (List ℕ)) (ms : List (Option Selector)) (cs : List Condition) where
-  pub matches-selectors : some_holds dims (tests_in ms) ≡ true → some_matches time dims (conditions_of (members_of ms cs)) ≡ true
+  pub matches-selectors : some_holds dims (tests_in as_test ms) ≡ true → some_matches time dims (conditions_of (members_of (selects true) ms cs)) ≡ true
   matches-selectors holds = some_matches-members time dims ms cs ∙ ap (λ b. b || some_matches time dims (conditions_of cs)) holds
 
-  pub matches-others : some_holds dims (tests_in ms) ≡ false → some_matches time dims (conditions_of (members_of ms cs)) ≡ some_matches time dims (conditions_of cs)
+  pub matches-others : some_holds dims (tests_in as_test ms) ≡ false → some_matches time dims (conditions_of (members_of (selects true) ms cs)) ≡ some_matches time dims (conditions_of cs)
   matches-others none = some_matches-members time dims ms cs ∙ ap (λ b. b || some_matches time dims (conditions_of cs)) none
+
+  pub matches-denied : some_holds dims (tests_in as_test ms) ≡ true → every_matches time dims (conditions_of (members_of (selects false) ms cs)) ≡ false
+  matches-denied holds = every_matches-denied time dims ms cs ∙ ap (λ b. not b && every_matches time dims (conditions_of cs)) holds
+
+  pub matches-allowed : some_holds dims (tests_in as_test ms) ≡ false → every_matches time dims (conditions_of (members_of (selects false) ms cs)) ≡ every_matches time dims (conditions_of cs)
+  matches-allowed none = every_matches-denied time dims ms cs ∙ ap (λ b. not b && every_matches time dims (conditions_of cs)) none
+
+module _ (time : ℤ) (dims : List (List ℕ)) (ms : List (Option Bound)) (cs : List Condition) where
+  pub matches-outside : every_holds dims (tests_in as_range ms) ≡ false → every_matches time dims (conditions_of (members_of ranges ms cs)) ≡ false
+  matches-outside outside = every_matches-ranges time dims ms cs ∙ ap (λ b. b && every_matches time dims (conditions_of cs)) outside
+
+  pub matches-inside : every_holds dims (tests_in as_range ms) ≡ true → every_matches time dims (conditions_of (members_of ranges ms cs)) ≡ every_matches time dims (conditions_of cs)
+  matches-inside inside = every_matches-ranges time dims ms cs ∙ ap (λ b. b && every_matches time dims (conditions_of cs)) inside
 
 -- ---- the members of a list of filters in turn
 
@@ -129,17 +159,20 @@ pub nothing_left : {A : Type 0} (xs : List A) → length xs ≡ 0 → xs ≡ []
 nothing_left [] h = refl
 nothing_left (x ∷ xs) h = absurd (omega (arith, h))
 
-module _ (done : List Filter) (f : Filter) (ms more : List (Option Selector)) where
-  pub shown-selector : (others : List Filter) (s : Selector) → condition_in f ≡ dimension (as_test s) → more ≡ ms ++ Some s ∷ []
-      → others_in ms ≡ length (map condition_in others) → members_of ms (map condition_in others) ≡ map condition_in done → members_of more (map condition_in others) ≡ map condition_in (done ++ f ∷ [])
-  shown-selector others s is grown count shown =
-      ap (λ m. members_of m (map condition_in others)) grown ∙ members-selector ms (map condition_in others) s count ∙ ap (λ l. l ++ dimension (as_test s) ∷ []) shown
+module _ {A : Type 0} (meant : A → Condition) (done : List Filter) (f : Filter) (ms more : List (Option A)) where
+  pub shown-found : (others : List Filter) (m : A) → condition_in f ≡ meant m → more ≡ ms ++ Some m ∷ []
+      → others_in ms ≡ length (map condition_in others) → members_of meant ms (map condition_in others) ≡ map condition_in done → members_of meant more (map condition_in others) ≡ map condition_in (done ++ f ∷ [])
+  shown-found others m is grown count shown =
+      ap (λ k. members_of meant k (map condition_in others)) grown ∙ members-found meant ms (map condition_in others) m count ∙ ap (λ l. l ++ meant m ∷ []) shown
       ∙ ap (λ c. map condition_in done ++ c ∷ []) (sym is) ∙ sym (map-append condition_in done (f ∷ []))
 
+  pub counted-found : (others : List Filter) (m : A) → more ≡ ms ++ Some m ∷ [] → others_in ms ≡ length (map condition_in others) → others_in more ≡ length (map condition_in others)
+  counted-found others m grown count = ap others_in grown ∙ others_in-found ms m ∙ count
+
   pub shown-other : (others others' : List Filter) → more ≡ ms ++ None ∷ [] → others' ≡ others ++ f ∷ []
-      → others_in ms ≡ length (map condition_in others) → members_of ms (map condition_in others) ≡ map condition_in done → members_of more (map condition_in others') ≡ map condition_in (done ++ f ∷ [])
+      → others_in ms ≡ length (map condition_in others) → members_of meant ms (map condition_in others) ≡ map condition_in done → members_of meant more (map condition_in others') ≡ map condition_in (done ++ f ∷ [])
   shown-other others others' grown behind count shown =
-      (λ k. members_of (grown k) (map condition_in (behind k))) ∙ ap (members_of (ms ++ None ∷ [])) (map-append condition_in others (f ∷ [])) ∙ members-other ms (map condition_in others) (condition_in f) count
+      (λ k. members_of meant (grown k) (map condition_in (behind k))) ∙ ap (members_of meant (ms ++ None ∷ [])) (map-append condition_in others (f ∷ [])) ∙ members-other meant ms (map condition_in others) (condition_in f) count
       ∙ ap (λ l. l ++ condition_in f ∷ []) shown ∙ sym (map-append condition_in done (f ∷ []))
 
   pub counted-other : (others others' : List Filter) → more ≡ ms ++ None ∷ [] → others' ≡ others ++ f ∷ [] → others_in ms ≡ length (map condition_in others) → others_in more ≡ length (map condition_in others')

@@ -2,11 +2,12 @@
 use Rattle.std.specs.Prelude.{ℕ, ℤ, Bool, true, false, not, ◌||◌, ◌&&◌, List, [], ◌∷◌, Option, Some, None, map, box_value}
 use Rattle.dr_time.specs.declared.interval.Interval.{Interval}
 use Rattle.dr_time.specs.Union.{union_holds}
+use Rattle.dr_filter.specs.declared.bound.Bound.{Bound}
 use Rattle.dr_filter.specs.declared.dimension_test.DimensionTest.{DimensionTest}
 use Rattle.dr_filter.specs.declared.filter.Filter.{Filter, fold-Filter}
 use Rattle.dr_filter.specs.declared.filter.Filter.TheOpen.{Filter-F}
 use Rattle.dr_filter.specs.declared.selector.Selector.{Selector}
-use Rattle.dr_filter.specs.LookUps.{as_test}
+use Rattle.dr_filter.specs.LookUps.{as_test, as_range}
 use Rattle.dr_filter.specs.Match.{holds_of}
 
 mutual
@@ -43,19 +44,28 @@ abbrev mutual
   some_matches time dims no_conditions = false
   some_matches time dims (condition c cs) = matches time dims c || some_matches time dims cs
 
--- the members of an `or` in their order: the selectors among them, and the others, which stand apart
-abbrev pub members_of : List (Option Selector) → List Condition → List Condition
-members_of [] cs = cs
-members_of (Some s ∷ ms) cs = dimension (as_test s) ∷ members_of ms cs
-members_of (None ∷ ms) [] = members_of ms []
-members_of (None ∷ ms) (c ∷ cs) = c ∷ members_of ms cs
+-- what a selector stands for: that it holds, or that it doesn't
+abbrev pub selects : Bool → Selector → Condition
+selects true s = dimension (as_test s)
+selects false s = opposite (dimension (as_test s))
+
+-- what a bound stands for
+abbrev pub ranges : Bound → Condition
+ranges b = dimension (as_range b)
+
+-- the members of an `and` or an `or` in their order: those that are asked together, and the others, which stand apart
+abbrev pub members_of : {A : Type 0} → (A → Condition) → List (Option A) → List Condition → List Condition
+members_of meant [] cs = cs
+members_of meant (Some m ∷ ms) cs = meant m ∷ members_of meant ms cs
+members_of meant (None ∷ ms) [] = members_of meant ms []
+members_of meant (None ∷ ms) (c ∷ cs) = c ∷ members_of meant ms cs
 
 -- one level, with the filters inside already seen as conditions
 abbrev pub condition_step : Filter-F Condition → Condition
 condition_step (Filter-F.Dimension test) = dimension test
 condition_step (Filter-F.Interval union) = interval union
-condition_step (Filter-F.And filters) = every (conditions_of filters.items)
-condition_step (Filter-F.Or selectors filters) = some (conditions_of (members_of selectors filters.items))
+condition_step (Filter-F.And denied bounds filters) = every (conditions_of (members_of (selects false) denied (members_of ranges bounds filters.items)))
+condition_step (Filter-F.Or selectors filters) = some (conditions_of (members_of (selects true) selectors filters.items))
 condition_step (Filter-F.Not filter) = opposite (box_value filter)
 
 -- the condition that a filter stands for

@@ -5,6 +5,7 @@ pub mod Letters
 pub mod Pieces
 pub mod Left
 pub mod Match
+pub mod Ends
 pub mod LookUps
 pub mod Condition
 pub mod Values

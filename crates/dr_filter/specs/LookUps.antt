@@ -1,28 +1,41 @@
--- The selectors among the members of an `or`.
+-- The members of an `and` or an `or` that are asked together.
 use Rattle.std.specs.Prelude.{◌≡◌, ℕ, ◌<◌, Bool, List, [], ◌∷◌, Option, Some, None, length, get_or}
-use Rattle.std.specs.List.{list_any}
+use Rattle.std.specs.List.{list_any, list_all}
+use Rattle.dr_filter.specs.declared.bound.Bound.{Bound}
 use Rattle.dr_filter.specs.declared.dimension_test.DimensionTest.{DimensionTest}
 use Rattle.dr_filter.specs.declared.selector.Selector.{Selector}
-use Rattle.dr_filter.specs.declared.value_test.ValueTest.TheVariants.{Equals}
+use Rattle.dr_filter.specs.declared.value_test.ValueTest.TheVariants.{Equals, Within}
 use Rattle.dr_filter.specs.Match.{holds_of}
 
 -- a selector is a test of its dimension
 abbrev pub as_test : Selector → DimensionTest
 as_test s = record { place = s.place; test = Equals s.text }
 
--- the selectors among some members
-abbrev pub tests_in : List (Option Selector) → List DimensionTest
-tests_in [] = []
-tests_in (Some s ∷ ms) = as_test s ∷ tests_in ms
-tests_in (None ∷ ms) = tests_in ms
+-- a bound is a test of its dimension
+abbrev pub as_range : Bound → DimensionTest
+as_range b = record { place = b.place; test = Within b.bounds }
+
+-- the tests that are among some members
+abbrev pub tests_in : {A : Type 0} → (A → DimensionTest) → List (Option A) → List DimensionTest
+tests_in test [] = []
+tests_in test (Some m ∷ ms) = test m ∷ tests_in test ms
+tests_in test (None ∷ ms) = tests_in test ms
 
 -- one of some tests holds of these dimension values
 abbrev pub some_holds : List (List ℕ) → List DimensionTest → Bool
 some_holds dims tests = list_any (λ t. holds_of t dims) tests
 
--- some tests tell of all dimension values what the selectors tell
+-- all of some tests hold of these dimension values
+abbrev pub every_holds : List (List ℕ) → List DimensionTest → Bool
+every_holds dims tests = list_all (λ t. holds_of t dims) tests
+
+-- some tests tell of all dimension values what the selectors tell, of which one is to hold
 abbrev pub AreLookedUp : List DimensionTest → List (Option Selector) → Type 0
-AreLookedUp tests ms = (dims : List (List ℕ)) → some_holds dims tests ≡ some_holds dims (tests_in ms)
+AreLookedUp tests ms = (dims : List (List ℕ)) → some_holds dims tests ≡ some_holds dims (tests_in as_test ms)
+
+-- some tests tell of all dimension values what the bounds tell, which are all to hold
+abbrev pub AreEvery : List DimensionTest → List (Option Bound) → Type 0
+AreEvery tests ms = (dims : List (List ℕ)) → every_holds dims tests ≡ every_holds dims (tests_in as_range ms)
 
 -- there is a test of a dimension at a place in a list
 abbrev pub IsTestOf : List DimensionTest → ℕ → Option ℕ → Type 0

@@ -1,21 +1,45 @@
 ghost use Rattle.std.specs.Prelude.{◌≡◌, map, IfOk, IfSome};
-ghost use Rattle.dr_filter.specs.Condition.{condition_in, conditions_of, members_of, some, dimension};
-ghost use Rattle.dr_filter.specs.LookUps.{as_test};
+ghost use Rattle.dr_filter.specs.Condition.{condition_in, conditions_of, members_of, every, some, dimension, opposite, selects, ranges};
+ghost use Rattle.dr_filter.specs.LookUps.{as_test, as_range};
 
+use crate::bound::Bound;
+use crate::every_bound::EveryBound;
 use crate::filter::Filter;
 use crate::selector::Selector;
 use crate::selectors::Selectors;
 use crate::value_test::ValueTest;
 use std::alloc::{AllocError, Global};
 
+/// The `and` of some filters, in their order. The only error is that memory ran out.
+pub fn every_of(alloc: Global, filters: Vec<Filter>) -> Result<Filter, AllocError>
+    ensures { IfOk result (λ f. condition_in f ≡ every (conditions_of (map condition_in filters.items))) }
+{
+    let (denied, rest) = selectors_apart(alloc, filters, false)?;
+    let (members, others) = bounds_apart(alloc, rest)?;
+    let bounds = EveryBound::of(alloc, members)?;
+    Ok(Filter::And(denied, bounds, others))
+}
+
 /// The `or` of some filters, in their order. The only error is that memory ran out.
 pub fn one_of(alloc: Global, filters: Vec<Filter>) -> Result<Filter, AllocError>
     ensures { IfOk result (λ f. condition_in f ≡ some (conditions_of (map condition_in filters.items))) }
 {
+    let (selectors, others) = selectors_apart(alloc, filters, true)?;
+    Ok(Filter::Or(selectors, others))
+}
+
+// The selectors among some filters, or those of which the `not` is among them, and the other filters.
+fn selectors_apart(
+    alloc: Global,
+    filters: Vec<Filter>,
+    holds: bool,
+) -> Result<(Selectors, Vec<Filter>), AllocError>
+    ensures { IfOk result (λ p. members_of (selects holds) p.0 (map condition_in p.1.items) ≡ map condition_in filters.items) }
+{
     let mut selectors = Selectors::new(alloc);
     let mut others = Vec::new(alloc);
     for filter in filters {
-        match selector_in(&filter)? {
+        match selector_in(&filter, holds)? {
             Some(selector) => selectors = selectors.and_selector(alloc, selector)?,
             None => {
                 selectors = selectors.and_other()?;
@@ -23,18 +47,51 @@ pub fn one_of(alloc: Global, filters: Vec<Filter>) -> Result<Filter, AllocError>
             }
         }
     }
-    Ok(either(selectors, others))
+    Ok((selectors, others))
 }
 
-// The `or` of some members, of which the others stand apart.
-fn either(selectors: Selectors, others: Vec<Filter>) -> Filter
-    ensures { condition_in result ≡ some (conditions_of (members_of selectors (map condition_in others.items))) }
+// The bounds among some filters, and the other filters.
+fn bounds_apart(
+    alloc: Global,
+    filters: Vec<Filter>,
+) -> Result<(Vec<Option<Bound>>, Vec<Filter>), AllocError>
+    ensures { IfOk result (λ p. members_of ranges p.0.items (map condition_in p.1.items) ≡ map condition_in filters.items) }
 {
-    Filter::Or(selectors, others)
+    let mut members = Vec::new(alloc);
+    let mut others = Vec::new(alloc);
+    for filter in filters {
+        match bound_in(&filter)? {
+            Some(bound) => members.push(Some(bound))?,
+            None => {
+                members.push(None)?;
+                others.push(filter)?;
+            }
+        }
+    }
+    Ok((members, others))
 }
 
-// The selector that a filter is, where it is one.
-fn selector_in(filter: &Filter) -> Result<Option<Selector>, AllocError>
+// The selector that a filter is, or of which it is the `not`, where it is that.
+fn selector_in(filter: &Filter, holds: bool) -> Result<Option<Selector>, AllocError>
+    ensures { IfOk result (λ found. IfSome found (λ s. condition_in filter.now ≡ selects holds s)) }
+{
+    if holds {
+        held_in(filter)
+    } else {
+        denied_in(filter)
+    }
+}
+
+fn denied_in(filter: &Filter) -> Result<Option<Selector>, AllocError>
+    ensures { IfOk result (λ found. IfSome found (λ s. condition_in filter.now ≡ opposite (dimension (as_test s)))) }
+{
+    match filter {
+        Filter::Not(denied) => held_in(denied),
+        _ => Ok(None),
+    }
+}
+
+fn held_in(filter: &Filter) -> Result<Option<Selector>, AllocError>
     ensures { IfOk result (λ found. IfSome found (λ s. condition_in filter.now ≡ dimension (as_test s))) }
 {
     let Filter::Dimension(test) = filter else {
@@ -46,5 +103,21 @@ fn selector_in(filter: &Filter) -> Result<Option<Selector>, AllocError>
     Ok(Some(Selector {
         place: test.place,
         text: text.copy()?,
+    }))
+}
+
+// The bound that a filter is, where it is one.
+fn bound_in(filter: &Filter) -> Result<Option<Bound>, AllocError>
+    ensures { IfOk result (λ found. IfSome found (λ b. condition_in filter.now ≡ dimension (as_range b))) }
+{
+    let Filter::Dimension(test) = filter else {
+        return Ok(None);
+    };
+    let ValueTest::Within(bounds) = &test.test else {
+        return Ok(None);
+    };
+    Ok(Some(Bound {
+        place: test.place,
+        bounds: bounds.copy()?,
     }))
 }

@@ -1,4 +1,5 @@
-ghost use Rattle.std.specs.Prelude.{◌≡◌};
+ghost use Rattle.std.specs.Prelude.{◌≡◌, IfSome};
+ghost use Rattle.dr_filter.specs.LookUps.{IsTestOf};
 ghost use Rattle.dr_filter.specs.Match.{holds_of, value_at as value_at_of};
 
 use crate::value_test::ValueTest;
@@ -32,4 +33,16 @@ fn value_at(dims: &[Text], place: Option<usize>) -> &str
         Some(value) => value.as_str(),
         None => "",
     }
+}
+
+/// The place of the first test of a dimension among some tests.
+pub fn place_among(look_ups: &[DimensionTest], place: Option<usize>) -> Option<usize>
+    ensures { IfSome result (λ i. IsTestOf look_ups.now i place) }
+{
+    for i in 0..look_ups.len() {
+        if look_ups[i].place == place {
+            return Some(i);
+        }
+    }
+    None
 }

@@ -1,7 +1,8 @@
-ghost use Rattle.std.specs.Prelude.{◌≡◌, map};
-ghost use Rattle.dr_filter.specs.Condition.{condition_in, conditions_in, conditions_of, members_of, matches as matches_of, every_matches as every_matches_of, some_matches as some_matches_of};
+ghost use Rattle.std.specs.Prelude.{◌≡◌, true, false, map};
+ghost use Rattle.dr_filter.specs.Condition.{condition_in, conditions_of, members_of, selects, ranges, matches as matches_of, every_matches as every_matches_of, some_matches as some_matches_of};
 
 use crate::dimension_test::DimensionTest;
+use crate::every_bound::EveryBound;
 use crate::selectors::Selectors;
 use dr_base::Text;
 use dr_time::Union;
@@ -14,8 +15,9 @@ pub enum Filter {
     Dimension(DimensionTest),
     /// `interval`: the time lies in one of some intervals.
     Interval(Union),
-    /// `and`: all of these hold, as they do where there are none.
-    And(Vec<Filter>),
+    /// `and`: all of these hold, as they do where there are none. The selectors of which it has the `not` among its members are
+    /// looked up together, its bounds are asked together, and the others stand apart.
+    And(Selectors, EveryBound, Vec<Filter>),
     /// `or`: one of these holds, as none does where there are none. The selectors among its members are looked up together,
     /// and the others stand apart.
     Or(Selectors, Vec<Filter>),
@@ -28,7 +30,8 @@ impl Filter {
     /// meets the filter. It takes no memory, and time by the tests of the filter, each as
     /// [`ValueTest::passes`](crate::ValueTest::passes), which says where a pattern takes more than the bytes of it and of the
     /// value together. An `interval` takes time logarithmic in the number of its intervals. The selectors among the members of
-    /// one `or` count as one test for each dimension that they name.
+    /// one `or` count as one test for each dimension that they name, and so do those of which one `and` has the `not`, and the
+    /// bounds among the members of one `and`.
     #[cycle(matching)]
     pub fn matches(&self, time: i64, dims: &[Text]) -> bool
         ensures { result ≡ matches_of time dims.now (condition_in self.now) }
@@ -36,7 +39,13 @@ impl Filter {
         match self {
             Filter::Dimension(test) => test.holds_of(dims),
             Filter::Interval(union) => union.contains(time),
-            Filter::And(filters) => every_matches(filters.as_slice(), time, dims),
+            Filter::And(denied, bounds, filters) => every_matches(
+                denied,
+                bounds,
+                filters.as_slice(),
+                time,
+                dims,
+            ),
             Filter::Or(selectors, filters) => some_matches(
                 selectors,
                 filters.as_slice(),
@@ -48,10 +57,23 @@ impl Filter {
     }
 }
 
+// Whether none of the denied selectors holds, all the bounds hold, and all the members that stand apart match.
 #[cycle(matching)]
-fn every_matches(filters: &[Filter], time: i64, dims: &[Text]) -> bool
-    ensures { result ≡ every_matches_of time dims.now (conditions_in filters.now) }
+fn every_matches(
+    denied: &Selectors,
+    bounds: &EveryBound,
+    filters: &[Filter],
+    time: i64,
+    dims: &[Text],
+) -> bool
+    ensures { result ≡ every_matches_of time dims.now (conditions_of (members_of (selects false) denied.now (members_of ranges bounds.now (map condition_in filters.now)))) }
 {
+    if denied.hold_of(dims) {
+        return false;
+    }
+    if !bounds.hold_of(dims) {
+        return false;
+    }
     for filter in filters {
         if !filter.matches(time, dims) {
             return false;
@@ -63,7 +85,7 @@ fn every_matches(filters: &[Filter], time: i64, dims: &[Text]) -> bool
 // Whether one of the selectors holds, or one of the members that stand apart matches.
 #[cycle(matching)]
 fn some_matches(selectors: &Selectors, filters: &[Filter], time: i64, dims: &[Text]) -> bool
-    ensures { result ≡ some_matches_of time dims.now (conditions_of (members_of selectors.now (map condition_in filters.now))) }
+    ensures { result ≡ some_matches_of time dims.now (conditions_of (members_of (selects true) selectors.now (map condition_in filters.now))) }
 {
     if selectors.hold_of(dims) {
         return true;

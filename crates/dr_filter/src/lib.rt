@@ -3,8 +3,10 @@
 #![tactic(auto)]
 
 mod arranging;
+mod bound;
 mod bounds;
 mod dimension_test;
+mod every_bound;
 mod fields;
 mod filter;
 mod filter_error;
@@ -20,8 +22,10 @@ mod value_test;
 mod values;
 mod walked;
 
+pub use bound::Bound;
 pub use bounds::Bounds;
 pub use dimension_test::DimensionTest;
+pub use every_bound::EveryBound;
 pub use filter::Filter;
 pub use filter_error::FilterError;
 pub use laws::{what_fits_is_found, what_is_found_fits};

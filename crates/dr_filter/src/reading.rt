@@ -5,7 +5,7 @@ ghost use Rattle.dr_filter.specs.Condition.{condition_in};
 ghost use Rattle.dr_filter.specs.FilterOf.{only_time, interval_filter_of, simple_by, too_deep_of, fields_of, field_of, level_of, filter_at, filter_of};
 ghost use Rattle.dr_filter.specs.Refusal.{Gives};
 
-use crate::arranging::one_of;
+use crate::arranging::{every_of, one_of};
 use crate::fields::no_unlisted;
 use crate::filter::Filter;
 use crate::filter_error::FilterError;
@@ -85,7 +85,8 @@ fn level(
     let members = object(alloc, value, name)?;
     let kind = text_field(alloc, value, "type")?;
     if kind == "and" {
-        Ok(Filter::And(fields(alloc, value, members, schema, inside)?))
+        let filters = fields(alloc, value, members, schema, inside)?;
+        Ok(every_of(alloc, filters)?)
     } else if kind == "or" {
         let filters = fields(alloc, value, members, schema, inside)?;
         Ok(one_of(alloc, filters)?)

@@ -1,8 +1,8 @@
-ghost use Rattle.std.specs.Prelude.{◌≡◌, ◌||◌, ◌++◌, ◌∷◌, [], ℕ, List, Some, None, true, false, IfOk, IfSome, OnOk};
-ghost use Rattle.dr_filter.specs.LookUps.{as_test, tests_in, some_holds, AreLookedUp, IsTestOf};
+ghost use Rattle.std.specs.Prelude.{◌≡◌, ◌||◌, ◌++◌, ◌∷◌, [], ℕ, List, Some, None, true, false, IfOk, OnOk};
+ghost use Rattle.dr_filter.specs.LookUps.{as_test, tests_in, some_holds, AreLookedUp};
 ghost use Rattle.dr_filter.specs.Match.{holds_of};
 
-use crate::dimension_test::DimensionTest;
+use crate::dimension_test::{DimensionTest, place_among};
 use crate::selector::Selector;
 use crate::value_test::ValueTest;
 use dr_base::Text;
@@ -10,8 +10,9 @@ use dr_dict::TextSet;
 use std::alloc::{AllocError, Global};
 use std::marker::Model;
 
-/// The selectors among the members of an `or`, looked up by hashing, dimension by dimension. A contract sees of each member in
-/// turn the selector that it is, or none where it is another filter.
+/// The selectors among the members of an `or`, or those of which an `and` has the `not` among its members, looked up by hashing,
+/// dimension by dimension. A contract sees of each member in turn the selector that it is or that it denies, or none where it is
+/// another filter.
 #[derive(Drop)]
 pub struct Selectors {
     members: Vec<Option<Selector>>,
@@ -79,7 +80,7 @@ impl Selectors {
     /// Whether one of the selectors holds of a row with these dimension values. It takes no memory, and expected time by the
     /// bytes of the values in the dimensions that the selectors name, however many selectors there are.
     pub fn hold_of(&self, dims: &[Text]) -> bool
-        ensures { result ≡ some_holds dims.now (tests_in self.now) }
+        ensures { result ≡ some_holds dims.now (tests_in as_test self.now) }
     {
         some_hold_of(self.look_ups(), dims)
     }
@@ -116,18 +117,6 @@ fn add_at(look_ups: &mut Vec<DimensionTest>, selector: &Selector) -> Result<bool
     };
     let look_up = &mut look_ups[i];
     look_up.test.add(&selector.text)
-}
-
-// The first test of a dimension.
-fn place_among(look_ups: &[DimensionTest], place: Option<usize>) -> Option<usize>
-    ensures { IfSome result (λ i. IsTestOf look_ups.now i place) }
-{
-    for i in 0..look_ups.len() {
-        if look_ups[i].place == place {
-            return Some(i);
-        }
-    }
-    None
 }
 
 // The test that is one selector.

@@ -1,5 +1,5 @@
-ghost use Rattle.std.specs.Prelude.{◌≡◌, ◌||◌, ℕ, List, true, false, IfOk, bytes_eq};
-ghost use Rattle.dr_filter.specs.Match.{passes as passes_of};
+ghost use Rattle.std.specs.Prelude.{◌≡◌, ◌||◌, ◌&&◌, ℕ, List, true, false, IfOk, bytes_eq};
+ghost use Rattle.dr_filter.specs.Match.{lies_within, passes as passes_of};
 
 use crate::bounds::Bounds;
 use crate::like::fits;
@@ -44,6 +44,20 @@ impl ValueTest {
         match self {
             ValueTest::Among(texts) => {
                 texts.add(text)?;
+                Ok(true)
+            }
+            _ => Ok(false),
+        }
+    }
+
+    // Narrows the range of a `bound` to what lies in another one too, and tells whether it is one.
+    pub(crate) fn narrow(&mut self, bounds: &Bounds) -> Result<bool, AllocError>
+        ensures narrowed { IfOk result (λ narrowed. narrowed ≡ true → (value : List ℕ) → passes_of self.new value ≡ (passes_of self.old value && lies_within bounds.now value)) }
+        ensures same { IfOk result (λ narrowed. narrowed ≡ false → self.new ≡ self.old) }
+    {
+        match self {
+            ValueTest::Within(within) => {
+                within.narrow(bounds)?;
                 Ok(true)
             }
             _ => Ok(false),

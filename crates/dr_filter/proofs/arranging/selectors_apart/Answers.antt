@@ -1,9 +1,8 @@
 use Rattle.std.proofs.Common.{◌≡◌, ◌∙◌, sym, ap, [], ◌∷◌, length, map, append_assoc, append-nil, arith}
 use Rattle.std.specs.Vec.Iter.{into_iter_items}
-use Rattle.dr_filter.specs.Condition.{condition_in, conditions_of, some, dimension}
-use Rattle.dr_filter.specs.LookUps.{as_test}
-use Rattle.dr_filter.proofs.LookedUp.{others_in, shown-selector, shown-other, counted-other, others_in-selector, nothing_left}
-use Rattle.dr_filter.proofs.arranging.one_of.Goals as goal
+use Rattle.dr_filter.specs.Condition.{condition_in, selects}
+use Rattle.dr_filter.proofs.LookedUp.{shown-found, counted-found, shown-other, counted-other, nothing_left}
+use Rattle.dr_filter.proofs.arranging.selectors_apart.Goals as goal
 
 pub loop-filter-preserved-in_ok-selectors-in-Some-2 : goal.loop-filter-preserved-in_ok-selectors-in-Some-2
 loop-filter-preserved-in_ok-selectors-in-Some-2 c =
@@ -11,13 +10,13 @@ loop-filter-preserved-in_ok-selectors-in-Some-2 c =
     let was = at.invariant in
     let s = c.in-Some-2.selector in
     let f = c.in-Some.filter in
-    let is : condition_in f ≡ dimension (as_test s) = rw c.in-Some-2.is at c.in_ok-selector.ensures in
+    let is : condition_in f ≡ selects c.args.holds s = rw c.in-Some-2.is at c.in_ok-selector.ensures in
     let grown = c.in_ok-selectors-in-Some-2.ensures in
     let steps : into_iter_items at.filter-iterator ≡ f ∷ into_iter_items c.next.new.self = c.in-Some.ensures.steps.0 in (
       append_assoc at.yielded (f ∷ []) _ ∙ rw (← steps) was.0,
       (let len = was.1 in let gone = c.in-Some.ensures.steps.1 in let short = ap length steps in omega (arith, len, gone, short)),
-      shown-selector at.yielded f at.selectors _ at.others.items s is grown was.3 was.2,
-      ap others_in grown ∙ others_in-selector at.selectors s ∙ was.3,
+      shown-found (selects c.args.holds) at.yielded f at.selectors _ at.others.items s is grown was.3 was.2,
+      counted-found (selects c.args.holds) at.yielded f at.selectors _ at.others.items s grown was.3,
     )
 
 pub loop-filter-preserved-in_ok-selectors-in-Some-2-2 : goal.loop-filter-preserved-in_ok-selectors-in-Some-2-2
@@ -26,13 +25,28 @@ loop-filter-preserved-in_ok-selectors-in-Some-2-2 c =
     let was = at.invariant in
     let s = c.in-Some-2.selector in
     let f = c.in-Some.filter in
-    let is : condition_in f ≡ dimension (as_test s) = rw c.in-Some-2.is at c.in_ok-selector.ensures in
+    let is : condition_in f ≡ selects c.args.holds s = rw c.in-Some-2.is at c.in_ok-selector.ensures in
     let grown = c.in_ok-selectors-in-Some-2.ensures in
     let steps : into_iter_items at.filter-iterator ≡ f ∷ into_iter_items c.next.new.self = c.in-Some.ensures.steps.0 in (
       append_assoc at.yielded (f ∷ []) _ ∙ rw (← steps) was.0,
       (let len = was.1 in let gone = c.in-Some.ensures.steps.1 in let short = ap length steps in omega (arith, len, gone, short)),
-      shown-selector at.yielded f at.selectors _ at.others.items s is grown was.3 was.2,
-      ap others_in grown ∙ others_in-selector at.selectors s ∙ was.3,
+      shown-found (selects c.args.holds) at.yielded f at.selectors _ at.others.items s is grown was.3 was.2,
+      counted-found (selects c.args.holds) at.yielded f at.selectors _ at.others.items s grown was.3,
+    )
+
+pub loop-filter-preserved-in_ok-selectors-in-Some-2-12 : goal.loop-filter-preserved-in_ok-selectors-in-Some-2-12
+loop-filter-preserved-in_ok-selectors-in-Some-2-12 c =
+    let at = c.loop-filter in
+    let was = at.invariant in
+    let s = c.in-Some-2.selector in
+    let f = c.in-Some.filter in
+    let is : condition_in f ≡ selects c.args.holds s = rw c.in-Some-2.is at c.in_ok-selector.ensures in
+    let grown = c.in_ok-selectors-in-Some-2.ensures in
+    let steps : into_iter_items at.filter-iterator ≡ f ∷ into_iter_items c.next.new.self = c.in-Some.ensures.steps.0 in (
+      append_assoc at.yielded (f ∷ []) _ ∙ rw (← steps) was.0,
+      (let len = was.1 in let gone = c.in-Some.ensures.steps.1 in let short = ap length steps in omega (arith, len, gone, short)),
+      shown-found (selects c.args.holds) at.yielded f at.selectors _ at.others.items s is grown was.3 was.2,
+      counted-found (selects c.args.holds) at.yielded f at.selectors _ at.others.items s grown was.3,
     )
 
 pub loop-filter-preserved : goal.loop-filter-preserved
@@ -45,8 +59,8 @@ loop-filter-preserved c =
     let steps : into_iter_items at.filter-iterator ≡ f ∷ into_iter_items c.next.new.self = c.in-Some.ensures.steps.0 in (
       append_assoc at.yielded (f ∷ []) _ ∙ rw (← steps) was.0,
       (let len = was.1 in let gone = c.in-Some.ensures.steps.1 in let short = ap length steps in omega (arith, len, gone, short)),
-      shown-other at.yielded f at.selectors _ at.others.items _ grown behind was.3 was.2,
-      counted-other at.yielded f at.selectors _ at.others.items _ grown behind was.3,
+      shown-other (selects c.args.holds) at.yielded f at.selectors _ at.others.items _ grown behind was.3 was.2,
+      counted-other (selects c.args.holds) at.yielded f at.selectors _ at.others.items _ grown behind was.3,
     )
 
 pub returns : goal.returns
@@ -56,4 +70,4 @@ returns c =
     let len = at.invariant.1 in
     let empty : into_iter_items at.filter-iterator ≡ [] = nothing_left _ (sym len ∙ none.0) in
     let all = sym (append-nil at.yielded) ∙ rw empty at at.invariant.0 in
-    c.either.ensures ∙ ap (λ l. some (conditions_of l)) (at.invariant.2 ∙ ap (map condition_in) all)
+    at.invariant.2 ∙ ap (map condition_in) all
