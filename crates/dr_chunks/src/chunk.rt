@@ -85,8 +85,8 @@ impl Chunk {
     }
 
     /// Adds an event to the open range, and seals it with this serial where it has as many rows as it may then. Answers
-    /// how many ranges were sealed by it, 0 or 1. An error leaves the chunk as it was. A seal reads no row: the range keeps its
-    /// index.
+    /// how many ranges were sealed by it, 0 or 1. An error leaves the chunk as it was. A seal reads no row, but for at most 64, which
+    /// it puts into a list: the range keeps its index.
     pub fn grow(&mut self, alloc: Global, serial: u64, event: &Event) -> Result<u64, AllocError>
         requires event { FitsSchema self.old.open_range.schema event.now }
         requires room { self.old.events < 18446744073709551615 }
@@ -126,7 +126,8 @@ impl Chunk {
         match full {
             None => Ok(0),
             Some(index) => {
-                let fragment = SharedFragment::of_index(self.start, from, self.events, index);
+                let fragment =
+                    SharedFragment::of_index(self.start, from, self.events, index).compact(alloc);
                 self.sealed
                     .0
                     .push(SealedRange {
@@ -140,12 +141,13 @@ impl Chunk {
         }
     }
 
-    /// Seals the open range with this serial, with its index as it is. An error leaves the chunk as it was.
+    /// Seals the open range with this serial, with its index as it is, or at most 64 rows as a list. An error leaves the chunk as
+    /// it was.
     pub fn seal(&mut self, alloc: Global, serial: u64) -> Result<(), AllocError>
         ensures ok { OnOk result (self.new ≡ with_open_sealed serial self.old) }
         ensures err { OnErr result (self.new ≡ self.old) }
     {
-        let fragment = self.open_fragment(alloc)?;
+        let fragment = self.open_fragment(alloc)?.compact(alloc);
         self.sealed.push(SealedRange {
             serial,
             version: 0,

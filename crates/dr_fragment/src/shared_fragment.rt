@@ -15,6 +15,9 @@ use std::alloc::{AllocError, AllocFailed, Global};
 use std::marker::Model;
 use std::sync::Arc;
 
+// As many rows of an index take less memory as a list.
+const FEW_ROWS: usize = 64;
+
 /// A range of a chunk that a timeline, its snapshots and its jobs share: a fragment, or a share of an index whose rows stand as
 /// their keys came, as an open range has it and one that was sealed and not merged yet. A contract sees what it sees of a
 /// fragment.
@@ -65,6 +68,36 @@ impl SharedFragment {
         match &self.0 {
             Shared::Made(made) => Ok(SharedFragment(Shared::Made(Arc::try_clone(made)?))),
             Shared::Indexed(indexed) => Ok(SharedFragment(Shared::Indexed(indexed.share()?))),
+        }
+    }
+
+    /// The same range, for one whose rows no event will change any more: where it is an index of at most 64 rows, they are put into
+    /// a list, which takes a part of its memory. Where there is no memory for the list, it stays as it is. It takes constant time
+    /// but for the bytes of these rows.
+    pub fn compact(self, alloc: Global) -> SharedFragment
+        ensures { result ≡ self }
+    {
+        if self.len() > FEW_ROWS {
+            return self;
+        }
+        match self.listed(alloc) {
+            Ok(listed) => listed,
+            Err(_) => self,
+        }
+    }
+
+    // The same range, with the rows of an index in a list. The only error is that memory ran out.
+    fn listed(&self, alloc: Global) -> Result<SharedFragment, AllocError>
+        ensures { IfOk result (λ listed. listed ≡ self.now) }
+    {
+        match &self.0 {
+            Shared::Made(_) => self.share(),
+            Shared::Indexed(indexed) => {
+                let (from, to) = indexed.range();
+                let rows = indexed.index().rows()?;
+                let fragment = Fragment::of_rows(indexed.chunk(), from, to, rows);
+                Ok(SharedFragment::new(alloc, fragment)?)
+            }
         }
     }
 
