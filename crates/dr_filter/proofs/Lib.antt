@@ -1,9 +1,3 @@
-pub mod NoBytes
-pub mod Texts
-pub mod Patterns
-pub mod Ways
-pub mod Places
-pub mod PieceParts
 pub mod DistinctValues
 pub mod Levels
 pub mod Truths

@@ -1,9 +1,4 @@
 pub mod Refusal
-pub mod Like
-pub mod Fits
-pub mod Letters
-pub mod Pieces
-pub mod Left
 pub mod Match
 pub mod Ends
 pub mod LookUps

@@ -10,7 +10,7 @@ use Rattle.dr_filter.specs.declared.bounds.Bounds.{Bounds}
 use Rattle.dr_filter.specs.declared.value_test.ValueTest.{ValueTest}
 use Rattle.dr_filter.specs.declared.value_test.ValueTest.TheVariants.{Equals, Among, Within, Like}
 use Rattle.dr_filter.specs.declared.dimension_test.DimensionTest.{DimensionTest}
-use Rattle.dr_filter.specs.Like.{fits}
+use Rattle.dr_like.specs.Like.{fits}
 
 -- ---- the value of a dimension
 

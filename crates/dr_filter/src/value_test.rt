@@ -2,9 +2,9 @@ ghost use Rattle.std.specs.Prelude.{◌≡◌, ◌||◌, ◌&&◌, ℕ, List, tr
 ghost use Rattle.dr_filter.specs.Match.{lies_within, passes as passes_of};
 
 use crate::bounds::Bounds;
-use crate::like::fits;
 use dr_base::Text;
 use dr_dict::TextSet;
+use dr_like::fits;
 use std::alloc::AllocError;
 
 /// What is asked of the value of a dimension (Apache Druid documentation, query filters).

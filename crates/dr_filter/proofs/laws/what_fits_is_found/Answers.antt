@@ -1,5 +1,0 @@
-use Rattle.dr_filter.proofs.Ways.{found_of_fits}
-use Rattle.dr_filter.proofs.laws.what_fits_is_found.Goals as goal
-
-pub returns : goal.returns
-returns c = found_of_fits

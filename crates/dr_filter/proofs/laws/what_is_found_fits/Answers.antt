@@ -1,5 +1,0 @@
-use Rattle.dr_filter.proofs.Ways.{fits_of_found}
-use Rattle.dr_filter.proofs.laws.what_is_found_fits.Goals as goal
-
-pub returns : goal.returns
-returns c = fits_of_found

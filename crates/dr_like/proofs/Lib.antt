@@ -1,0 +1,6 @@
+pub mod NoBytes
+pub mod Texts
+pub mod Patterns
+pub mod Ways
+pub mod Places
+pub mod PieceParts

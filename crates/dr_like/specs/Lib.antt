@@ -1,0 +1,5 @@
+pub mod Like
+pub mod Fits
+pub mod Letters
+pub mod Pieces
+pub mod Left
