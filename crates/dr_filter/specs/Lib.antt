@@ -4,9 +4,12 @@ pub mod Fits
 pub mod Letters
 pub mod Pieces
 pub mod Left
-pub mod Match
+pub mod Within
 pub mod Ends
+pub mod Ranges
+pub mod Match
 pub mod LookUps
+pub mod Gathered
 pub mod Condition
 pub mod Values
 pub mod Fields
