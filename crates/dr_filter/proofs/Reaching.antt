@@ -1,5 +1,5 @@
 -- Ranges in the order of their lower ends, of which the last one that has begun tells of all.
-use Rattle.std.proofs.Common.{◌≡◌, ◌∙◌, sym, refl, ap, inl, inr, Bool, true, false, ◌&&◌, ◌||◌, ℕ, zero, suc, ◌+◌, ◌-◌, ◌<◌, ◌≤◌, List, [], ◌∷◌, ◌++◌, length, get_or, take, length-append, Option, Some, None, arith}
+use Rattle.std.proofs.Common.{◌≡◌, ◌∙◌, sym, refl, ap, subst, inl, inr, Bool, true, false, if◌then◌else◌, ◌&&◌, ◌||◌, ℕ, zero, suc, ◌+◌, ◌-◌, ◌<◌, ◌≤◌, List, [], ◌∷◌, ◌++◌, length, get_or, take, length-append, Option, Some, None, arith}
 use Rattle.std.specs.List.{AllWithin}
 use Rattle.std.specs.List.Sorted.{IsPartitionedBy, IsPermutation, IsSortedBy}
 use Rattle.std.specs.Cmp.{IsTotalOrder, IsStrictWeakOrder, bool_cmp_total, then_total, on_total}
@@ -15,7 +15,7 @@ use native.Mathlib.Numerals.{unary_clauses}
 use Rattle.dr_filter.specs.declared.bounds.Bounds.{Bounds}
 use Rattle.dr_filter.specs.Within.{comes_after, not_before, lies_within, some_within}
 use Rattle.dr_filter.specs.Ends.{ends_before}
-use Rattle.dr_filter.specs.Ranges.{start_text, start_strict, start_order, begun, unended, Rise, Reach}
+use Rattle.dr_filter.specs.Ranges.{start_text, start_strict, start_order, begun, unended, ends_within, with_outer, Rise, Reach}
 use Rattle.dr_filter.proofs.Ends.{same_place, far, past, upper-more, upper-less}
 
 -- ---- one text
@@ -69,32 +69,43 @@ held_at text bs (suc k) d reach some le low high =
 pub part : (text : List ℕ) (bs : List Bounds) → Rise bs → IsPartitionedBy (begun text) bs
 part text bs rise i j d le lt h = rise i j d text le lt h
 
--- ---- the one before the last
+-- ---- the last of some ranges
 
 same_at : (bs : List Bounds) (k : ℕ) (d e : Bounds) → k < length bs → get_or bs k d ≡ get_or bs k e
 same_at [] k d e lt = absurd (omega arith)
 same_at (b ∷ bs) zero d e lt = refl
 same_at (b ∷ bs) (suc k) d e lt = same_at bs k d e (omega arith)
 
-last_is : (bs : List Bounds) (last e : Bounds) → last ≡ get_or bs (length bs - 1) e → (k : ℕ) → length bs ≡ k + 1 → (d : Bounds) → get_or bs k d ≡ last
-last_is bs last e is k len d =
-    let place : k ≡ length bs - 1 = omega (arith, len) in
-    same_at bs k d e (omega (arith, len)) ∙ ap (λ i. get_or bs i e) place ∙ sym is
+same_last : (x : Bounds) (xs : List Bounds) (d e : Bounds) → get_or (x ∷ xs) (length (x ∷ xs) - 1) d ≡ get_or (x ∷ xs) (length xs) e
+same_last x xs d e =
+    let place : length (x ∷ xs) - 1 ≡ length xs = omega arith in
+    ap (λ i. get_or (x ∷ xs) i d) place ∙ same_at (x ∷ xs) (length xs) d e (omega arith)
 
-or_left : (a b : Bool) → (b ≡ true → a ≡ true) → a ≡ (a || b)
-or_left true b h = refl
-or_left false true h = h refl
-or_left false false h = refl
+pub ends_within-none : (bs : List Bounds) (b : Bounds) → length bs ≡ 0 → false ≡ ends_within bs b
+ends_within-none [] b h = refl
+ends_within-none (x ∷ xs) b h = absurd (omega (arith, h))
 
-module _ (bs : List Bounds) (last e b : Bounds) (is : last ≡ get_or bs (length bs - 1) e) where
-  pub keeps : ends_before b.upper b.upper_strict last.upper ≡ false → (k : ℕ) → length bs ≡ k + 1 → (d : Bounds) (text : List ℕ) → unended text b ≡ (unended text (get_or bs k d) || unended text b)
-  keeps less k len d text =
-      sym (or_same (unended text (get_or bs k d)) (unended text b) (λ h. upper-less text b.upper b.upper_strict last.upper last.upper_strict less (sym (ap (unended text) (last_is bs last e is k len d)) ∙ h)))
+pub ends_within-last : (bs : List Bounds) (last e b : Bounds) → last ≡ get_or bs (length bs - 1) e → (length bs ≡ 0 → ⊥) → ends_before b.upper b.upper_strict last.upper ≡ ends_within bs b
+ends_within-last [] last e b is some = absurd (some refl)
+ends_within-last (x ∷ xs) last e b is some = ap (λ (y : Bounds). ends_before b.upper b.upper_strict y.upper) (is ∙ same_last x xs e b)
 
-  pub takes : ends_before b.upper b.upper_strict last.upper ≡ true → (k : ℕ) → length bs ≡ k + 1 → (d : Bounds) (text : List ℕ) → unended text last ≡ (unended text (get_or bs k d) || unended text b)
-  takes more k len d text =
-      or_left (unended text last) (unended text b) (λ h. upper-more text b.upper b.upper_strict last.upper last.upper_strict more h)
-      ∙ ap (λ x. unended text x || unended text b) (sym (last_is bs last e is k len d))
+some_there : (bs : List Bounds) (b : Bounds) → ends_within bs b ≡ true → 0 < length bs
+some_there [] b more = absurd (cc more)
+some_there (x ∷ xs) b more = omega arith
+
+-- what a range that ends no later lets in at its end, the last one does too
+covered : (bs : List Bounds) (b : Bounds) → ends_within bs b ≡ true → (d : Bounds) (text : List ℕ) → unended text b ≡ true → unended text (get_or bs (length bs - 1) d) ≡ true
+covered [] b more d text h = absurd (cc more)
+covered (x ∷ xs) b more d text h =
+    let last = get_or (x ∷ xs) (length xs) b in
+    ap (unended text) (same_last x xs d b) ∙ upper-more text b.upper b.upper_strict last.upper last.upper_strict more h
+
+-- and what the last one lets in, a range that ends later does too
+behind : (bs : List Bounds) (b : Bounds) → ends_within bs b ≡ false → (d : Bounds) (text : List ℕ) → 0 < length bs → unended text (get_or bs (length bs - 1) d) ≡ true → unended text b ≡ true
+behind [] b less d text lt h = absurd (omega (arith, lt))
+behind (x ∷ xs) b less d text lt h =
+    let last = get_or (x ∷ xs) (length xs) b in
+    upper-less text b.upper b.upper_strict last.upper last.upper_strict less (sym (ap (unended text) (same_last x xs d b)) ∙ h)
 
 -- ---- one range more
 
@@ -118,72 +129,108 @@ held_by text (b ∷ bs) (suc k) d lt h = or_last (lies_within b text) (some_with
     or_last true c e = refl
     or_last false c e = e
 
-core_or : (s b l u : Bool) → (b ≡ true → l ≡ true → s ≡ true) → (s || (b && (l || u))) ≡ (s || (b && u))
-core_or true b l u h = refl
-core_or false false l u h = refl
-core_or false true true u h = absurd (cc (h refl refl))
-core_or false true false u h = refl
-
 both_true : (a b : Bool) → a ≡ true → b ≡ true → (a && b) ≡ true
 both_true a b h k = and_yes a b h ∙ k
 
--- the first of some ranges, each with the greatest upper end of those up to it
-pub record IsReached (sorted bs : List Bounds) (n : ℕ) : Type 0 where
-  pub count : length bs ≡ n
+and_first : (a b : Bool) → (a && b) ≡ true → a ≡ true
+and_first true b h = refl
+and_first false b h = absurd (cc h)
+
+and_second : (a b : Bool) → (a && b) ≡ true → b ≡ true
+and_second true b h = h
+and_second false b h = absurd (cc h)
+
+or_left : (a b : Bool) → (b ≡ true → a ≡ true) → a ≡ (a || b)
+or_left true b h = refl
+or_left false true h = h refl
+or_left false false h = refl
+
+-- of the first of some ranges those that end behind all before them
+pub record AreOuter (sorted bs : List Bounds) (n : ℕ) : Type 0 where
   pub within : n ≤ length sorted
-  pub starts : (k : ℕ) (d e : Bounds) (text : List ℕ) → k < n → begun text (get_or bs k d) ≡ begun text (get_or sorted k e)
+  pub rise : Rise bs
   pub reach : Reach bs
+  pub ahead : (k j : ℕ) (d e : Bounds) (text : List ℕ) → k < length bs → n ≤ j → j < length sorted → begun text (get_or sorted j e) ≡ true → begun text (get_or bs k d) ≡ true
   pub same : (text : List ℕ) → some_within bs text ≡ some_within (take n sorted) text
 
-pub rises : (sorted bs : List Bounds) (n : ℕ) → Rise sorted → IsReached sorted bs n → Rise bs
-rises sorted bs n rise was i j d text le lt h =
-    was.starts i d d text (omega (arith, le, lt, was.count)) ∙ rise i j d text le (omega (arith, lt, was.count, was.within)) (sym (was.starts j d d text (omega (arith, lt, was.count))) ∙ h)
+pub none_outer : (sorted : List Bounds) → AreOuter sorted [] 0
+none_outer sorted = record {
+  within = omega arith;
+  rise = λ i j d text le lt h. absurd (omega (arith, lt));
+  reach = λ i j d text le lt h. absurd (omega (arith, lt));
+  ahead = λ k j d e text lt le less h. absurd (omega (arith, lt));
+  same = λ text. refl;
+}
 
-module _ (sorted bs : List Bounds) (n : ℕ) (b next : Bounds) (rise : Rise sorted) (lt : n < length sorted) (is : b ≡ get_or sorted n b) (was : IsReached sorted bs n)
-    (start : (text : List ℕ) → begun text next ≡ begun text b) (first : length bs ≡ 0 → (text : List ℕ) → unended text next ≡ unended text b)
-    (end : (k : ℕ) → length bs ≡ k + 1 → (d : Bounds) (text : List ℕ) → unended text next ≡ (unended text (get_or bs k d) || unended text b)) where
-  starts : (k : ℕ) (d e : Bounds) (text : List ℕ) → k < n + 1 → begun text (get_or (bs ++ next ∷ []) k d) ≡ begun text (get_or sorted k e)
-  starts k d e text less = elim (cases_lt k n) [
-    | inl front ↦ ap (begun text) (at_front bs next k d (omega (arith, front, was.count))) ∙ was.starts k d e text front
-    | inr back ↦ (let here : k ≡ n = omega (arith, back, less) in
-        ap (begun text) (at_back bs next k d (here ∙ sym was.count)) ∙ start text ∙ ap (begun text) (is ∙ same_at sorted n b e lt ∙ ap (λ i. get_or sorted i e) (sym here)))
-  ]
+module _ (sorted bs : List Bounds) (n : ℕ) (b : Bounds) (up : Rise sorted) (lt : n < length sorted) (is : b ≡ get_or sorted n b) (was : AreOuter sorted bs n) where
+  told : (text : List ℕ) → (some_within bs text || lies_within b text) ≡ some_within (take (n + 1) sorted) text
+  told text = (λ k. was.same text k || lies_within (is k) text) ∙ sym (list_any_more (λ c. lies_within c text) sorted n b lt)
 
-  reach : Reach (bs ++ next ∷ [])
-  reach i j d text le less h = elim (cases_lt j (length bs)) [
-    | inl front ↦ ap (unended text) (at_front bs next j d front) ∙ was.reach i j d text le front (sym (ap (unended text) (at_front bs next i d (omega (arith, le, front)))) ∙ h)
-    | inr back ↦ (let all = length-append bs (next ∷ []) in let here : j ≡ length bs = omega (arith, back, less, all) in
-        elim (cases_lt i (length bs)) [
-          | inl before ↦ (let len : length bs ≡ (length bs - 1) + 1 = omega (arith, before) in
-              ap (unended text) (at_back bs next j d here) ∙ end (length bs - 1) len d text
-              ∙ ap (λ a. a || unended text b) (was.reach i (length bs - 1) d text (omega (arith, before)) (omega (arith, before)) (sym (ap (unended text) (at_front bs next i d before)) ∙ h)))
-          | inr too ↦ (let same : i ≡ length bs = omega (arith, too, le, here) in
-              ap (unended text) (at_back bs next j d here ∙ sym (at_back bs next i d same)) ∙ h)
-        ])
-  ]
-
-  core : (text : List ℕ) → (some_within bs text || lies_within next text) ≡ (some_within bs text || lies_within b text)
-  core text = elim (cases_lt 0 (length bs)) [
-    | inr none ↦ (let empty : length bs ≡ 0 = omega (arith, none) in
-        λ k. some_within bs text || (start text k && first empty text k))
-    | inl some ↦ (let len : length bs ≡ (length bs - 1) + 1 = omega (arith, some) in
-        let k = length bs - 1 in
-        (λ i. some_within bs text || (start text i && end k len b text i))
-        ∙ core_or (some_within bs text) (begun text b) (unended text (get_or bs k b)) (unended text b)
-        (λ started still.
-        let there : begun text (get_or sorted k b) ≡ true = rise k n b text (omega (arith, was.count)) lt (sym (ap (begun text) is) ∙ started) in
-        held_by text bs k b (omega (arith, some)) (both_true (begun text (get_or bs k b)) (unended text (get_or bs k b)) (was.starts k b b text (omega (arith, some, was.count)) ∙ there) still)))
-  ]
-
-  pub one_more : IsReached sorted (bs ++ next ∷ []) (n + 1)
-  one_more = record {
-    count = length-append bs (next ∷ []) ∙ ap (λ l. l + 1) was.count;
+  passed_over : ends_within bs b ≡ true → AreOuter sorted bs (n + 1)
+  passed_over more = record {
     within = omega (arith, lt);
-    starts = starts;
-    reach = reach;
-    same = λ text. list_any-append (λ c. lies_within c text) bs (next ∷ []) ∙ ap (λ a. some_within bs text || a) (or_none (lies_within next text)) ∙ core text
-        ∙ (λ k. was.same text k || lies_within (is k) text) ∙ sym (list_any_more (λ c. lies_within c text) sorted n b lt);
+    rise = was.rise;
+    reach = was.reach;
+    ahead = λ k j d e text front le less h. was.ahead k j d e text front (omega (arith, le)) less h;
+    same = λ text. or_left (some_within bs text) (lies_within b text) (held text) ∙ told text;
   }
+    where
+      held : (text : List ℕ) → lies_within b text ≡ true → some_within bs text ≡ true
+      held text h =
+          let some = some_there bs b more in
+          let last = get_or bs (length bs - 1) b in
+          let started : begun text (get_or sorted n b) ≡ true = sym (ap (begun text) is) ∙ and_first (begun text b) (unended text b) h in
+          held_by text bs (length bs - 1) b (omega (arith, some)) (both_true (begun text last) (unended text last)
+          (was.ahead (length bs - 1) n b b text (omega (arith, some)) (omega arith) lt started)
+          (covered bs b more b text (and_second (begun text b) (unended text b) h)))
+
+  added : ends_within bs b ≡ false → AreOuter sorted (bs ++ b ∷ []) (n + 1)
+  added less = record {
+    within = omega (arith, lt);
+    rise = rise;
+    reach = reach;
+    ahead = ahead;
+    same = λ text. list_any-append (λ c. lies_within c text) bs (b ∷ []) ∙ ap (λ a. some_within bs text || a) (or_none (lies_within b text)) ∙ told text;
+  }
+    where
+      count : length (bs ++ b ∷ []) ≡ length bs + 1
+      count = length-append bs (b ∷ [])
+
+      rise : Rise (bs ++ b ∷ [])
+      rise i j d text le less_j h = elim (cases_lt j (length bs)) [
+        | inl front ↦ ap (begun text) (at_front bs b i d (omega (arith, le, front))) ∙ was.rise i j d text le front (sym (ap (begun text) (at_front bs b j d front)) ∙ h)
+        | inr back ↦ (let here : j ≡ length bs = omega (arith, back, less_j, count) in
+            let started : begun text b ≡ true = sym (ap (begun text) (at_back bs b j d here)) ∙ h in
+            elim (cases_lt i (length bs)) [
+              | inl before ↦ ap (begun text) (at_front bs b i d before) ∙ was.ahead i n d b text before (omega arith) lt (sym (ap (begun text) is) ∙ started)
+              | inr too ↦ ap (begun text) (at_back bs b i d (omega (arith, too, le, here))) ∙ started
+            ])
+      ]
+
+      reach : Reach (bs ++ b ∷ [])
+      reach i j d text le less_j h = elim (cases_lt j (length bs)) [
+        | inl front ↦ ap (unended text) (at_front bs b j d front) ∙ was.reach i j d text le front (sym (ap (unended text) (at_front bs b i d (omega (arith, le, front)))) ∙ h)
+        | inr back ↦ (let here : j ≡ length bs = omega (arith, back, less_j, count) in
+            elim (cases_lt i (length bs)) [
+              | inl before ↦ ap (unended text) (at_back bs b j d here) ∙ behind bs b less d text (omega (arith, before))
+                  (was.reach i (length bs - 1) d text (omega (arith, before)) (omega (arith, before)) (sym (ap (unended text) (at_front bs b i d before)) ∙ h))
+              | inr too ↦ ap (unended text) (at_back bs b j d here ∙ sym (at_back bs b i d (omega (arith, too, le, here)))) ∙ h
+            ])
+      ]
+
+      ahead : (k j : ℕ) (d e : Bounds) (text : List ℕ) → k < length (bs ++ b ∷ []) → n + 1 ≤ j → j < length sorted → begun text (get_or sorted j e) ≡ true → begun text (get_or (bs ++ b ∷ []) k d) ≡ true
+      ahead k j d e text less_k le less_j h = elim (cases_lt k (length bs)) [
+        | inl front ↦ ap (begun text) (at_front bs b k d front) ∙ was.ahead k j d e text front (omega (arith, le)) less_j h
+        | inr back ↦ (let here : k ≡ length bs = omega (arith, back, less_k, count) in
+            ap (begun text) (at_back bs b k d here ∙ is) ∙ up n j b text (omega (arith, le)) less_j (ap (begun text) (same_at sorted j b e less_j) ∙ h))
+      ]
+
+  pub one_more : AreOuter sorted (with_outer bs b) (n + 1)
+  one_more = at (ends_within bs b) refl
+    where
+      at : (t : Bool) → ends_within bs b ≡ t → AreOuter sorted (with_outer bs b) (n + 1)
+      at true more = subst (λ t. AreOuter sorted (if◌then◌else◌ t bs (bs ++ b ∷ [])) (n + 1)) (sym more) (passed_over more)
+      at false less = subst (λ t. AreOuter sorted (if◌then◌else◌ t bs (bs ++ b ∷ [])) (n + 1)) (sym less) (added less)
 
 -- ---- sorted ranges
 

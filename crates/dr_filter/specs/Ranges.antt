@@ -1,9 +1,10 @@
 -- Ranges in the order of their lower ends.
-use Rattle.std.specs.Prelude.{◌≡◌, ℕ, ◌<◌, ◌≤◌, Bool, true, false, List, [], Option, Some, None, length, get_or}
+use Rattle.std.specs.Prelude.{◌≡◌, ℕ, ◌<◌, ◌≤◌, Bool, true, false, if◌then◌else◌, List, [], ◌∷◌, ◌++◌, Option, Some, None, length, get_or}
 use Rattle.std.specs.Ordering.{nat_cmp, bool_cmp, ordering_then}
 use Rattle.std.specs.Cmp.Lexicographic.{slice_cmp}
 use Rattle.std.specs.declared.cmp.Ordering.{Ordering}
 use Rattle.dr_filter.specs.declared.bounds.Bounds.{Bounds}
+use Rattle.dr_filter.specs.Ends.{ends_before}
 use Rattle.dr_filter.specs.Within.{not_before, not_after}
 
 -- the lower end as a text, and whether it is strict; where it is absent it is the empty text, and isn't
@@ -31,3 +32,12 @@ Rise bs = (i j : ℕ) (d : Bounds) (text : List ℕ) → i ≤ j → j < length 
 -- a text that isn't past the end of a range isn't past the ends of those behind it
 abbrev pub Reach : List Bounds → Type 0
 Reach bs = (i j : ℕ) (d : Bounds) (text : List ℕ) → i ≤ j → j < length bs → unended text (get_or bs i d) ≡ true → unended text (get_or bs j d) ≡ true
+
+-- a range ends no later than the last of some ranges
+abbrev pub ends_within : List Bounds → Bounds → Bool
+ends_within [] b = false
+ends_within (r ∷ rs) b = ends_before b.upper b.upper_strict (get_or (r ∷ rs) (length rs) b).upper
+
+-- some ranges, and one behind them, unless it ends no later
+abbrev pub with_outer : List Bounds → Bounds → List Bounds
+with_outer bs b = if◌then◌else◌ (ends_within bs b) bs (bs ++ b ∷ [])

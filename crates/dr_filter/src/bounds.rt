@@ -72,7 +72,7 @@ impl Bounds {
     }
 }
 
-pub(crate) fn copy_of(end: &Option<Text>) -> Result<Option<Text>, AllocError>
+fn copy_of(end: &Option<Text>) -> Result<Option<Text>, AllocError>
     ensures { IfOk result (λ e. e ≡ end.now) }
 {
     match end {

@@ -1,16 +1,15 @@
-ghost use Rattle.std.specs.Prelude.{◌≡◌, ◌||◌, ◌+◌, ℕ, List, length, get_or, IfOk};
-ghost use Rattle.dr_filter.specs.declared.bounds.Bounds.{Bounds as BoundsOf};
-ghost use Rattle.dr_filter.specs.Ranges.{start_text as start_text_of, start_strict as start_strict_of, start_order as start_order_of, begun, unended, Rise, Reach};
+ghost use Rattle.std.specs.Prelude.{◌≡◌, ℕ, List, IfOk, OnOk};
+ghost use Rattle.dr_filter.specs.Ranges.{start_text as start_text_of, start_strict as start_strict_of, start_order as start_order_of, ends_within as ends_within_of, with_outer, Rise, Reach};
 ghost use Rattle.dr_filter.specs.Within.{some_within};
 
-use crate::bounds::{Bounds, copy_of, ends_before, not_after, not_before};
+use crate::bounds::{Bounds, ends_before, not_after, not_before};
 use dr_base::Text;
 use std::alloc::{AllocError, Global};
 use std::cmp::Ordering;
 use std::marker::Model;
 
-/// Ranges of texts in the order of their lower ends, each with the greatest upper end of those up to it, so that the last one that
-/// has begun tells of all of them whether one holds a text. A contract sees the list of them.
+/// Ranges of texts in the order of their lower ends, without those that lie within one before them, so that the last one that has
+/// begun tells of all of them whether one holds a text. A contract sees the list of them.
 #[derive(Drop)]
 pub struct Ranges(Vec<Bounds>);
 
@@ -37,7 +36,7 @@ impl Ranges {
                 ensures { result ≡ start_order_of a.now b.now }
             { start_order(a, b) },
         );
-        Ok(Ranges(reached(alloc, sorted.as_slice())?))
+        Ok(Ranges(outer(alloc, sorted.as_slice())?))
     }
 
     /// Whether a text lies in one of the ranges. It takes no memory, and time by the bytes of the text times the logarithm of the
@@ -85,39 +84,39 @@ fn start_strict(lower: &Option<Text>, strict: bool) -> bool
     }
 }
 
-// The same ranges, each with the greatest upper end of those up to it.
-fn reached(alloc: Global, sorted: &[Bounds]) -> Result<Vec<Bounds>, AllocError>
+// Those of some ranges that end behind all that stand before them: each of the others lies within one before it.
+fn outer(alloc: Global, sorted: &[Bounds]) -> Result<Vec<Bounds>, AllocError>
     requires { Rise sorted.now }
     ensures rise { IfOk result (λ r. Rise r.items) }
     ensures reach { IfOk result (λ r. Reach r.items) }
     ensures same { IfOk result (λ r. (text : List ℕ) → some_within r.items text ≡ some_within sorted.now text) }
 {
-    let mut reached = Vec::new(alloc);
+    let mut outer = Vec::new(alloc);
     for bounds in sorted {
-        let next = reaching(reached.as_slice(), bounds)?;
-        reached.push(next)?;
+        add_outer(&mut outer, bounds)?;
     }
-    Ok(reached)
+    Ok(outer)
 }
 
-// A range with its upper end, or that of the last one, whichever is greater.
-fn reaching(reached: &[Bounds], bounds: &Bounds) -> Result<Bounds, AllocError>
-    ensures begun { IfOk result (λ next. (text : List ℕ) → begun text next ≡ begun text bounds.now) }
-    ensures none { IfOk result (λ next. length reached.now ≡ 0 → (text : List ℕ) → unended text next ≡ unended text bounds.now) }
-    ensures last { IfOk result (λ next. (k : ℕ) → length reached.now ≡ k + 1 → (d : BoundsOf) (text : List ℕ) → unended text next ≡ (unended text (get_or reached.now k d) || unended text bounds.now)) }
+// Adds a range, if it ends behind those that are there.
+fn add_outer(outer: &mut Vec<Bounds>, bounds: &Bounds) -> Result<(), AllocError>
+    ensures { OnOk result (outer.new.items ≡ with_outer outer.old.items bounds.now) }
 {
-    let len = reached.len();
+    if ends_within(outer.as_slice(), bounds) {
+        return Ok(());
+    }
+    outer.push(bounds.copy()?)?;
+    Ok(())
+}
+
+// Whether a range ends no later than the last of some ranges.
+fn ends_within(outer: &[Bounds], bounds: &Bounds) -> bool
+    ensures { result ≡ ends_within_of outer.now bounds.now }
+{
+    let len = outer.len();
     if len == 0 {
-        return Ok(bounds.copy()?);
+        return false;
     }
-    let last = &reached[len - 1];
-    if !ends_before(&bounds.upper, bounds.upper_strict, &last.upper) {
-        return Ok(bounds.copy()?);
-    }
-    Ok(Bounds {
-        lower: copy_of(&bounds.lower)?,
-        upper: copy_of(&last.upper)?,
-        lower_strict: bounds.lower_strict,
-        upper_strict: last.upper_strict,
-    })
+    let last = &outer[len - 1];
+    ends_before(&bounds.upper, bounds.upper_strict, &last.upper)
 }
