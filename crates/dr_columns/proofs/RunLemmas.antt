@@ -1,5 +1,5 @@
 -- Runs of rows.
-use Rattle.std.proofs.Common.{◌≡◌, ◌∙◌, sym, refl, ap, subst, ℕ, zero, suc, ◌+◌, ◌-◌, ◌<◌, ◌≤◌, ℤ, pos, ◌≤ℤ◌, ◌<ℤ◌, int_le, int_lt, Bool, true, false, true≢false, ◌&&◌, ◌||◌, if◌then◌else◌, None, Some, unwrap_or, List, [], ◌∷◌, ◌++◌, map, length, get_or, take, drop, arith}
+use Rattle.std.proofs.Common.{◌≡◌, ◌∙◌, sym, refl, ap, subst, ℕ, zero, suc, ◌+◌, ◌-◌, ◌<◌, ◌≤◌, ℤ, pos, ◌≤ℤ◌, ◌<ℤ◌, int_le, int_lt, Bool, true, false, true≢false, ◌&&◌, if◌then◌else◌, None, Some, unwrap_or, List, [], ◌∷◌, ◌++◌, map, length, get_or, take, drop, arith}
 use Rattle.std.specs.List.{All, range_with_len, fold}
 use Rattle.std.proofs.lemmas.Int.{ints, by_lt_z}
 use Rattle.std.proofs.lemmas.List.{drop_more, drop_all, take-map, drop-map, length-map}
@@ -9,7 +9,6 @@ use Rattle.jiff_core.proofs.SignedLemmas.{signed_arith}
 use Rattle.dr_base.specs.declared.row.Row.{Row}
 use Rattle.dr_time.specs.declared.interval.Interval.{Interval}
 use Rattle.dr_time.specs.Instant.{IsInstant, first_instant}
-use Rattle.dr_time.specs.Interval.{holds_time}
 use Rattle.dr_time.specs.Union.{union_holds, union_start, union_first_from}
 use Rattle.dr_time.specs.Laws.{IsFirstTime}
 use Rattle.dr_time.proofs.UnionLemmas.{union_first_from-first}

@@ -8,7 +8,7 @@ ghost use Rattle.dr_columns.specs.Rows.{Narrows, key_at, meets};
 
 use crate::cells::{known_place, value_at};
 use crate::telling::{all_true, drop_where, keep_true};
-use dr_filter::{DimensionTest, EveryBound, Filter, Selectors, ValueTest};
+use dr_filter::{DimensionTest, EveryBound, Filter, Selectors, SomeBound, ValueTest};
 use dr_image::SegmentView;
 use dr_time::Union;
 use std::alloc::{AllocError, Global};
@@ -16,8 +16,8 @@ use std::alloc::{AllocError, Global};
 /// Makes false what is told of the rows of an image that a filter doesn't keep. A test of a dimension is asked once for each value
 /// of the dimension's dictionary, and the time of a row once for each run of equal times. The only error is that memory ran out.
 /// It takes time by the tests of the filter, each by the rows and as [`ValueTest::passes`] by the values; the selectors among the
-/// members of one `or`, those of which one `and` has the `not`, and the bounds among the members of one `and` count as one test
-/// each for each dimension that they name.
+/// members of one `or`, those of which one `and` has the `not`, and the bounds among the members of one `and` or of one `or` count
+/// as one test each for each dimension that they name.
 #[cycle(narrowing)]
 pub fn narrow(
     alloc: Global,
@@ -37,8 +37,8 @@ pub fn narrow(
         Filter::And(denied, bounds, filters) => {
             narrow_every(alloc, view, denied, bounds, filters.as_slice(), told)
         }
-        Filter::Or(selectors, filters) => {
-            let none = meet_none(alloc, view, selectors, filters.as_slice())?;
+        Filter::Or(selectors, bounds, filters) => {
+            let none = meet_none(alloc, view, selectors, bounds, filters.as_slice())?;
             drop_where(told, none.as_slice());
             Ok(())
         }
@@ -88,19 +88,21 @@ fn narrow_others(
     Ok(())
 }
 
-// Of each row, whether none of some selectors holds of it and it meets none of some filters, which together are the members of
-// an `or`.
+// Of each row, whether none of some selectors and of some bounds holds of it and it meets none of some filters, which together
+// are the members of an `or`.
 #[cycle(narrowing)]
 fn meet_none(
     alloc: Global,
     view: &SegmentView<'_>,
     selectors: &Selectors,
+    bounds: &SomeBound,
     filters: &[Filter],
 ) -> Result<Vec<bool>, AllocError>
     ensures count { IfOk result (λ none. length none.items ≡ length view.now.times) }
-    ensures each { IfOk result (λ none. (i : ℕ) → i < length view.now.times → get_or none.items i false ≡ not (some_matches (key_at view.now i).time (key_at view.now i).dims (conditions_of (members_of (selects true) selectors.now (map condition_in filters.now))))) }
+    ensures each { IfOk result (λ none. (i : ℕ) → i < length view.now.times → get_or none.items i false ≡ not (some_matches (key_at view.now i).time (key_at view.now i).dims (conditions_of (members_of (selects true) selectors.now (members_of ranges bounds.now (map condition_in filters.now)))))) }
 {
-    let mut none = pass_none(alloc, view, selectors.look_ups())?;
+    let unselected = pass_none(alloc, view, selectors.look_ups())?;
+    let mut none = pass_none_too(alloc, view, unselected, bounds.look_ups())?;
     for filter in filters {
         let mut met = all_true(alloc, view)?;
         narrow(alloc, view, filter, met.as_mut_slice())?;
@@ -151,7 +153,22 @@ fn pass_none(
     ensures count { IfOk result (λ none. length none.items ≡ length view.now.times) }
     ensures each { IfOk result (λ none. (i : ℕ) → i < length view.now.times → get_or none.items i false ≡ not (some_holds (key_at view.now i).dims tests.now)) }
 {
-    let mut none = all_true(alloc, view)?;
+    let told = all_true(alloc, view)?;
+    pass_none_too(alloc, view, told, tests)
+}
+
+// Of each row, whether it is told and passes none of some tests.
+fn pass_none_too(
+    alloc: Global,
+    view: &SegmentView<'_>,
+    told: Vec<bool>,
+    tests: &[DimensionTest],
+) -> Result<Vec<bool>, AllocError>
+    requires { length told.items ≡ length view.now.times }
+    ensures count { IfOk result (λ none. length none.items ≡ length view.now.times) }
+    ensures each { IfOk result (λ none. (i : ℕ) → i < length view.now.times → get_or none.items i false ≡ (get_or told.items i false && not (some_holds (key_at view.now i).dims tests.now))) }
+{
+    let mut none = told;
     for test in tests {
         let mut met = all_true(alloc, view)?;
         keep_passing(alloc, view, test, met.as_mut_slice())?;

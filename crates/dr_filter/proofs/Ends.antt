@@ -9,14 +9,14 @@ use Rattle.dr_filter.specs.Match.{comes_after, not_before, not_after}
 use Rattle.dr_filter.specs.Ends.{starts_behind, ends_before}
 
 module _ {K : Type 0} (R : K → K → Ordering) (o : IsTotalOrder R) where
-  turned_round : (x y : K) (r : Ordering) → R x y ≡ r → R y x ≡ ordering_reverse r
+  pub turned_round : (x y : K) (r : Ordering) → R x y ≡ r → R y x ≡ ordering_reverse r
   turned_round x y r h = o.antisymm y x ∙ ap ordering_reverse h
 
   greater_chain : (x y z : K) → R x y ≡ Greater → R y z ≡ Greater → R x z ≡ Greater
   greater_chain x y z a b = turned_round z x Less (o.trans z y x (turned_round y z Greater b) (turned_round x y Greater a))
 
   -- what comes after one end comes after each that is before it
-  far : (t a b : K) (strict other : Bool) → R a b ≡ Greater → comes_after (R t a) strict ≡ true → comes_after (R t b) other ≡ true
+  pub far : (t a b : K) (strict other : Bool) → R a b ≡ Greater → comes_after (R t a) strict ≡ true → comes_after (R t b) other ≡ true
   far t a b strict other behind h = at (R t a) refl
     where
       at : (r : Ordering) → R t a ≡ r → comes_after (R t b) other ≡ true
@@ -24,17 +24,17 @@ module _ {K : Type 0} (R : K → K → Ordering) (o : IsTotalOrder R) where
       at Equal is = ap (λ r. comes_after r other) (o.congr t a b is ∙ behind)
       at Greater is = ap (λ r. comes_after r other) (greater_chain t a b is behind)
 
-  same_place : (t a b : K) → R a b ≡ Equal → R t a ≡ R t b
+  pub same_place : (t a b : K) → R a b ≡ Equal → R t a ≡ R t b
   same_place t a b h = o.antisymm t a ∙ ap ordering_reverse (o.congr a b t h) ∙ sym (o.antisymm t b)
 
   -- past a strict end
-  past : (r : Ordering) (other : Bool) → comes_after r true ≡ true → comes_after r other ≡ true
+  pub past : (r : Ordering) (other : Bool) → comes_after r true ≡ true → comes_after r other ≡ true
   past Less other h = absurd (cc h)
   past Equal other h = absurd (cc h)
   past Greater other h = refl
 
   -- at an end that isn't strict
-  reached : (r : Ordering) (other : Bool) → comes_after r other ≡ true → comes_after r false ≡ true
+  pub reached : (r : Ordering) (other : Bool) → comes_after r other ≡ true → comes_after r false ≡ true
   reached Less other h = h
   reached Equal other h = refl
   reached Greater other h = refl
@@ -72,7 +72,7 @@ one_does a true h = sym (h refl)
 one_does a false h = refl
 
 module _ (text : List ℕ) where
-  lower-more : (a : Option (List ℕ)) (s : Bool) (b : Option (List ℕ)) (other : Bool) → starts_behind a s b ≡ true → not_before a s text ≡ true → not_before b other text ≡ true
+  pub lower-more : (a : Option (List ℕ)) (s : Bool) (b : Option (List ℕ)) (other : Bool) → starts_behind a s b ≡ true → not_before a s text ≡ true → not_before b other text ≡ true
   lower-more None s b other more h = absurd (cc more)
   lower-more (Some a) s None other more h = refl
   lower-more (Some a) s (Some b) other more h = asks_more (slice_cmp nat_cmp) nat_list_cmp_total text a b s other more h
@@ -82,12 +82,12 @@ module _ (text : List ℕ) where
   lower-less (Some a) s None other less h = absurd (cc less)
   lower-less (Some a) s (Some b) other less h = asks_less (slice_cmp nat_cmp) nat_list_cmp_total text a b s other less h
 
-  upper-more : (a : Option (List ℕ)) (s : Bool) (b : Option (List ℕ)) (other : Bool) → ends_before a s b ≡ true → not_after a s text ≡ true → not_after b other text ≡ true
+  pub upper-more : (a : Option (List ℕ)) (s : Bool) (b : Option (List ℕ)) (other : Bool) → ends_before a s b ≡ true → not_after a s text ≡ true → not_after b other text ≡ true
   upper-more None s b other more h = absurd (cc more)
   upper-more (Some a) s None other more h = refl
   upper-more (Some a) s (Some b) other more h = asks_more (λ x y. slice_cmp nat_cmp y x) (turned_total (slice_cmp nat_cmp) nat_list_cmp_total) text a b s other more h
 
-  upper-less : (a : Option (List ℕ)) (s : Bool) (b : Option (List ℕ)) (other : Bool) → ends_before a s b ≡ false → not_after b other text ≡ true → not_after a s text ≡ true
+  pub upper-less : (a : Option (List ℕ)) (s : Bool) (b : Option (List ℕ)) (other : Bool) → ends_before a s b ≡ false → not_after b other text ≡ true → not_after a s text ≡ true
   upper-less None s b other less h = refl
   upper-less (Some a) s None other less h = absurd (cc less)
   upper-less (Some a) s (Some b) other less h = asks_less (λ x y. slice_cmp nat_cmp y x) (turned_total (slice_cmp nat_cmp) nat_list_cmp_total) text a b s other less h

@@ -3,3 +3,5 @@ pub mod Levels
 pub mod Truths
 pub mod LookedUp
 pub mod Ends
+pub mod Reaching
+pub mod Gathering

@@ -133,6 +133,16 @@ every_matches-ranges time dims (None ∷ ms) [] = every_matches-ranges time dims
 every_matches-ranges time dims (None ∷ ms) (c ∷ cs) =
     ap (λ a. matches time dims c && a) (every_matches-ranges time dims ms cs) ∙ and_moves (matches time dims c) (every_holds dims (tests_in as_range ms)) (every_matches time dims (conditions_of cs))
 
+-- some member matches where one of the bounds holds, or one of the others matches
+pub some_matches-ranges : (time : ℤ) (dims : List (List ℕ)) (ms : List (Option Bound)) (cs : List Condition)
+    → some_matches time dims (conditions_of (members_of ranges ms cs)) ≡ (some_holds dims (tests_in as_range ms) || some_matches time dims (conditions_of cs))
+some_matches-ranges time dims [] cs = refl
+some_matches-ranges time dims (Some b ∷ ms) cs =
+    ap (λ a. holds_of (as_range b) dims || a) (some_matches-ranges time dims ms cs) ∙ or_regroups (holds_of (as_range b) dims) (some_holds dims (tests_in as_range ms)) (some_matches time dims (conditions_of cs))
+some_matches-ranges time dims (None ∷ ms) [] = some_matches-ranges time dims ms []
+some_matches-ranges time dims (None ∷ ms) (c ∷ cs) =
+    ap (λ a. matches time dims c || a) (some_matches-ranges time dims ms cs) ∙ or_moves (matches time dims c) (some_holds dims (tests_in as_range ms)) (some_matches time dims (conditions_of cs))
+
 module _ (time : ℤ) (dims : List (List ℕ)) (ms : List (Option Selector)) (cs : List Condition) where
   pub matches-selectors : some_holds dims (tests_in as_test ms) ≡ true → some_matches time dims (conditions_of (members_of (selects true) ms cs)) ≡ true
   matches-selectors holds = some_matches-members time dims ms cs ∙ ap (λ b. b || some_matches time dims (conditions_of cs)) holds
@@ -149,6 +159,12 @@ module _ (time : ℤ) (dims : List (List ℕ)) (ms : List (Option Selector)) (cs
 module _ (time : ℤ) (dims : List (List ℕ)) (ms : List (Option Bound)) (cs : List Condition) where
   pub matches-outside : every_holds dims (tests_in as_range ms) ≡ false → every_matches time dims (conditions_of (members_of ranges ms cs)) ≡ false
   matches-outside outside = every_matches-ranges time dims ms cs ∙ ap (λ b. b && every_matches time dims (conditions_of cs)) outside
+
+  pub matches-range : some_holds dims (tests_in as_range ms) ≡ true → some_matches time dims (conditions_of (members_of ranges ms cs)) ≡ true
+  matches-range holds = some_matches-ranges time dims ms cs ∙ ap (λ b. b || some_matches time dims (conditions_of cs)) holds
+
+  pub matches-no_range : some_holds dims (tests_in as_range ms) ≡ false → some_matches time dims (conditions_of (members_of ranges ms cs)) ≡ some_matches time dims (conditions_of cs)
+  matches-no_range none = some_matches-ranges time dims ms cs ∙ ap (λ b. b || some_matches time dims (conditions_of cs)) none
 
   pub matches-inside : every_holds dims (tests_in as_range ms) ≡ true → every_matches time dims (conditions_of (members_of ranges ms cs)) ≡ every_matches time dims (conditions_of cs)
   matches-inside inside = every_matches-ranges time dims ms cs ∙ ap (λ b. b && every_matches time dims (conditions_of cs)) inside

@@ -65,7 +65,7 @@ abbrev pub condition_step : Filter-F Condition → Condition
 condition_step (Filter-F.Dimension test) = dimension test
 condition_step (Filter-F.Interval union) = interval union
 condition_step (Filter-F.And denied bounds filters) = every (conditions_of (members_of (selects false) denied (members_of ranges bounds filters.items)))
-condition_step (Filter-F.Or selectors filters) = some (conditions_of (members_of (selects true) selectors filters.items))
+condition_step (Filter-F.Or selectors bounds filters) = some (conditions_of (members_of (selects true) selectors (members_of ranges bounds filters.items)))
 condition_step (Filter-F.Not filter) = opposite (box_value filter)
 
 -- the condition that a filter stands for

@@ -2,7 +2,7 @@
 use Rattle.std.specs.Prelude.{ℕ, Bool, true, false, not, List, Option, Some, None}
 use Rattle.std.specs.Ordering.{nat_cmp}
 use Rattle.std.specs.Cmp.Lexicographic.{slice_cmp}
-use Rattle.dr_filter.specs.Match.{comes_after}
+use Rattle.dr_filter.specs.Within.{comes_after}
 
 -- a lower end asks more than another one, or as much: it is greater, or the same and strict
 abbrev pub starts_behind : Option (List ℕ) → Bool → Option (List ℕ) → Bool

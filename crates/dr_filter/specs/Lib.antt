@@ -1,7 +1,10 @@
 pub mod Refusal
-pub mod Match
+pub mod Within
 pub mod Ends
+pub mod Ranges
+pub mod Match
 pub mod LookUps
+pub mod Gathered
 pub mod Condition
 pub mod Values
 pub mod Fields

@@ -37,6 +37,10 @@ AreLookedUp tests ms = (dims : List (List ℕ)) → some_holds dims tests ≡ so
 abbrev pub AreEvery : List DimensionTest → List (Option Bound) → Type 0
 AreEvery tests ms = (dims : List (List ℕ)) → every_holds dims tests ≡ every_holds dims (tests_in as_range ms)
 
+-- and what they tell of which one is to hold
+abbrev pub AreSome : List DimensionTest → List (Option Bound) → Type 0
+AreSome tests ms = (dims : List (List ℕ)) → some_holds dims tests ≡ some_holds dims (tests_in as_range ms)
+
 -- there is a test of a dimension at a place in a list
 abbrev pub IsTestOf : List DimensionTest → ℕ → Option ℕ → Type 0
 IsTestOf tests i place = (i < length tests) × ((t : DimensionTest) → (get_or tests i t).place ≡ place)

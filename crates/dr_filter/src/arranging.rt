@@ -7,6 +7,7 @@ use crate::every_bound::EveryBound;
 use crate::filter::Filter;
 use crate::selector::Selector;
 use crate::selectors::Selectors;
+use crate::some_bound::SomeBound;
 use crate::value_test::ValueTest;
 use std::alloc::{AllocError, Global};
 
@@ -24,8 +25,10 @@ pub fn every_of(alloc: Global, filters: Vec<Filter>) -> Result<Filter, AllocErro
 pub fn one_of(alloc: Global, filters: Vec<Filter>) -> Result<Filter, AllocError>
     ensures { IfOk result (λ f. condition_in f ≡ some (conditions_of (map condition_in filters.items))) }
 {
-    let (selectors, others) = selectors_apart(alloc, filters, true)?;
-    Ok(Filter::Or(selectors, others))
+    let (selectors, rest) = selectors_apart(alloc, filters, true)?;
+    let (members, others) = bounds_apart(alloc, rest)?;
+    let bounds = SomeBound::of(alloc, members)?;
+    Ok(Filter::Or(selectors, bounds, others))
 }
 
 // The selectors among some filters, or those of which the `not` is among them, and the other filters.

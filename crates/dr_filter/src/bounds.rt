@@ -2,7 +2,7 @@ ghost use Rattle.std.specs.Prelude.{◌≡◌, ◌&&◌, ℕ, List, IfOk, OnOk, 
 ghost use Rattle.std.specs.Ordering.{nat_cmp};
 ghost use Rattle.std.specs.Cmp.Lexicographic.{slice_cmp};
 ghost use Rattle.dr_filter.specs.Ends.{starts_behind as starts_behind_of, ends_before as ends_before_of};
-ghost use Rattle.dr_filter.specs.Match.{lies_within, not_before as not_before_of, not_after as not_after_of, comes_after as comes_after_of};
+ghost use Rattle.dr_filter.specs.Within.{lies_within, not_before as not_before_of, not_after as not_after_of, comes_after as comes_after_of};
 
 use dr_base::Text;
 use std::alloc::AllocError;
@@ -95,7 +95,7 @@ fn starts_behind(lower: &Option<Text>, strict: bool, other: &Option<Text>) -> bo
 }
 
 // Whether an upper end asks more than another one, or as much.
-fn ends_before(upper: &Option<Text>, strict: bool, other: &Option<Text>) -> bool
+pub(crate) fn ends_before(upper: &Option<Text>, strict: bool, other: &Option<Text>) -> bool
     ensures { result ≡ ends_before_of upper.now strict other.now }
 {
     let Some(upper) = upper else {
@@ -107,7 +107,7 @@ fn ends_before(upper: &Option<Text>, strict: bool, other: &Option<Text>) -> bool
     }
 }
 
-fn not_before(lower: &Option<Text>, strict: bool, text: &str) -> bool
+pub(crate) fn not_before(lower: &Option<Text>, strict: bool, text: &str) -> bool
     ensures { result ≡ not_before_of lower.now strict text.now }
 {
     match lower {
@@ -116,7 +116,7 @@ fn not_before(lower: &Option<Text>, strict: bool, text: &str) -> bool
     }
 }
 
-fn not_after(upper: &Option<Text>, strict: bool, text: &str) -> bool
+pub(crate) fn not_after(upper: &Option<Text>, strict: bool, text: &str) -> bool
     ensures { result ≡ not_after_of upper.now strict text.now }
 {
     match upper {

@@ -4,6 +4,7 @@ ghost use Rattle.dr_filter.specs.Condition.{condition_in, conditions_of, members
 use crate::dimension_test::DimensionTest;
 use crate::every_bound::EveryBound;
 use crate::selectors::Selectors;
+use crate::some_bound::SomeBound;
 use dr_base::Text;
 use dr_time::Union;
 
@@ -19,8 +20,8 @@ pub enum Filter {
     /// looked up together, its bounds are asked together, and the others stand apart.
     And(Selectors, EveryBound, Vec<Filter>),
     /// `or`: one of these holds, as none does where there are none. The selectors among its members are looked up together,
-    /// and the others stand apart.
-    Or(Selectors, Vec<Filter>),
+    /// its bounds are asked together, and the others stand apart.
+    Or(Selectors, SomeBound, Vec<Filter>),
     /// `not`: this doesn't hold.
     Not(Box<Filter>),
 }
@@ -31,7 +32,8 @@ impl Filter {
     /// [`ValueTest::passes`](crate::ValueTest::passes), which says where a pattern takes more than the bytes of it and of the
     /// value together. An `interval` takes time logarithmic in the number of its intervals. The selectors among the members of
     /// one `or` count as one test for each dimension that they name, and so do those of which one `and` has the `not`, and the
-    /// bounds among the members of one `and`.
+    /// bounds among the members of one `and`. The bounds among the members of one `or` are asked by one search for each dimension
+    /// that they name, which takes time by the bytes of its value times the logarithm of the number of these bounds.
     #[cycle(matching)]
     pub fn matches(&self, time: i64, dims: &[Text]) -> bool
         ensures { result ≡ matches_of time dims.now (condition_in self.now) }
@@ -46,8 +48,9 @@ impl Filter {
                 time,
                 dims,
             ),
-            Filter::Or(selectors, filters) => some_matches(
+            Filter::Or(selectors, bounds, filters) => some_matches(
                 selectors,
+                bounds,
                 filters.as_slice(),
                 time,
                 dims,
@@ -82,12 +85,21 @@ fn every_matches(
     true
 }
 
-// Whether one of the selectors holds, or one of the members that stand apart matches.
+// Whether one of the selectors or one of the bounds holds, or one of the members that stand apart matches.
 #[cycle(matching)]
-fn some_matches(selectors: &Selectors, filters: &[Filter], time: i64, dims: &[Text]) -> bool
-    ensures { result ≡ some_matches_of time dims.now (conditions_of (members_of (selects true) selectors.now (map condition_in filters.now))) }
+fn some_matches(
+    selectors: &Selectors,
+    bounds: &SomeBound,
+    filters: &[Filter],
+    time: i64,
+    dims: &[Text],
+) -> bool
+    ensures { result ≡ some_matches_of time dims.now (conditions_of (members_of (selects true) selectors.now (members_of ranges bounds.now (map condition_in filters.now)))) }
 {
     if selectors.hold_of(dims) {
+        return true;
+    }
+    if bounds.hold_of(dims) {
         return true;
     }
     for filter in filters {

@@ -35,7 +35,8 @@ impl Filter {
     ///
     /// A field that is required and absent or null is 2 `Missing` with its name, and one of another kind 3 `WrongKind`. 0
     /// `NoMemory` may come in the place of any other answer. It takes memory for the texts of the value, and expected time by
-    /// its bytes and, for each filter of a dimension, by the columns of the schema. A pattern is kept as it stands.
+    /// its bytes and, for each filter of a dimension, by the columns of the schema; the bounds among the members of one `or` are
+    /// sorted, which takes time by their bytes times the logarithm of their number. A pattern is kept as it stands.
     #[tactic(auto, unfolding(crate::specs::FilterOf::filter_of))]
     pub fn parse(alloc: Global, value: &Value, schema: &Schema) -> Result<Filter, FilterError>
         ensures { Gives condition_in result (filter_of schema.now (view value.now)) }

@@ -2,6 +2,7 @@ ghost use Rattle.std.specs.Prelude.{◌≡◌, ◌||◌, ◌&&◌, ℕ, List, tr
 ghost use Rattle.dr_filter.specs.Match.{lies_within, passes as passes_of};
 
 use crate::bounds::Bounds;
+use crate::ranges::Ranges;
 use dr_base::Text;
 use dr_dict::TextSet;
 use dr_like::fits;
@@ -16,15 +17,17 @@ pub enum ValueTest {
     Among(TextSet),
     /// `bound`: it lies in this range.
     Within(Bounds),
+    /// `bound`s of one `or`: it lies in one of these ranges.
+    WithinOne(Ranges),
     /// `like`: it fits this pattern, in which `%` is any run of characters and `_` one Unicode scalar value.
     Like(Text),
 }
 
 impl ValueTest {
     /// Whether a value passes. It takes no memory, and expected time by the bytes of the value; the number of texts of an `in`
-    /// doesn't count. For a pattern it takes time by the bytes of the pattern and of the value together, but for a piece
-    /// between two `%` that has a `_` with other characters on both sides of it: at worst such a piece takes its own bytes
-    /// times those of the value.
+    /// doesn't count, and the number of ranges that are asked together counts by its logarithm. For a pattern it takes time by
+    /// the bytes of the pattern and of the value together, but for a piece between two `%` that has a `_` with other characters
+    /// on both sides of it: at worst such a piece takes its own bytes times those of the value.
     pub fn passes(&self, value: &str) -> bool
         ensures { result ≡ passes_of self.now value.now }
     {
@@ -32,6 +35,7 @@ impl ValueTest {
             ValueTest::Equals(text) => value == text.as_str(),
             ValueTest::Among(texts) => texts.contains(value),
             ValueTest::Within(bounds) => bounds.hold(value),
+            ValueTest::WithinOne(ranges) => ranges.hold(value),
             ValueTest::Like(pattern) => fits(pattern.as_str(), value),
         }
     }

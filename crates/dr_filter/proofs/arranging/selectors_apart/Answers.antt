@@ -34,8 +34,8 @@ loop-filter-preserved-in_ok-selectors-in-Some-2-2 c =
       counted-found (selects c.args.holds) at.yielded f at.selectors _ at.others.items s grown was.3,
     )
 
-pub loop-filter-preserved-in_ok-selectors-in-Some-2-12 : goal.loop-filter-preserved-in_ok-selectors-in-Some-2-12
-loop-filter-preserved-in_ok-selectors-in-Some-2-12 c =
+pub loop-filter-preserved-in_ok-selectors-in-Some-2-13 : goal.loop-filter-preserved-in_ok-selectors-in-Some-2-13
+loop-filter-preserved-in_ok-selectors-in-Some-2-13 c =
     let at = c.loop-filter in
     let was = at.invariant in
     let s = c.in-Some-2.selector in

@@ -8,4 +8,4 @@ invariant-every_matches-loop-filter l =
 
 abbrev pub invariant-some_matches-loop-filter : goal.invariant-some_matches-loop-filter
 invariant-some_matches-loop-filter l =
-    some_matches l.time l.dims (conditions_in (drop l.filter-index l.filters)) ≡ some_matches l.time l.dims (conditions_of (members_of (selects true) l.selectors (map condition_in l.filters)))
+    some_matches l.time l.dims (conditions_in (drop l.filter-index l.filters)) ≡ some_matches l.time l.dims (conditions_of (members_of (selects true) l.selectors (members_of ranges l.bounds (map condition_in l.filters))))
