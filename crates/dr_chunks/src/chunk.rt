@@ -126,8 +126,12 @@ impl Chunk {
         match full {
             None => Ok(0),
             Some(index) => {
-                let fragment =
-                    SharedFragment::of_index(self.start, from, self.events, index).compact(alloc);
+                let fragment = SharedFragment::of_index(
+                    self.start,
+                    from,
+                    self.events,
+                    index,
+                ).compact(alloc);
                 self.sealed
                     .0
                     .push(SealedRange {
