@@ -2,7 +2,16 @@ use Rattle.std.proofs.Common.{rules}
 use Rattle.dr_agg.specs.Rollup.{all_rows}
 use Rattle.dr_scatter.specs.Folds.{AreFolds}
 use Rattle.dr_scatter.proofs.Folded.{split-parts, told, both}
+use denote.Param.Send.{IsSync, sendable, given_send, given_sync}
+use Rattle.std.proofs.Crossing.{crosses}
+use Rattle.dr_partial.proofs.partial.Partial.TheSendSync as partial
+use Rattle.dr_scatter.proofs.Crossing.{query-sync}
 use Rattle.dr_scatter.proofs.merging.+fn-merged-join+arg2+fn-merged-join+arg3+merged.Goals as goal
+
+pub join-first-requires-send-F : goal.join-first-requires-send-F
+join-first-requires-send-F g t c κs within =
+    let threads : IsSync g.row.R = search (rules, given_sync) in
+    search (sendable, crosses, query-sync, partial.the_send, given_send) depth 20
 
 pub join-first-requires-after_bounds : goal.join-first-requires-after_bounds
 join-first-requires-after_bounds g t c κs within =
