@@ -33,9 +33,10 @@ const THE_LAST: &[u8] = br#"[{"columns":["page"],"events":[["B"]],"segmentId":nu
 const TIMESERIES: &[u8] =
     br#"{"queryType":"timeseries","dataSource":"w","intervals":[],"granularity":"all"}"#;
 
-fn query_of(alloc: Global, text: &[u8]) -> Option<Query> {
+fn query_of(alloc: Global, text: &[u8]) -> Option<Box<Query>> {
     let spec = IngestSpec::parse(alloc, SPEC).ok()?;
-    Query::parse(alloc, text, spec.schema()).ok()
+    let query = Query::parse(alloc, text, spec.schema()).ok()?;
+    Box::new(alloc, query).ok()
 }
 
 fn row(alloc: Global, time: i64, page: &str, added: i64) -> Result<Row, AllocError> {
