@@ -14,13 +14,16 @@ PROGRAM = "dr_cli"
 # The folders of wrong bodies: what the gate tries, and what ./edits tries besides.
 MUST_FAIL, FURTHER = "must-fail", "further-edits"
 
+# A definition that a text names: its crate, and its path there.
+CITED = re.compile(r"Rattle\.(\w+)\.specs\.([\w.+-]+)")
+
 
 class Tree:
     """A folder with crates.txt and crates/."""
 
     def __init__(self, top=TOP):
         self.top = top
-        self.uses = {}
+        self.uses, self._cited = {}, None
         with open(f"{top}/crates.txt", encoding="utf-8") as file:
             for line in file:
                 name, colon, words = line.partition("#")[0].partition(":")
@@ -66,13 +69,50 @@ class Tree:
         return digest_of((it, without_comments(self.text(crate, it))) for it in self.files(crate, "src", "specs", "proofs"))
 
     def contracts(self, crate):
-        """A digest of what the crates above may use of a crate: its definitions, and what its modules show without bodies."""
-        texts = [(it, without_comments(self.text(crate, it))) for it in self.files(crate, "specs")]
-        shown = self.shown(crate)
+        """A digest of what the crates above may use of a crate: what its modules show without bodies, and of its definitions those
+        that these name, or another crate does, and so on."""
+        shown, texts = self.shown(crate), {}
         for file in self.files(crate, "src"):
             if shown is None or file.split("/")[1].removesuffix(".rt") in shown:
-                texts.append((file, without_bodies(without_comments(self.text(crate, file)))))
-        return digest_of(texts)
+                texts[file] = self.interface(crate, file)
+        names = self.cited()[crate].union(*(self.names_in(it, crate) for it in texts.values()))
+        while names:
+            file = self.file_of(crate, names.pop())
+            if file not in texts:
+                texts[file] = self.interface(crate, file)
+                names |= self.names_in(texts[file], crate)
+        return digest_of(sorted(texts.items()))
+
+    def interface(self, crate, file):
+        """What a file says to who can't see bodies."""
+        text = without_comments(self.text(crate, file))
+        return without_bodies(text) if file.endswith(".rt") else text
+
+    def names_in(self, text, crate):
+        """The definitions of a crate that a text names."""
+        return {name for of, name in CITED.findall(text) if of == crate}
+
+    def cited(self):
+        """Of each crate the definitions that the others name."""
+        if self._cited is None:
+            self._cited = {it: set() for it in self.uses}
+            for crate in self.uses:
+                for file in self.files(crate, "src", "specs", "proofs"):
+                    for of, name in CITED.findall(self.text(crate, file)):
+                        if of != crate and of in self._cited:
+                            self._cited[of].add(name)
+        return self._cited
+
+    def file_of(self, crate, name):
+        """The file of a crate that has a definition: of `specs`, or of `src` where it is made of a type or a function."""
+        words = name.rstrip(".").split(".")
+        folder, end = ("src", ".rt") if words[0] in ("declared", "contracts") else ("specs", ".antt")
+        words = words[1:] if folder == "src" else words
+        for count in range(len(words), 0, -1):
+            file = f"{folder}/{'/'.join(words[:count])}{end}"
+            if os.path.isfile(f"{self.folder(crate)}/{file}"):
+                return file
+        return "src/lib.rt" if folder == "src" else "specs/Lib.antt"
 
     def shown(self, crate):
         """The root and the modules that it shows, `pub mod` and `pub use`; nothing for a program, where all are taken."""
