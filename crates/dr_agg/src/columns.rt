@@ -7,7 +7,7 @@ use std::alloc::AllocError;
 
 /// Combines the metrics of one row with those of another, column by column, each by its kind. A value that isn't there reads
 /// 0, and one past the columns is dropped. An error leaves the metrics as they were; the only one is that memory ran out,
-/// which metrics with a value for each column don't take.
+/// which metrics with a value for each column don't take. It takes time by the columns.
 pub fn combine_into(kinds: &[Kind], into: &mut Numbers, from: &Numbers) -> Result<(), AllocError>
     ensures ok { OnOk result (into.new ≡ combine_columns kinds.now into.old from.now) }
     ensures err { OnErr result (into.new ≡ into.old) }

@@ -15,14 +15,15 @@ pub struct Event {
 }
 
 impl Event {
-    /// Whether the other event has the same mark, time, dimension values and inputs.
+    /// Whether the other event has the same mark, time, dimension values and inputs. It takes time by their bytes at most.
     pub fn equals(&self, other: &Event) -> bool
         ensures { IsTrue result ↔ (self.now ≡ other.now) }
     {
         self == other
     }
 
-    /// An equal event in memory of its own.
+    /// An equal event in memory of its own, but for texts of more than 14 bytes, which are shared. The only error is that
+    /// memory ran out. It takes time by the number of its values, and memory for two lists of them.
     pub fn copy(&self) -> Result<Event, AllocError>
         ensures { IfOk result (λ event. event ≡ self.now) }
     {

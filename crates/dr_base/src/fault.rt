@@ -13,7 +13,8 @@ pub enum Arg {
 }
 
 /// The line of a refusal: `refused NUMBER NAME`, and where there is an argument a space and the name as JSON text
-/// (RFC 8259, as compact JSON is written) or the index in decimal. It has no newline at its end.
+/// (RFC 8259, as compact JSON is written) or the index in decimal. It has no newline at its end. The only error is that
+/// memory ran out. It takes time by the bytes of the line.
 pub fn fault_line(
     alloc: Global,
     number: u16,

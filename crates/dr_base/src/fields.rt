@@ -8,7 +8,7 @@ use crate::text::Text;
 use serde_json::{Map, Value};
 use std::alloc::Global;
 
-/// 2 `Missing` of that name, or 0 where there is no memory for the name.
+/// 2 `Missing` of that name, or 0 where there is no memory for the name, which is copied.
 pub fn missing(alloc: Global, name: &str) -> BaseError
     ensures { IsRefusal (Missing name.now) result }
 {
@@ -18,7 +18,7 @@ pub fn missing(alloc: Global, name: &str) -> BaseError
     }
 }
 
-/// 3 `WrongKind` of that name, or 0 where there is no memory for the name.
+/// 3 `WrongKind` of that name, or 0 where there is no memory for the name, which is copied.
 pub fn wrong_kind(alloc: Global, name: &str) -> BaseError
     ensures { IsRefusal (WrongKind name.now) result }
 {
@@ -28,7 +28,8 @@ pub fn wrong_kind(alloc: Global, name: &str) -> BaseError
     }
 }
 
-/// The value of a field of an object; none where the field is absent or null, or where the value is no object.
+/// The value of a field of an object; none where the field is absent or null, or where the value is no object. It is found
+/// among the sorted members by halving.
 pub fn field<'v>(value: &'v Value, name: &str) -> Option<&'v Value>
     ensures { option_map (λ v. view v.now) result ≡ field name.now (view value.now) }
 {

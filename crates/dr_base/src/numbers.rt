@@ -19,7 +19,7 @@ impl Model for Numbers {
 }
 
 impl Numbers {
-    /// No number.
+    /// No number. It takes no memory yet.
     pub fn new(alloc: Global) -> Numbers
         ensures { result ≡ [] }
     {
@@ -70,7 +70,8 @@ impl Numbers {
         }
     }
 
-    /// Adds a number at the end.
+    /// Adds a number at the end. The only error is that memory ran out, and it leaves the numbers as they were. It takes
+    /// constant time, spread over many.
     pub fn push(&mut self, number: i64) -> Result<(), AllocError>
         ensures ok { OnOk result (self.new ≡ self.old ++ number ∷ []) }
         ensures err { OnErr result (self.new ≡ self.old) }
@@ -79,7 +80,7 @@ impl Numbers {
         Ok(())
     }
 
-    /// Equal numbers in memory of their own.
+    /// Equal numbers in memory of their own. The only error is that memory ran out. It takes time by the numbers.
     pub fn copy(&self) -> Result<Numbers, AllocError>
         ensures { IfOk result (λ numbers. numbers ≡ self.now) }
     {

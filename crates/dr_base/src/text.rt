@@ -39,7 +39,8 @@ impl Model for Text {
 }
 
 impl Text {
-    /// The text in memory of its own.
+    /// The text in memory of its own, of which one of at most 14 bytes takes none. The only error is that memory ran out. It
+    /// takes time by the bytes.
     pub fn from_str(alloc: Global, text: &str) -> Result<Text, AllocError>
         ensures { IfOk result (λ t. t ≡ text.now) }
     {
@@ -49,7 +50,8 @@ impl Text {
         }
     }
 
-    /// The text of a string. A string of at most 14 bytes is copied into the text and let go.
+    /// The text of a string. A string of at most 14 bytes is copied into the text and let go; a longer one is kept as it lies.
+    /// The only error is that memory ran out. It takes constant time.
     pub fn from_string(alloc: Global, text: String) -> Result<Text, AllocError>
         ensures { IfOk result (λ t. t ≡ string_bytes text) }
     {
@@ -66,7 +68,7 @@ impl Text {
         Ok(Text(Kept::Long(Arc::new(alloc, text)?)))
     }
 
-    /// The text as Rust's text.
+    /// The text as Rust's text. Nothing is copied.
     pub fn as_str(&self) -> &str
         ensures { result.now ≡ self.now }
     {

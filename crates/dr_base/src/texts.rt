@@ -27,7 +27,7 @@ impl Model for Texts {
 }
 
 impl Texts {
-    /// No text.
+    /// No text. It takes no memory yet.
     pub fn new(alloc: Global) -> Texts
         ensures { result ≡ [] }
     {
@@ -69,7 +69,8 @@ impl Texts {
         self.0.is_empty()
     }
 
-    /// Adds a text at the end.
+    /// Adds a text at the end. The only error is that memory ran out, and it leaves the texts as they were. It takes
+    /// constant time, spread over many.
     pub fn push(&mut self, text: Text) -> Result<(), AllocError>
         ensures ok { OnOk result (self.new ≡ self.old ++ text ∷ []) }
         ensures err { OnErr result (self.new ≡ self.old) }
@@ -78,7 +79,8 @@ impl Texts {
         Ok(())
     }
 
-    /// Equal texts in memory of their own.
+    /// Equal texts in a list of their own; those of more than 14 bytes are shared. The only error is that memory ran out. It
+    /// takes time by the number of texts.
     pub fn copy(&self) -> Result<Texts, AllocError>
         ensures { IfOk result (λ texts. texts ≡ self.now) }
     {

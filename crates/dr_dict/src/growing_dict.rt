@@ -62,7 +62,7 @@ impl GrowingDict {
         *self.texts.allocator()
     }
 
-    /// The number of a text; none where it isn't there. It takes no memory.
+    /// The number of a text; none where it isn't there. It takes no memory, and expected time by the bytes of the text.
     pub fn number_of(&self, text: &Text) -> Option<u32>
         ensures { result ≡ number_in self.now.texts text.now }
     {

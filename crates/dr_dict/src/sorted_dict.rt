@@ -23,7 +23,8 @@ impl<'a> Model for SortedDict<'a> {
 }
 
 impl<'a> SortedDict<'a> {
-    /// The texts of a dictionary, sorted. None is copied. The only error is that memory ran out.
+    /// The texts of a dictionary, sorted. None is copied. The only error is that memory ran out. It takes n log n comparisons
+    /// of texts.
     pub fn of(dict: &'a GrowingDict) -> Result<SortedDict<'a>, AllocError>
         ensures { IfOk result (IsSortedOf dict.now.texts) }
     {
@@ -61,7 +62,8 @@ fn borrowed<'a>(dict: &'a GrowingDict) -> Result<Vec<&'a str>, AllocError>
     Ok(borrowed)
 }
 
-/// For each text of a dictionary, by its number, its place among the sorted texts. The only error is that memory ran out.
+/// For each text of a dictionary, by its number, its place among the sorted texts. The only error is that memory ran out. It
+/// takes n log n comparisons of texts.
 pub fn renumbering(dict: &GrowingDict) -> Result<Vec<u32>, AllocError>
     ensures { IfOk result (λ places. (sorted : List (List ℕ)) → IsSortedOf dict.now.texts sorted → IsRenumbering dict.now.texts sorted places.items) }
 {

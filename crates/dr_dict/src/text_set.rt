@@ -7,7 +7,7 @@ use std::alloc::{AllocError, Global};
 use std::marker::Model;
 
 /// Distinct texts, each found by hashing. A contract sees the list of them, in the order in which they were added.
-#[derive(Drop)]
+#[derive(Debug, Drop)]
 pub struct TextSet(IndexSet<String>);
 
 impl Model for TextSet {

@@ -10,6 +10,7 @@ use Rattle.dr_filter.specs.declared.selector.Selector.{Selector}
 use Rattle.dr_filter.specs.declared.value_test.ValueTest.{ValueTest}
 use Rattle.dr_filter.specs.Condition.{Condition, condition_in, conditions_of, matches, every_matches, some_matches, members_of, selects, ranges}
 use Rattle.dr_filter.specs.LookUps.{as_test, as_range, tests_in, some_holds, every_holds, AreLookedUp, IsTestOf}
+use Rattle.dr_filter.specs.Members.{others_in, PutsBehind}
 use Rattle.dr_filter.specs.Match.{lies_within, passes, value_at, holds_of}
 use Rattle.dr_filter.proofs.Truths.{or_regroups, or_swaps, or_moves, or_ends, and_regroups, and_swaps, and_moves, and_ends, neither_and}
 
@@ -70,12 +71,6 @@ pub looked_up-other : (tests : List DimensionTest) (ms : List (Option Selector))
 looked_up-other tests ms were = λ dims. were dims ∙ sym (ap (some_holds dims) (tests_in-other ms))
 
 module _ {A : Type 0} where
-  -- how many members stand apart
-  abbrev pub others_in : List (Option A) → ℕ
-  others_in [] = zero
-  others_in (Some m ∷ ms) = others_in ms
-  others_in (None ∷ ms) = suc (others_in ms)
-
   others_in-found : (ms : List (Option A)) (m : A) → others_in (ms ++ Some m ∷ []) ≡ others_in ms
   others_in-found [] m = refl
   others_in-found (Some n ∷ ms) m = others_in-found ms m
@@ -175,24 +170,26 @@ pub nothing_left : {A : Type 0} (xs : List A) → length xs ≡ 0 → xs ≡ []
 nothing_left [] h = refl
 nothing_left (x ∷ xs) h = absurd (omega (arith, h))
 
-module _ {A : Type 0} (meant : A → Condition) (done : List Filter) (f : Filter) (ms more : List (Option A)) where
-  pub shown-found : (others : List Filter) (m : A) → condition_in f ≡ meant m → more ≡ ms ++ Some m ∷ []
-      → others_in ms ≡ length (map condition_in others) → members_of meant ms (map condition_in others) ≡ map condition_in done → members_of meant more (map condition_in others) ≡ map condition_in (done ++ f ∷ [])
-  shown-found others m is grown count shown =
-      ap (λ k. members_of meant k (map condition_in others)) grown ∙ members-found meant ms (map condition_in others) m count ∙ ap (λ l. l ++ meant m ∷ []) shown
-      ∙ ap (λ c. map condition_in done ++ c ∷ []) (sym is) ∙ sym (map-append condition_in done (f ∷ []))
+module _ {A : Type 0} (meant : A → Condition) (ms : List (Option A)) where
+  pub puts-found : (cs : List Condition) (c : Condition) (m : A) (more : List (Option A)) → c ≡ meant m → more ≡ ms ++ Some m ∷ [] → PutsBehind meant ms cs c more cs
+  puts-found cs c m more is grown = λ count. (
+    ap (λ k. members_of meant k cs) grown ∙ members-found meant ms cs m count ∙ ap (λ o. members_of meant ms cs ++ o ∷ []) (sym is),
+    ap others_in grown ∙ others_in-found ms m ∙ count,
+  )
 
-  pub counted-found : (others : List Filter) (m : A) → more ≡ ms ++ Some m ∷ [] → others_in ms ≡ length (map condition_in others) → others_in more ≡ length (map condition_in others)
-  counted-found others m grown count = ap others_in grown ∙ others_in-found ms m ∙ count
+  pub puts-other : (others others' : List Filter) (f : Filter) (more : List (Option A)) → more ≡ ms ++ None ∷ [] → others' ≡ others ++ f ∷ []
+      → PutsBehind meant ms (map condition_in others) (condition_in f) more (map condition_in others')
+  puts-other others others' f more grown behind = λ count.
+      let cs : map condition_in others' ≡ map condition_in others ++ condition_in f ∷ [] = ap (map condition_in) behind ∙ map-append condition_in others (f ∷ []) in (
+        (λ k. members_of meant (grown k) (cs k)) ∙ members-other meant ms (map condition_in others) (condition_in f) count,
+        (let a : others_in more ≡ suc (others_in ms) = ap others_in grown ∙ others_in-other ms in
+            let b : length (map condition_in others') ≡ length (map condition_in others) + 1 = ap length cs ∙ length-append (map condition_in others) (condition_in f ∷ []) in
+            omega (arith, a, b, count)),
+      )
 
-  pub shown-other : (others others' : List Filter) → more ≡ ms ++ None ∷ [] → others' ≡ others ++ f ∷ []
-      → others_in ms ≡ length (map condition_in others) → members_of meant ms (map condition_in others) ≡ map condition_in done → members_of meant more (map condition_in others') ≡ map condition_in (done ++ f ∷ [])
-  shown-other others others' grown behind count shown =
-      (λ k. members_of meant (grown k) (map condition_in (behind k))) ∙ ap (members_of meant (ms ++ None ∷ [])) (map-append condition_in others (f ∷ [])) ∙ members-other meant ms (map condition_in others) (condition_in f) count
-      ∙ ap (λ l. l ++ condition_in f ∷ []) shown ∙ sym (map-append condition_in done (f ∷ []))
+-- ---- a loop over filters, each of which is put behind the members
 
-  pub counted-other : (others others' : List Filter) → more ≡ ms ++ None ∷ [] → others' ≡ others ++ f ∷ [] → others_in ms ≡ length (map condition_in others) → others_in more ≡ length (map condition_in others')
-  counted-other others others' grown behind count =
-      let a : others_in more ≡ suc (others_in ms) = ap others_in grown ∙ others_in-other ms in
-      let b : length (map condition_in others') ≡ length (map condition_in others) + 1 = ap (λ l. length (map condition_in l)) behind ∙ ap length (map-append condition_in others (f ∷ [])) ∙ length-append (map condition_in others) (condition_in f ∷ []) in
-      omega (arith, a, b, count)
+module _ {A : Type 0} (meant : A → Condition) (done : List Filter) (f : Filter) where
+  pub shown-behind : (ms more : List (Option A)) (cs cs' : List Condition) → PutsBehind meant ms cs (condition_in f) more cs' → others_in ms ≡ length cs
+      → members_of meant ms cs ≡ map condition_in done → members_of meant more cs' ≡ map condition_in (done ++ f ∷ [])
+  shown-behind ms more cs cs' puts count shown = (puts count).0 ∙ ap (λ l. l ++ condition_in f ∷ []) shown ∙ sym (map-append condition_in done (f ∷ []))

@@ -6,6 +6,7 @@ pub mod Match
 pub mod LookUps
 pub mod Gathered
 pub mod Condition
+pub mod Members
 pub mod Values
 pub mod Fields
 pub mod TestOf

@@ -1,6 +1,7 @@
-ghost use Rattle.std.specs.Prelude.{◌≡◌, map, IfOk, IfSome};
+ghost use Rattle.std.specs.Prelude.{◌≡◌, map, IfOk, IfSome, OnOk};
 ghost use Rattle.dr_filter.specs.Condition.{condition_in, conditions_of, members_of, every, some, dimension, opposite, selects, ranges};
 ghost use Rattle.dr_filter.specs.LookUps.{as_test, as_range};
+ghost use Rattle.dr_filter.specs.Members.{PutsBehind};
 
 use crate::bound::Bound;
 use crate::every_bound::EveryBound;
@@ -42,15 +43,28 @@ fn selectors_apart(
     let mut selectors = Selectors::new(alloc);
     let mut others = Vec::new(alloc);
     for filter in filters {
-        match selector_in(&filter, holds)? {
-            Some(selector) => selectors = selectors.and_selector(alloc, selector)?,
-            None => {
-                selectors = selectors.and_other()?;
-                others.push(filter)?;
-            }
-        }
+        selectors = with_selector(alloc, selectors, &mut others, filter, holds)?;
     }
     Ok((selectors, others))
+}
+
+// Some members and a filter behind them, as a selector, or as one that stands apart.
+fn with_selector(
+    alloc: Global,
+    selectors: Selectors,
+    others: &mut Vec<Filter>,
+    filter: Filter,
+    holds: bool,
+) -> Result<Selectors, AllocError>
+    ensures { IfOk result (λ more. PutsBehind (selects holds) selectors (map condition_in others.old.items) (condition_in filter) more (map condition_in others.new.items)) }
+{
+    match selector_in(&filter, holds)? {
+        Some(selector) => selectors.and_selector(alloc, selector),
+        None => {
+            others.push(filter)?;
+            selectors.and_other()
+        }
+    }
 }
 
 // The bounds among some filters, and the other filters.
@@ -63,15 +77,27 @@ fn bounds_apart(
     let mut members = Vec::new(alloc);
     let mut others = Vec::new(alloc);
     for filter in filters {
-        match bound_in(&filter)? {
-            Some(bound) => members.push(Some(bound))?,
-            None => {
-                members.push(None)?;
-                others.push(filter)?;
-            }
-        }
+        put_bound(&mut members, &mut others, filter)?;
     }
     Ok((members, others))
+}
+
+// Puts a filter behind some members, as a bound, or as one that stands apart.
+fn put_bound(
+    members: &mut Vec<Option<Bound>>,
+    others: &mut Vec<Filter>,
+    filter: Filter,
+) -> Result<(), AllocError>
+    ensures { OnOk result (PutsBehind ranges members.old.items (map condition_in others.old.items) (condition_in filter) members.new.items (map condition_in others.new.items)) }
+{
+    match bound_in(&filter)? {
+        Some(bound) => members.push(Some(bound))?,
+        None => {
+            members.push(None)?;
+            others.push(filter)?;
+        }
+    }
+    Ok(())
 }
 
 // The selector that a filter is, or of which it is the `not`, where it is that.

@@ -19,7 +19,6 @@ mod selectors;
 mod some_bound;
 mod some_comparison;
 mod text_look_up;
-mod text_set;
 
 pub use comparison::Comparison;
 pub use dimension_value::{DimensionValue, text_at};

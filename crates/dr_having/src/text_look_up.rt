@@ -4,8 +4,8 @@ ghost use Rattle.dr_having.specs.LookUps.{is_found};
 ghost use Rattle.dr_having.specs.Meeting.{meets_dimension};
 
 use crate::dimension_value::{DimensionValue, text_at};
-use crate::text_set::TextSet;
 use dr_base::Text;
+use dr_dict::TextSet;
 use std::alloc::{AllocError, Global};
 
 /// The texts that some conditions on the value of one dimension name, and the place of the dimension.
@@ -33,7 +33,8 @@ impl TextLookUp {
         ensures place { OnOk result (self.new.place ≡ self.old.place) }
         ensures more { OnOk result ((value : List ℕ) → list_any (bytes_eq value) self.new.texts ≡ (list_any (bytes_eq value) self.old.texts || bytes_eq value condition.now.value)) }
     {
-        self.texts.add(&condition.value)
+        self.texts.add(&condition.value)?;
+        Ok(())
     }
 
     /// Whether the value of the dimension is one of the texts. It takes no memory, and expected time by the bytes of the value,

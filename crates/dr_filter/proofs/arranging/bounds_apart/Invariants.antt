@@ -1,7 +1,7 @@
 use Rattle.std.proofs.Common.{◌≡◌, ◌++◌, length, map}
 use Rattle.std.specs.Vec.Iter.{into_iter_items, into_iter_len}
 use Rattle.dr_filter.specs.Condition.{condition_in, members_of, ranges}
-use Rattle.dr_filter.proofs.LookedUp.{others_in}
+use Rattle.dr_filter.specs.Members.{others_in}
 use Rattle.dr_filter.proofs.arranging.bounds_apart.Given as goal
 
 abbrev pub invariant-loop-filter : goal.invariant-loop-filter

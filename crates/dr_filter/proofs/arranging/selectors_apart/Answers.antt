@@ -1,66 +1,20 @@
 use Rattle.std.proofs.Common.{◌≡◌, ◌∙◌, sym, ap, [], ◌∷◌, length, map, append_assoc, append-nil, arith}
 use Rattle.std.specs.Vec.Iter.{into_iter_items}
 use Rattle.dr_filter.specs.Condition.{condition_in, selects}
-use Rattle.dr_filter.proofs.LookedUp.{shown-found, counted-found, shown-other, counted-other, nothing_left}
+use Rattle.dr_filter.proofs.LookedUp.{shown-behind, nothing_left}
 use Rattle.dr_filter.proofs.arranging.selectors_apart.Goals as goal
-
-pub loop-filter-preserved-in_ok-selectors-in-Some-2 : goal.loop-filter-preserved-in_ok-selectors-in-Some-2
-loop-filter-preserved-in_ok-selectors-in-Some-2 c =
-    let at = c.loop-filter in
-    let was = at.invariant in
-    let s = c.in-Some-2.selector in
-    let f = c.in-Some.filter in
-    let is : condition_in f ≡ selects c.args.holds s = rw c.in-Some-2.is at c.in_ok-selector.ensures in
-    let grown = c.in_ok-selectors-in-Some-2.ensures in
-    let steps : into_iter_items at.filter-iterator ≡ f ∷ into_iter_items c.next.new.self = c.in-Some.ensures.steps.0 in (
-      append_assoc at.yielded (f ∷ []) _ ∙ rw (← steps) was.0,
-      (let len = was.1 in let gone = c.in-Some.ensures.steps.1 in let short = ap length steps in omega (arith, len, gone, short)),
-      shown-found (selects c.args.holds) at.yielded f at.selectors _ at.others.items s is grown was.3 was.2,
-      counted-found (selects c.args.holds) at.yielded f at.selectors _ at.others.items s grown was.3,
-    )
-
-pub loop-filter-preserved-in_ok-selectors-in-Some-2-2 : goal.loop-filter-preserved-in_ok-selectors-in-Some-2-2
-loop-filter-preserved-in_ok-selectors-in-Some-2-2 c =
-    let at = c.loop-filter in
-    let was = at.invariant in
-    let s = c.in-Some-2.selector in
-    let f = c.in-Some.filter in
-    let is : condition_in f ≡ selects c.args.holds s = rw c.in-Some-2.is at c.in_ok-selector.ensures in
-    let grown = c.in_ok-selectors-in-Some-2.ensures in
-    let steps : into_iter_items at.filter-iterator ≡ f ∷ into_iter_items c.next.new.self = c.in-Some.ensures.steps.0 in (
-      append_assoc at.yielded (f ∷ []) _ ∙ rw (← steps) was.0,
-      (let len = was.1 in let gone = c.in-Some.ensures.steps.1 in let short = ap length steps in omega (arith, len, gone, short)),
-      shown-found (selects c.args.holds) at.yielded f at.selectors _ at.others.items s is grown was.3 was.2,
-      counted-found (selects c.args.holds) at.yielded f at.selectors _ at.others.items s grown was.3,
-    )
-
-pub loop-filter-preserved-in_ok-selectors-in-Some-2-13 : goal.loop-filter-preserved-in_ok-selectors-in-Some-2-13
-loop-filter-preserved-in_ok-selectors-in-Some-2-13 c =
-    let at = c.loop-filter in
-    let was = at.invariant in
-    let s = c.in-Some-2.selector in
-    let f = c.in-Some.filter in
-    let is : condition_in f ≡ selects c.args.holds s = rw c.in-Some-2.is at c.in_ok-selector.ensures in
-    let grown = c.in_ok-selectors-in-Some-2.ensures in
-    let steps : into_iter_items at.filter-iterator ≡ f ∷ into_iter_items c.next.new.self = c.in-Some.ensures.steps.0 in (
-      append_assoc at.yielded (f ∷ []) _ ∙ rw (← steps) was.0,
-      (let len = was.1 in let gone = c.in-Some.ensures.steps.1 in let short = ap length steps in omega (arith, len, gone, short)),
-      shown-found (selects c.args.holds) at.yielded f at.selectors _ at.others.items s is grown was.3 was.2,
-      counted-found (selects c.args.holds) at.yielded f at.selectors _ at.others.items s grown was.3,
-    )
 
 pub loop-filter-preserved : goal.loop-filter-preserved
 loop-filter-preserved c =
     let at = c.loop-filter in
     let was = at.invariant in
     let f = c.in-Some.filter in
-    let grown = c.in_ok-selectors-in-None-2.ensures in
-    let behind = c.in_ok-push-in-None-2.ensures.items in
+    let puts = c.in_ok-selectors.ensures in
     let steps : into_iter_items at.filter-iterator ≡ f ∷ into_iter_items c.next.new.self = c.in-Some.ensures.steps.0 in (
       append_assoc at.yielded (f ∷ []) _ ∙ rw (← steps) was.0,
       (let len = was.1 in let gone = c.in-Some.ensures.steps.1 in let short = ap length steps in omega (arith, len, gone, short)),
-      shown-other (selects c.args.holds) at.yielded f at.selectors _ at.others.items _ grown behind was.3 was.2,
-      counted-other (selects c.args.holds) at.yielded f at.selectors _ at.others.items _ grown behind was.3,
+      shown-behind (selects c.args.holds) at.yielded f at.selectors _ (map condition_in at.others.items) _ puts was.3 was.2,
+      (puts was.3).1,
     )
 
 pub returns : goal.returns
