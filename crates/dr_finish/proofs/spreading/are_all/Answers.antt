@@ -1,0 +1,7 @@
+use Rattle.std.proofs.Common.{get_or, ◌≡◌, ◌∙◌, sym, refl}
+use Rattle.std.proofs.lemmas.List.{get_or_at}
+use Rattle.dr_finish.proofs.Numbered.{taken-more}
+use Rattle.dr_finish.proofs.spreading.are_all.Goals as goal
+
+pub loop-place-preserved : goal.loop-place-preserved
+loop-place-preserved c = taken-more c.args.numbers.now c.loop-place.place c.loop-place-test.true c.if-number-place.false c.loop-place.invariant
