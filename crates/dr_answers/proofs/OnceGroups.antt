@@ -19,10 +19,9 @@ use Rattle.dr_ask.specs.declared.aggregation.Aggregation.{Aggregation}
 use Rattle.dr_ask.specs.declared.column.Column.{Column}
 use Rattle.dr_ask.specs.declared.dimension.Dimension.{Dimension}
 use Rattle.dr_ask.specs.Asked.{Asked, AskedShape, timeseries, group_by, scan, dimensions_by}
-use Rattle.dr_ask.specs.Firsts.{firsts, numbers_of, is_same_place, is_same_column, is_same_kind, is_same_dimension, is_same_aggregation, kind_number}
+use Rattle.dr_ask.specs.Firsts.{firsts, numbers_of, is_same_place, is_same_column, is_same_kind, is_same_dimension, is_same_aggregation}
 use Rattle.dr_ask.specs.Once.{once, once_shape}
 use Rattle.dr_ask.proofs.Firsts.{dimension-itself, aggregation-itself}
-use Rattle.dr_answers.specs.declared.result_row.ResultRow.{ResultRow}
 use Rattle.dr_answers.specs.Fold.{reading_in, folded, folds}
 use Rattle.dr_answers.specs.Groups.{bucket, grouped_values, group_of, is_same_group, with_group, groups_of, filled_in, filled, keys_by, group, groups}
 use Rattle.dr_answers.specs.Selection.{selected}

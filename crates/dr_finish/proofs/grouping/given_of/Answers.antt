@@ -1,4 +1,4 @@
-use Rattle.std.proofs.Common.{◌≡◌, ◌∙◌, sym, ap, map, drop, subst, is_lt, filter}
+use Rattle.std.proofs.Common.{◌∙◌, sym, ap, map, drop, subst, is_lt}
 use Rattle.std.specs.Prelude.{option_map}
 use Rattle.std.specs.List.Sorted.{IsStableBy}
 use Rattle.std.proofs.lemmas.List.{drop-map}

@@ -1,8 +1,6 @@
-use Rattle.std.proofs.Common.{◌≡◌, ◌∙◌, sym, ap, length, nat_cmp}
+use Rattle.std.proofs.Common.{◌∙◌, sym, ap, length, nat_cmp}
 use Rattle.std.specs.Cmp.Lexicographic.{slice_cmp}
 use Rattle.std.specs.Ordering.{ordering_then}
-use Rattle.dr_having.specs.Numbered.{texts_by}
-use Rattle.dr_ask.specs.Firsts.{numbers_of, is_same_dimension}
 use Rattle.dr_finish.proofs.Numbered.{compared, texts-compared, then_decided}
 use Rattle.dr_finish.proofs.ordering.dims_order.Goals as goal
 

@@ -1,4 +1,4 @@
-use Rattle.std.proofs.Common.{rules, ◌≡◌, ◌∙◌, refl, ap, is_lt}
+use Rattle.std.proofs.Common.{rules, ◌≡◌, ◌∙◌, refl, is_lt}
 use Rattle.std.proofs.lemmas.List.Sorted.{ranks_by}
 use Rattle.std.proofs.lemmas.Fn.{answers_by}
 use Rattle.dr_base.specs.declared.row.Row.{Row}

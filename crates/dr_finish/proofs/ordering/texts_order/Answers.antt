@@ -1,4 +1,4 @@
-use Rattle.std.proofs.Common.{◌≡◌, ◌∙◌, ap, arith, nat_cmp}
+use Rattle.std.proofs.Common.{◌≡◌, ◌∙◌, arith, nat_cmp}
 use Rattle.std.specs.Cmp.Lexicographic.{slice_cmp}
 use Rattle.dr_having.specs.Meeting.{text_at}
 use Rattle.dr_finish.proofs.Numbered.{is_other, is_tie, texts-differ, texts-tie, texts-end}

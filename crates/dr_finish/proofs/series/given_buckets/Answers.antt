@@ -1,4 +1,4 @@
-use Rattle.std.proofs.Common.{◌≡◌, ◌∙◌, sym, ap, [], map, Ok}
+use Rattle.std.proofs.Common.{◌∙◌, sym, ap, [], map, Ok}
 use Rattle.dr_ask.specs.Asked.{timeseries}
 use Rattle.dr_ask.specs.Once.{asked_once}
 use Rattle.dr_answers.specs.Spread.{spread_over}

@@ -1,5 +1,3 @@
-use Rattle.std.proofs.Common.{get_or, ◌≡◌, ◌∙◌, sym, refl}
-use Rattle.std.proofs.lemmas.List.{get_or_at}
 use Rattle.dr_finish.proofs.Numbered.{taken-more}
 use Rattle.dr_finish.proofs.spreading.are_all.Goals as goal
 

@@ -1,4 +1,4 @@
-use Rattle.std.proofs.Common.{rules, ◌≡◌, ◌∙◌, sym, ap, ◌++◌, ◌∷◌, [], FitsSigned, w64}
+use Rattle.std.proofs.Common.{rules, ◌∙◌, sym, ap, ◌++◌, ◌∷◌, [], FitsSigned, w64}
 use Rattle.std.proofs.lemmas.Int.{to_z-of_z}
 use Rattle.dr_having.specs.Numbered.{numbers_by}
 use Rattle.dr_finish.specs.RowOrder.{numbers_from}

@@ -1,4 +1,4 @@
-use Rattle.std.proofs.Common.{◌≡◌, ◌∙◌, sym, ap}
+use Rattle.std.proofs.Common.{◌∙◌, sym, ap}
 use Rattle.dr_having.specs.Numbered.{texts_by}
 use Rattle.dr_finish.specs.RowOrder.{numbers_from}
 use Rattle.dr_finish.proofs.Numbered.{texts-all}
