@@ -1,5 +1,5 @@
 -- Values of numbers, and groups that are spread over the outputs of a query.
-use Rattle.std.proofs.Common.{◌≡◌, ◌∙◌, sym, refl, ap, subst, ℕ, ℤ, zero, suc, ◌+◌, ◌-◌, ◌<◌, ◌≤◌, ◌||◌, List, [], ◌∷◌, ◌++◌, Option, Some, None, Result, Ok, Err, length, map, take, reverse, get_or, Bool, true, false, true≢false, not, ◌==◌, arith, append_assoc}
+use Rattle.std.proofs.Common.{◌≡◌, ◌∙◌, sym, refl, ap, subst, ℕ, ℤ, zero, suc, ◌+◌, ◌-◌, ◌<◌, ◌≤◌, ◌||◌, List, [], ◌∷◌, ◌++◌, Option, Some, None, Ok, Err, length, map, take, reverse, get_or, Bool, true, false, true≢false, not, ◌==◌, arith, append_assoc}
 use Rattle.std.specs.Prelude.{if◌then◌else◌, nat_lt}
 use Rattle.std.specs.Cmp.Lexicographic.{slice_cmp}
 use Rattle.std.specs.List.{list_any, fold, AllByRecursion}
@@ -15,8 +15,7 @@ use Rattle.dr_base.specs.declared.row.Row.{Row}
 use Rattle.dr_ask.specs.declared.aggregation.Aggregation.{Aggregation}
 use Rattle.dr_ask.specs.declared.dimension.Dimension.{Dimension}
 use Rattle.dr_ask.specs.declared.timeseries.Timeseries.{Timeseries}
-use Rattle.dr_ask.specs.Asked.{Asked, AskedGroups, AskedShape, timeseries, group_by, dimensions_by}
-use Rattle.dr_ask.specs.Once.{once, once_shape}
+use Rattle.dr_ask.specs.Asked.{timeseries}
 use Rattle.dr_ask.specs.Firsts.{number_in, with_new, firsts, numbers_of, is_same_place, is_same_dimension}
 use Rattle.dr_ask.proofs.Firsts.{number_new, number_last, numbers-append, dimension-itself}
 use Rattle.dr_answers.specs.declared.result_row.ResultRow.{ResultRow}
@@ -25,9 +24,9 @@ use Rattle.dr_answers.specs.declared.answer_error.AnswerError.TheVariants.{Resul
 use Rattle.dr_answers.specs.Given.{limited, given_by}
 use Rattle.dr_answers.specs.Groups.{max_groups}
 use Rattle.dr_answers.specs.Spread.{spread_over}
-use Rattle.dr_partial.specs.Partial.{result_row, groups_by}
+use Rattle.dr_partial.specs.Partial.{result_row}
 use Rattle.dr_answers.proofs.Alikes.{compared-firsts}
-use Rattle.dr_finish.specs.Finished.{few_of, few_given, finished}
+use Rattle.dr_finish.specs.Finished.{few_of, few_given}
 use Rattle.dr_finish.specs.RowOrder.{numbers_from, spread_row}
 
 -- ---- each value by its own number
@@ -179,12 +178,6 @@ numbers-taken xs ns place lt = ap (λ l. numbers_by l xs) (take_more ns place 0 
 pub rows-spread : (ds : List Dimension) (aggregations : List Aggregation) (rows : List Row) → map (spread_row ds aggregations) rows ≡ map (spread_over ds aggregations) (map result_row rows)
 rows-spread ds aggregations [] = refl
 rows-spread ds aggregations (r ∷ rows) = ap (λ l. spread_row ds aggregations r ∷ l) (rows-spread ds aggregations rows)
-
-pub finished-groups : (q : Asked) (g : AskedGroups) (span : Option (ℤ × ℤ)) (partial : List Row) → q.shape ≡ group_by g
-    → few_given (group_by g) (map (spread_row g.dimensions q.aggregations) partial) ≡ finished q span partial
-finished-groups q g span partial is =
-    let given : AskedShape → Result (List ResultRow) AnswerError = λ s. few_given s (map (spread_over (dimensions_by s) q.aggregations) (groups_by (once_shape s) (once q) span partial)) in
-    ap (few_given (group_by g)) (rows-spread g.dimensions q.aggregations partial) ∙ ap given (sym is)
 
 -- ---- the buckets of a timeseries, given and then spread
 

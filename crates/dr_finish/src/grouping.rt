@@ -1,9 +1,10 @@
 ghost use Rattle.std.specs.Prelude.{◌≡◌, IfOk, map};
 ghost use Rattle.dr_answers.specs.AnswerRefusal.{Answers};
 ghost use Rattle.dr_answers.specs.Given.{given_by};
+ghost use Rattle.dr_answers.specs.Spread.{spread_over};
 ghost use Rattle.dr_ask.specs.Asked.{asked_groups, group_by};
 ghost use Rattle.dr_finish.specs.Finished.{few_given};
-ghost use Rattle.dr_finish.specs.RowOrder.{spread_row};
+ghost use Rattle.dr_partial.specs.Partial.{result_row};
 
 use crate::bound::MAX_GROUPS;
 use crate::keeping::kept;
@@ -25,7 +26,7 @@ pub fn given_groups(
     aggregations: &Aggregations,
     partial: Partial,
 ) -> Result<Vec<ResultRow>, AnswerError>
-    ensures { Answers (λ given. given.items) result (few_given (group_by (asked_groups by.now)) (map (spread_row by.now.dimensions aggregations.now) partial)) }
+    ensures { Answers (λ given. given.items) result (few_given (group_by (asked_groups by.now)) (map (spread_over by.now.dimensions aggregations.now) (map result_row partial))) }
 {
     if partial.len() > MAX_GROUPS {
         return Err(AnswerError::ResultTooLarge);
@@ -41,7 +42,7 @@ fn given_of(
     aggregations: &Aggregations,
     partial: Partial,
 ) -> Result<Vec<ResultRow>, AllocError>
-    ensures { IfOk result (λ given. given.items ≡ given_by (group_by (asked_groups by.now)) (map (spread_row by.now.dimensions aggregations.now) partial)) }
+    ensures { IfOk result (λ given. given.items ≡ given_by (group_by (asked_groups by.now)) (map (spread_over by.now.dimensions aggregations.now) (map result_row partial))) }
 {
     let limits = &by.limit_spec;
     let groups = partial.into_groups()?;

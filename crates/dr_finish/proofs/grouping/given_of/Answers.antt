@@ -3,10 +3,11 @@ use Rattle.std.specs.Prelude.{option_map}
 use Rattle.std.specs.List.Sorted.{IsStableBy}
 use Rattle.std.proofs.lemmas.List.{drop-map}
 use Rattle.dr_having.specs.Condition.{condition_in}
-use Rattle.dr_answers.specs.Given.{is_kept, limited}
+use Rattle.dr_ask.specs.Asked.{asked_groups, group_by}
+use Rattle.dr_answers.specs.Given.{is_kept, limited, given_by}
 use Rattle.dr_finish.specs.RowOrder.{row_cmp, spread_row}
 use Rattle.dr_finish.proofs.AnyOrder.{any-order}
-use Rattle.dr_finish.proofs.Numbered.{map-limited}
+use Rattle.dr_finish.proofs.Numbered.{map-limited, rows-spread}
 use Rattle.dr_finish.proofs.grouping.given_of.Goals as goal
 
 pub returns : goal.returns
@@ -22,3 +23,4 @@ returns c =
     ∙ ap (map group) (c.limited-given.ensures ∙ ap (limited limits.limit) c.without_first.ensures)
     ∙ map-limited group limits.limit (drop limits.offset sorted)
     ∙ ap (limited limits.limit) (sym (drop-map group limits.offset sorted) ∙ ap (drop limits.offset) same)
+    ∙ ap (λ groups. given_by (group_by (asked_groups by)) groups) (rows-spread by.dimensions aggregations c.args.partial)
