@@ -203,6 +203,21 @@ def many_outputs(n):
     yield groups(aggregations=[{"type": "longSum", "name": f"v{it}", "fieldName": "v"} for it in range(19000)], filter={"type": "selector", "dimension": "page", "value": "0"})
 
 
+def distinct_pages(*queries):
+    def lines(n):
+        yield spec()
+        for it in range(n):
+            yield event(BEGIN + it % DAY, str(it))
+        yield from queries
+    return lines
+
+
+NAMES = [f"{it:x}" for it in range(100000)]
+NO_COLUMNS_ONE_GIVEN = groups(dimensions=["page", *NAMES], limitSpec={"type": "default", "limit": 1})
+SUMS = [{"type": "longSum", "name": f"{it:x}", "fieldName": "v"} for it in range(9000)]
+MANY_COMPARED = groups(aggregations=SUMS, limitSpec={"type": "default", "limit": 1}, having={"type": "and", "havingSpecs": [{"type": "greaterThan", "aggregation": it["name"], "value": 0} for it in SUMS]})
+
+
 def merges(n):
     yield spec(maxCommits=1000000)
     for it in range(n):
@@ -267,6 +282,8 @@ INPUTS = {
     "rows under 19,000 aggregations, one selected": (many_outputs, 100000),
     "rows under 19,000 aggregations, all selected": (asked_of_texts(MANY_SUMS), 100000),
     "rows of one group by 16,000 outputs of one dimension": (asked_of_texts(ONE_DIMENSION_OFTEN), 100000),
+    "groups by one column and 100,000 names of none, one given": (distinct_pages(NO_COLUMNS_ONE_GIVEN), 100000),
+    "groups of 9,000 equal aggregations, each compared, one given": (distinct_pages(MANY_COMPARED), 100000),
     "groups ordered by the last of 14,000 outputs 60,000 times": (asked_of_texts(LAST_COUNT_OFTEN), 1000),
     "a spec of so many dimensions": (long_spec, 174000),
     "published ranges of one row under 9,601 intervals": (published_apart, 100000),

@@ -3,6 +3,7 @@ pub mod Selection
 pub mod Span
 pub mod Fold
 pub mod Groups
+pub mod Spread
 pub mod InOrder
 pub mod Given
 pub mod Answer

@@ -9,6 +9,6 @@ mod result_row;
 mod selecting;
 
 pub use answer_error::AnswerError;
-pub use laws::{answers_of_alike_rows, answers_rearranged};
+pub use laws::{answers_of_alike_rows, answers_rearranged, groups_of_once};
 pub use result_row::ResultRow;
-pub use selecting::{bucket_of, is_kept, selects};
+pub use selecting::{bucket_of, selects};

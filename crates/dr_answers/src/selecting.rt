@@ -1,17 +1,13 @@
 ghost use Rattle.std.specs.Prelude.{◌≡◌, option_map};
 ghost use Rattle.dr_filter.specs.Condition.{condition_in};
-ghost use Rattle.dr_having.specs.Condition as conditions;
 ghost use Rattle.dr_time.specs.Instant.{IsInstant};
 ghost use Rattle.dr_gran.specs.Buckets as gran;
 ghost use Rattle.dr_ask.specs.Asked.{asked};
 ghost use Rattle.dr_answers.specs.Selection.{selects as selects_of, passes as passes_of};
-ghost use Rattle.dr_answers.specs.Given.{is_kept as is_kept_of};
 
-use crate::result_row::ResultRow;
 use dr_ask::Query;
 use dr_base::Key;
 use dr_filter::Filter;
-use dr_having::Having;
 
 /// Whether a query selects the rows of a key: its time, which is truncated, lies in one of the query's intervals, and the key
 /// passes the query's filter. It takes no memory, and time logarithmic in the number of the intervals and by the tests of the filter.
@@ -41,15 +37,5 @@ pub fn bucket_of(query: &Query, time: i64) -> Option<i64>
         query.intervals.start()
     } else {
         Some(query.granularity.truncate(time))
-    }
-}
-
-/// Whether a `having` keeps a group; without one each group is kept. It takes no memory, and time by its conditions.
-pub fn is_kept(having: &Option<Having>, group: &ResultRow) -> bool
-    ensures { result ≡ is_kept_of (option_map conditions.condition_in having.now) group.now }
-{
-    match having {
-        Some(having) => having.meets(group.dims.as_slice(), group.values.as_slice()),
-        None => true,
     }
 }

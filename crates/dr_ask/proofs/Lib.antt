@@ -1,3 +1,4 @@
+pub mod Firsts
 pub mod DistinctNames
 pub mod NamesInTurn
 pub mod ReadSteps

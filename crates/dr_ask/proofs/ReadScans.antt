@@ -1,5 +1,5 @@
 -- A scan that is read was made for its schema.
-use Rattle.std.proofs.Common.{◌≡◌, ◌≤◌, ◌==◌, ℕ, zero, suc, length, Bool, true, false, List, [], ◌∷◌, map, codes, Ok, Err, Option, Some, None, if◌then◌else◌, refl, sym, ap, ◌∙◌, subst, arith}
+use Rattle.std.proofs.Common.{◌≡◌, ◌≤◌, ◌==◌, ℕ, zero, suc, length, Bool, List, [], ◌∷◌, map, codes, Ok, Err, Option, Some, None, if◌then◌else◌, refl, sym, ap, ◌∙◌, subst, arith}
 use Rattle.std.proofs.Math.Dec.{eqb-suc-zero}
 use Rattle.std.specs.List.{AllByRecursion}
 use Rattle.dr_base.specs.declared.base_error.BaseError.TheVariants.{WrongKind}

@@ -1,5 +1,5 @@
 -- The columns of a scan (Apache Druid documentation, scan queries; that a name stands once is this project's own rule).
-use Rattle.std.specs.Prelude.{ℕ, ◌==◌, length, Bool, true, false, List, [], ◌∷◌, ◌++◌, map, Option, Some, None, Result, Ok, Err, if◌then◌else◌, bytes_eq, codes}
+use Rattle.std.specs.Prelude.{ℕ, ◌==◌, length, List, [], ◌∷◌, ◌++◌, map, Option, Some, None, Result, Ok, Err, if◌then◌else◌, bytes_eq, codes}
 use Rattle.std.specs.List.{list_any}
 use Rattle.serde_json.specs.Data.{Data, Items, no_items, item}
 use Rattle.dr_base.specs.Fields.{as_text, as_list}

@@ -8,7 +8,9 @@ pub mod ContextOf
 pub mod TypeOf
 pub mod ColumnsOf
 pub mod ScanOf
+pub mod Firsts
 pub mod Asked
+pub mod Once
 pub mod ShapeOf
 pub mod Matching
 pub mod QueryOf

@@ -1,3 +1,4 @@
 pub mod ResultOrder
 pub mod AnyOrder
+pub mod Numbered
 pub mod Printing

@@ -20,9 +20,11 @@ use Rattle.dr_gran.proofs.BucketsLemmas.{buckets_of-first}
 use Rattle.dr_gran.proofs.TruncationLemmas.{truncation_bounds}
 use Rattle.dr_intervals.specs.Printable.{StartsPrintable}
 use Rattle.dr_ask.specs.Asked.{Asked, AskedShape, timeseries, group_by, scan}
+use Rattle.dr_ask.specs.Once.{once}
 use Rattle.dr_answers.specs.declared.result_row.ResultRow.{ResultRow}
 use Rattle.dr_answers.specs.declared.answer_error.AnswerError.TheVariants.{ResultTooLarge}
 use Rattle.dr_answers.specs.Groups.{filled_in, max_groups}
+use Rattle.dr_answers.specs.Spread.{spread}
 use Rattle.dr_answers.specs.Given.{given_by, limited, in_order, is_kept, result_cmp}
 use Rattle.dr_partial.specs.Partial.{result_row, filled_row, groups_by, groups_from}
 use Rattle.dr_finish.specs.Finished.{finished}
@@ -119,6 +121,7 @@ given-is false xs ys e = cc
 pub printable-given : (q : Asked) (span : Option (ℤ × ℤ)) (partial : List Row) (given : List ResultRow) → IfSome span (λ s. IsInstant s.0 × IsInstant s.1) → All StartsPrintable q.intervals
     → AllByRecursion (λ g. IsPrintable g.key.time) partial → finished q span partial ≡ Ok given → AllByRecursion (λ g. IsPrintable g.time) given
 printable-given q span partial given instants starts rows is =
-    let groups = groups_from q span partial in
+    let groups = map (spread q) (groups_from (once q) span partial) in
     let same : given_by q.shape groups ≡ given = given-is (nat_lt max_groups (length groups)) (given_by q.shape groups) given is in
-    recursion_from_All HasTime given (subst (All HasTime) same (all-given_by HasTime q.shape groups (printable-groups_by q.shape q span partial instants starts rows)))
+    let all : All HasTime groups = All-map HasTime (spread q) (groups_from (once q) span partial) (printable-groups_by (once q).shape (once q) span partial instants starts rows) in
+    recursion_from_All HasTime given (subst (All HasTime) same (all-given_by HasTime q.shape groups all))

@@ -2,7 +2,7 @@ ghost use Rattle.std.specs.Prelude.{◌≡◌, IfOk, IfSome, [], map, unwrap_or}
 ghost use Rattle.dr_answers.specs.AnswerRefusal.{Answers};
 ghost use Rattle.dr_answers.specs.Fold.{folds};
 ghost use Rattle.dr_answers.specs.Groups.{filled_in};
-ghost use Rattle.dr_ask.specs.Asked.{asked};
+ghost use Rattle.dr_ask.specs.Once.{asked_once};
 ghost use Rattle.dr_partial.specs.Partial.{filled_row, values_at};
 ghost use Rattle.dr_time.specs.Instant.{IsInstant};
 ghost use Rattle.dr_finish.specs.Finished.{few_of};
@@ -25,7 +25,7 @@ pub fn filled(
     span: Option<(i64, i64)>,
 ) -> Result<Vec<ResultRow>, AnswerError>
     requires { IfSome span (λ s. IsInstant s.0 × IsInstant s.1) }
-    ensures { Answers (λ groups. groups.items) result (few_of (map (filled_row (asked query.now) partial.now) (filled_in (asked query.now) span))) }
+    ensures { Answers (λ groups. groups.items) result (few_of (map (filled_row (asked_once query.now) partial.now) (filled_in (asked_once query.now) span))) }
 {
     let starts = starts(alloc, query, span)?;
     if starts.len() > MAX_GROUPS {
@@ -37,7 +37,7 @@ pub fn filled(
 /// The starts of the buckets, at most one more than an answer may have.
 fn starts(alloc: Global, query: &Query, span: Option<(i64, i64)>) -> Result<Vec<i64>, AllocError>
     requires { IfSome span (λ s. IsInstant s.0 × IsInstant s.1) }
-    ensures { IfOk result (λ starts. starts.items ≡ filled_in (asked query.now) span) }
+    ensures { IfOk result (λ starts. starts.items ≡ filled_in (asked_once query.now) span) }
 {
     match span {
         None => Ok(Vec::new(alloc)),
@@ -70,7 +70,7 @@ fn filled_rows(
     partial: &Partial,
     starts: &[i64],
 ) -> Result<Vec<ResultRow>, AllocError>
-    ensures { IfOk result (λ rows. rows.items ≡ map (filled_row (asked query.now) partial.now) starts.now) }
+    ensures { IfOk result (λ rows. rows.items ≡ map (filled_row (asked_once query.now) partial.now) starts.now) }
 {
     let mut rows = Vec::with_capacity(alloc, starts.len())?;
     for start in starts {
@@ -85,7 +85,7 @@ fn filled_row(
     partial: &Partial,
     start: i64,
 ) -> Result<ResultRow, AllocError>
-    ensures { IfOk result (λ row. row ≡ filled_row (asked query.now) partial.now start) }
+    ensures { IfOk result (λ row. row ≡ filled_row (asked_once query.now) partial.now start) }
 {
     Ok(ResultRow {
         time: start,
@@ -100,11 +100,11 @@ fn values_of(
     partial: &Partial,
     start: i64,
 ) -> Result<Numbers, AllocError>
-    ensures { IfOk result (λ values. values ≡ unwrap_or (values_at start partial.now) (folds query.now.aggregations [])) }
+    ensures { IfOk result (λ values. values ≡ unwrap_or (values_at start partial.now) (folds (asked_once query.now).aggregations [])) }
 {
     match partial.values_at(start) {
         Some(values) => Ok(Numbers::from_vec(Vec::from_slice(alloc, values)?)),
-        None => units(alloc, query.aggregations.as_slice()),
+        None => units(alloc, query.aggregations.distinct()),
     }
 }
 

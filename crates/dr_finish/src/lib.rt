@@ -11,5 +11,6 @@ mod limiting;
 mod listing;
 mod ordering;
 mod series;
+mod spreading;
 
 pub use finishing::finish;

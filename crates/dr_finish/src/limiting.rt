@@ -1,10 +1,8 @@
 ghost use Rattle.std.specs.Prelude.{◌≡◌, drop};
 ghost use Rattle.dr_answers.specs.Given.{limited as limited_of};
 
-use dr_answers::ResultRow;
-
 /// The first groups, at most `limit` of them; all of them where there is no limit.
-pub fn limited(groups: Vec<ResultRow>, limit: Option<u64>) -> Vec<ResultRow>
+pub fn limited<T: Drop>(groups: Vec<T>, limit: Option<u64>) -> Vec<T>
     ensures { result.items ≡ limited_of limit groups.items }
 {
     let mut limited = groups;
@@ -15,7 +13,7 @@ pub fn limited(groups: Vec<ResultRow>, limit: Option<u64>) -> Vec<ResultRow>
 }
 
 /// The groups without the first `offset` of them; none where there are no more.
-pub fn without_first(groups: Vec<ResultRow>, offset: u64) -> Vec<ResultRow>
+pub fn without_first<T: Drop>(groups: Vec<T>, offset: u64) -> Vec<T>
     ensures { result.items ≡ drop offset groups.items }
 {
     let mut left = groups;

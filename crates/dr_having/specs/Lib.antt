@@ -1,5 +1,6 @@
 pub mod Refusal
 pub mod Meeting
+pub mod Numbered
 pub mod Bounds
 pub mod Compared
 pub mod LookUps

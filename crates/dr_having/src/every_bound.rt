@@ -4,7 +4,8 @@ ghost use Rattle.dr_having.specs.Meeting.{meets_value, number_at as number_at_of
 
 use crate::comparison::Comparison;
 use crate::extremes::{higher, is_above, is_below, is_number, lower};
-use crate::group_value::{GroupValue, number_at};
+use crate::group_value::GroupValue;
+use crate::output_numbers::OutputNumbers;
 
 /// What comparisons of one aggregation ask together: its value is above one number, below another, and is a third, as far as
 /// there are such numbers, and none is where two of the numbers that it shall be differ.
@@ -55,10 +56,10 @@ impl EveryBound {
     }
 
     /// Whether a group with these values meets all the comparisons. It takes no memory, and constant time.
-    pub fn holds_of(&self, values: &[i64]) -> bool
+    pub fn holds_of(&self, values: &OutputNumbers<'_>) -> bool
         ensures { result ≡ lies_in self.now (number_at_of self.now.place values.now) }
     {
-        self.holds(&number_at(values, self.place))
+        self.holds(&values.at(self.place))
     }
 
     // Whether all the comparisons hold of a value.

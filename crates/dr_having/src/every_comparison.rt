@@ -4,6 +4,7 @@ ghost use Rattle.dr_having.specs.Meeting.{meets_value};
 
 use crate::every_bound::EveryBound;
 use crate::group_value::GroupValue;
+use crate::output_numbers::OutputNumbers;
 use indexmap::IndexMap;
 use std::alloc::{AllocError, Global};
 use std::marker::Model;
@@ -42,14 +43,14 @@ impl EveryComparison {
 
     /// Whether a group with these values meets all the comparisons. It takes no memory, and time by the aggregations that
     /// the comparisons name, however many comparisons there are.
-    pub fn hold_of(&self, values: &[i64]) -> bool
+    pub fn hold_of(&self, values: &OutputNumbers<'_>) -> bool
         ensures { result ≡ every_holds values.now self.now }
     {
         lie_in(self.bounds.as_slice(), values)
     }
 }
 
-fn lie_in(bounds: &[EveryBound], values: &[i64]) -> bool
+fn lie_in(bounds: &[EveryBound], values: &OutputNumbers<'_>) -> bool
     ensures { result ≡ lie_in_all values.now bounds.now }
 {
     bounds.iter().all(|bound| bound.holds_of(values))

@@ -1,7 +1,8 @@
-ghost use Rattle.std.specs.Prelude.{◌≡◌, ℤ};
-ghost use Rattle.dr_having.specs.Meeting.{meets_value, number_at as number_at_of};
+ghost use Rattle.std.specs.Prelude.{◌≡◌};
+ghost use Rattle.dr_having.specs.Meeting.{meets_value};
 
 use crate::comparison::Comparison;
+use crate::output_numbers::OutputNumbers;
 
 /// A condition on the value of an aggregation: its place among the aggregations of the query, from 0, how it is compared,
 /// and with which number.
@@ -14,20 +15,9 @@ pub struct GroupValue {
 
 impl GroupValue {
     /// Whether a group with these values meets the condition. It takes no memory, and constant time.
-    pub fn holds_of(&self, values: &[i64]) -> bool
+    pub fn holds_of(&self, values: &OutputNumbers<'_>) -> bool
         ensures { result ≡ meets_value self.now values.now }
     {
-        self.comparison
-            .holds(number_at(values, self.place), self.value)
-    }
-}
-
-/// The value of an aggregation of a group, by its place; 0 where there is none. It takes constant time.
-pub fn number_at(values: &[i64], place: usize) -> i64
-    ensures { result ≡ number_at_of place values.now }
-{
-    match values.get(place) {
-        Some(value) => *value,
-        None => 0,
+        self.comparison.holds(values.at(self.place), self.value)
     }
 }

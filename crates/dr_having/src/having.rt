@@ -4,9 +4,10 @@ ghost use Rattle.dr_having.specs.Condition.{condition_in, conditions_of, members
 use crate::dimension_value::DimensionValue;
 use crate::every_comparison::EveryComparison;
 use crate::group_value::GroupValue;
+use crate::output_numbers::OutputNumbers;
+use crate::output_texts::OutputTexts;
 use crate::selectors::Selectors;
 use crate::some_comparison::SomeComparison;
-use dr_base::Text;
 
 /// A condition on the groups of a groupBy (Apache Druid documentation, groupBy queries: having), made for the outputs of one
 /// query. Contracts see it as the condition that it stands for, `condition_in`.
@@ -32,7 +33,7 @@ impl Having {
     /// the members of one `and` or `or` count as one condition for each aggregation that they name, and the `dimSelector`s
     /// among those of an `or`, like the ones that a `not` turns round among those of an `and`, as one for each dimension.
     #[cycle(meeting)]
-    pub fn meets(&self, dims: &[Text], values: &[i64]) -> bool
+    pub fn meets(&self, dims: &OutputTexts<'_>, values: &OutputNumbers<'_>) -> bool
         ensures { result ≡ meets_of dims.now values.now (condition_in self.now) }
     {
         match self {
@@ -55,8 +56,8 @@ fn meets_every(
     comparisons: &EveryComparison,
     exclusions: &Selectors,
     others: &[Having],
-    dims: &[Text],
-    values: &[i64],
+    dims: &OutputTexts<'_>,
+    values: &OutputNumbers<'_>,
 ) -> bool
     ensures { result ≡ meets_every_of dims.now values.now (conditions_of (members_of_every comparisons.now exclusions.now (map condition_in others.now))) }
 {
@@ -80,8 +81,8 @@ fn meets_some(
     comparisons: &SomeComparison,
     selectors: &Selectors,
     others: &[Having],
-    dims: &[Text],
-    values: &[i64],
+    dims: &OutputTexts<'_>,
+    values: &OutputNumbers<'_>,
 ) -> bool
     ensures { result ≡ meets_some_of dims.now values.now (conditions_of (members_of_some comparisons.now selectors.now (map condition_in others.now))) }
 {

@@ -3,8 +3,8 @@ ghost use Rattle.dr_having.specs.LookUps.{some_selected, found_in_some, AreLooke
 ghost use Rattle.dr_having.specs.Meeting.{meets_dimension};
 
 use crate::dimension_value::DimensionValue;
+use crate::output_texts::OutputTexts;
 use crate::text_look_up::TextLookUp;
-use dr_base::Text;
 use indexmap::IndexMap;
 use std::alloc::{AllocError, Global};
 use std::marker::Model;
@@ -44,14 +44,14 @@ impl Selectors {
 
     /// Whether a group with these dimension values meets one of the conditions. It takes no memory, and expected time by the
     /// bytes of the values of the dimensions that the conditions name, however many conditions there are.
-    pub fn hold_of(&self, dims: &[Text]) -> bool
+    pub fn hold_of(&self, dims: &OutputTexts<'_>) -> bool
         ensures { result ≡ some_selected dims.now self.now }
     {
         some_finds(self.look_ups.as_slice(), dims)
     }
 }
 
-fn some_finds(look_ups: &[TextLookUp], dims: &[Text]) -> bool
+fn some_finds(look_ups: &[TextLookUp], dims: &OutputTexts<'_>) -> bool
     ensures { result ≡ found_in_some dims.now look_ups.now }
 {
     look_ups.iter().any(|look_up| look_up.finds(dims))

@@ -4,8 +4,9 @@ ghost use Rattle.dr_having.specs.Meeting.{compares, meets_value, number_at as nu
 
 use crate::comparison::Comparison;
 use crate::extremes::{goes_above, goes_below, higher, lower};
-use crate::group_value::{GroupValue, number_at};
+use crate::group_value::GroupValue;
 use crate::number_set::NumberSet;
+use crate::output_numbers::OutputNumbers;
 use std::alloc::{AllocError, Global};
 
 /// What one of some comparisons of one aggregation lets through: its value is above one number, below another, or among some.
@@ -46,10 +47,10 @@ impl SomeBound {
     }
 
     /// Whether a group with these values meets one of the comparisons. It takes no memory, and constant expected time.
-    pub fn holds_of(&self, values: &[i64]) -> bool
+    pub fn holds_of(&self, values: &OutputNumbers<'_>) -> bool
         ensures { result ≡ reaches self.now (number_at_of self.now.place values.now) }
     {
-        self.holds(&number_at(values, self.place))
+        self.holds(&values.at(self.place))
     }
 
     // Whether one of the comparisons holds of a value.

@@ -3,6 +3,7 @@ ghost use Rattle.dr_having.specs.Compared.{some_holds, reach_some, AreSome, IsSo
 ghost use Rattle.dr_having.specs.Meeting.{meets_value};
 
 use crate::group_value::GroupValue;
+use crate::output_numbers::OutputNumbers;
 use crate::some_bound::SomeBound;
 use indexmap::IndexMap;
 use std::alloc::{AllocError, Global};
@@ -42,14 +43,14 @@ impl SomeComparison {
 
     /// Whether a group with these values meets one of the comparisons. It takes no memory, and expected time by the
     /// aggregations that the comparisons name, however many comparisons there are.
-    pub fn hold_of(&self, values: &[i64]) -> bool
+    pub fn hold_of(&self, values: &OutputNumbers<'_>) -> bool
         ensures { result ≡ some_holds values.now self.now }
     {
         reach(self.bounds.as_slice(), values)
     }
 }
 
-fn reach(bounds: &[SomeBound], values: &[i64]) -> bool
+fn reach(bounds: &[SomeBound], values: &OutputNumbers<'_>) -> bool
     ensures { result ≡ reach_some values.now bounds.now }
 {
     bounds.iter().any(|bound| bound.holds_of(values))

@@ -3,8 +3,8 @@ ghost use Rattle.std.specs.List.{list_any};
 ghost use Rattle.dr_having.specs.LookUps.{is_found};
 ghost use Rattle.dr_having.specs.Meeting.{meets_dimension};
 
-use crate::dimension_value::{DimensionValue, text_at};
-use dr_base::Text;
+use crate::dimension_value::DimensionValue;
+use crate::output_texts::OutputTexts;
 use dr_dict::TextSet;
 use std::alloc::{AllocError, Global};
 
@@ -39,9 +39,9 @@ impl TextLookUp {
 
     /// Whether the value of the dimension is one of the texts. It takes no memory, and expected time by the bytes of the value,
     /// however many texts there are.
-    pub fn finds(&self, dims: &[Text]) -> bool
+    pub fn finds(&self, dims: &OutputTexts<'_>) -> bool
         ensures { result ≡ is_found dims.now self.now }
     {
-        self.texts.contains(text_at(dims, self.place))
+        self.texts.contains(dims.at(self.place))
     }
 }

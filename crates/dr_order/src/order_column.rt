@@ -2,8 +2,7 @@ ghost use Rattle.std.specs.Prelude.{◌≡◌};
 ghost use Rattle.dr_order.specs.Order.{column_cmp, directed as directed_of, output_cmp};
 
 use crate::output::Output;
-use dr_base::Text;
-use dr_having::{number_at, text_at};
+use dr_having::{OutputNumbers, OutputTexts};
 use std::cmp::Ordering;
 
 /// A column that groups are ordered by.
@@ -17,18 +16,16 @@ impl OrderColumn {
     /// How two groups compare by this column: their dimension values and the values of their aggregations.
     pub(crate) fn order(
         self,
-        dims: &[Text],
-        values: &[i64],
-        other_dims: &[Text],
-        other_values: &[i64],
+        dims: &OutputTexts<'_>,
+        values: &OutputNumbers<'_>,
+        other_dims: &OutputTexts<'_>,
+        other_values: &OutputNumbers<'_>,
     ) -> Ordering
         ensures { result ≡ column_cmp self dims.now values.now other_dims.now other_values.now }
     {
         let order = match self.output {
-            Output::Dimension(place) => text_at(dims, place).cmp(text_at(other_dims, place)),
-            Output::Aggregation(place) => {
-                number_at(values, place).cmp(&number_at(other_values, place))
-            }
+            Output::Dimension(place) => dims.at(place).cmp(other_dims.at(place)),
+            Output::Aggregation(place) => values.at(place).cmp(&other_values.at(place)),
         };
         directed(order, self.descending)
     }

@@ -1,11 +1,11 @@
 ghost use Rattle.std.specs.Prelude.{◌≡◌, ◌++◌, ◌∷◌, [], true, OnOk, OnErr, IsTrue};
 ghost use Rattle.std.specs.List.{list_any};
 ghost use Rattle.dr_order.specs.Deciding.{is_output};
-ghost use Rattle.dr_order.specs.Order.{columns_cmp, groups_cmp};
+ghost use Rattle.dr_order.specs.Order.{columns_cmp};
 
 use crate::order_column::OrderColumn;
 use crate::output::Output;
-use dr_base::Text;
+use dr_having::{OutputNumbers, OutputTexts};
 use indexmap::IndexMap;
 use std::alloc::{AllocError, Global};
 use std::cmp::Ordering;
@@ -69,26 +69,25 @@ impl OrderColumns {
         Ok(())
     }
 
-    /// How two groups of one bucket compare: by the columns, then by their dimension values ascending, each by its UTF-8
-    /// bytes. Of each group there are the dimension values and the values of the aggregations, in the order of the query.
-    /// It takes no memory, and time by the outputs among the columns, each of which is compared once, and the bytes of the values.
+    /// How two groups of one bucket compare by the columns. Of each group there are the dimension values and the values of the
+    /// aggregations, in the order of the query. It takes no memory, and time by the outputs among the columns, each of which is
+    /// compared once, and the bytes of the values.
     pub fn order(
         &self,
-        dims: &[Text],
-        values: &[i64],
-        other_dims: &[Text],
-        other_values: &[i64],
+        dims: &OutputTexts<'_>,
+        values: &OutputNumbers<'_>,
+        other_dims: &OutputTexts<'_>,
+        other_values: &OutputNumbers<'_>,
     ) -> Ordering
-        ensures { result ≡ groups_cmp self.now dims.now values.now other_dims.now other_values.now }
+        ensures { result ≡ columns_cmp self.now dims.now values.now other_dims.now other_values.now }
     {
-        let order = by_columns(
+        by_columns(
             self.deciding.as_slice(),
             dims,
             values,
             other_dims,
             other_values,
-        );
-        order.then(dims.cmp(other_dims))
+        )
     }
 }
 
@@ -104,10 +103,10 @@ fn stands_at(columns: &[OrderColumn], place: usize, output: Output) -> bool
 
 fn by_columns(
     columns: &[OrderColumn],
-    dims: &[Text],
-    values: &[i64],
-    other_dims: &[Text],
-    other_values: &[i64],
+    dims: &OutputTexts<'_>,
+    values: &OutputNumbers<'_>,
+    other_dims: &OutputTexts<'_>,
+    other_values: &OutputNumbers<'_>,
 ) -> Ordering
     ensures { result ≡ columns_cmp columns.now dims.now values.now other_dims.now other_values.now }
 {

@@ -1,6 +1,7 @@
 ghost use Rattle.std.specs.Prelude.{◌≡◌, ◌<◌, ◌≤◌, ◌∷◌, [], true, None, length, map, IfOk, OnOk, slice_range};
 ghost use Rattle.std.specs.List.{AllByRecursion};
-ghost use Rattle.dr_ask.specs.Asked.{asked, asked_shape, dimensions_by};
+ghost use Rattle.dr_ask.specs.Asked.{dimensions_by};
+ghost use Rattle.dr_ask.specs.Once.{asked_once};
 ghost use Rattle.dr_answers.specs.Fold.{folded, folds};
 ghost use Rattle.dr_rollup.specs.Entries.{row_of};
 ghost use Rattle.dr_partial.specs.Grouped.{IsSound, AddsAll};
@@ -50,9 +51,9 @@ pub fn add_run(
 ) -> Result<(), AllocError>
     requires some { from < to }
     requires within { to ≤ length rows.now }
-    requires same { AllByRecursion (λ r. LiesIn (asked query.now) bucket r.key.time) (slice_range rows.now from to) }
-    requires sound { IsSound (kinds_in query.now.aggregations) (map row_of groups.old.entries) }
-    ensures { OnOk result (AddsAll (asked query.now) (map row_of groups.old.entries) (slice_range rows.now from to) (map row_of groups.new.entries)) }
+    requires same { AllByRecursion (λ r. LiesIn (asked_once query.now) bucket r.key.time) (slice_range rows.now from to) }
+    requires sound { IsSound (kinds_in (asked_once query.now).aggregations) (map row_of groups.old.entries) }
+    ensures { OnOk result (AddsAll (asked_once query.now) (map row_of groups.old.entries) (slice_range rows.now from to) (map row_of groups.new.entries)) }
 {
     if to - from >= WORTH_A_FOLD && is_plain(query) {
         return add_whole_run(groups, query, rows, bucket, from, to);
@@ -62,8 +63,8 @@ pub fn add_run(
 
 // Whether each row that an interval holds is selected, and has no dimension values in its group.
 fn is_plain(query: &Query) -> bool
-    ensures filter { result ≡ true → (asked query.now).filter ≡ None }
-    ensures dimensions { result ≡ true → dimensions_by (asked_shape query.now.shape) ≡ [] }
+    ensures filter { result ≡ true → (asked_once query.now).filter ≡ None }
+    ensures dimensions { result ≡ true → dimensions_by (asked_once query.now).shape ≡ [] }
 {
     query.filter.is_none() && dimensions(query).is_empty()
 }
@@ -80,9 +81,9 @@ fn add_each(
 ) -> Result<(), AllocError>
     requires some { from < to }
     requires within { to ≤ length rows.now }
-    requires same { AllByRecursion (λ r. LiesIn (asked query.now) bucket r.key.time) (slice_range rows.now from to) }
-    requires sound { IsSound (kinds_in query.now.aggregations) (map row_of groups.old.entries) }
-    ensures { OnOk result (AddsAll (asked query.now) (map row_of groups.old.entries) (slice_range rows.now from to) (map row_of groups.new.entries)) }
+    requires same { AllByRecursion (λ r. LiesIn (asked_once query.now) bucket r.key.time) (slice_range rows.now from to) }
+    requires sound { IsSound (kinds_in (asked_once query.now).aggregations) (map row_of groups.old.entries) }
+    ensures { OnOk result (AddsAll (asked_once query.now) (map row_of groups.old.entries) (slice_range rows.now from to) (map row_of groups.new.entries)) }
 {
     let mut last = 0;
     for i in from..to {
@@ -104,13 +105,13 @@ fn add_whole_run(
 ) -> Result<(), AllocError>
     requires some { from < to }
     requires within { to ≤ length rows.now }
-    requires same { AllByRecursion (λ r. LiesIn (asked query.now) bucket r.key.time) (slice_range rows.now from to) }
-    requires every { (asked query.now).filter ≡ None }
-    requires plain { dimensions_by (asked_shape query.now.shape) ≡ [] }
-    requires sound { IsSound (kinds_in query.now.aggregations) (map row_of groups.old.entries) }
-    ensures { OnOk result (AddsAll (asked query.now) (map row_of groups.old.entries) (slice_range rows.now from to) (map row_of groups.new.entries)) }
+    requires same { AllByRecursion (λ r. LiesIn (asked_once query.now) bucket r.key.time) (slice_range rows.now from to) }
+    requires every { (asked_once query.now).filter ≡ None }
+    requires plain { dimensions_by (asked_once query.now).shape ≡ [] }
+    requires sound { IsSound (kinds_in (asked_once query.now).aggregations) (map row_of groups.old.entries) }
+    ensures { OnOk result (AddsAll (asked_once query.now) (map row_of groups.old.entries) (slice_range rows.now from to) (map row_of groups.new.entries)) }
 {
-    let aggregations = query.aggregations.as_slice();
+    let aggregations = query.aggregations.distinct();
     let folds = folds_between(*groups.allocator(), aggregations, rows, from, to)?;
     let group = KeyOf {
         time: bucket,

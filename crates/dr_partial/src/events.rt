@@ -3,7 +3,7 @@ ghost use Rattle.std.specs.List.{AllByRecursion, flat_map};
 ghost use Rattle.dr_schema.specs.Fits.{FitsSchema};
 ghost use Rattle.dr_rollup.specs.Entries.{row_of};
 ghost use Rattle.dr_rollup.specs.Unrolled.{unrolled, contributions};
-ghost use Rattle.dr_ask.specs.Asked.{asked};
+ghost use Rattle.dr_ask.specs.Once.{asked_once};
 ghost use Rattle.dr_partial.specs.Grouped.{IsSound, AddsAll};
 ghost use Rattle.dr_partial.specs.Partial.{kinds_in};
 
@@ -26,8 +26,8 @@ pub fn add_event_pieces(
     pieces: &[&[SharedEvent]],
 ) -> Result<(), AllocError>
     requires fit { AllByRecursion (FitsSchema schema.now) (flat_map (λ p. p.now) pieces.now) }
-    requires sound { IsSound (kinds_in query.now.aggregations) (map row_of groups.old.entries) }
-    ensures { OnOk result (AddsAll (asked query.now) (map row_of groups.old.entries) (map (unrolled schema.now) (flat_map (λ p. p.now) pieces.now)) (map row_of groups.new.entries)) }
+    requires sound { IsSound (kinds_in (asked_once query.now).aggregations) (map row_of groups.old.entries) }
+    ensures { OnOk result (AddsAll (asked_once query.now) (map row_of groups.old.entries) (map (unrolled schema.now) (flat_map (λ p. p.now) pieces.now)) (map row_of groups.new.entries)) }
 {
     let mut metrics = Vec::new(*group.allocator());
     for piece in pieces {
@@ -46,8 +46,8 @@ fn add_events(
     events: &[SharedEvent],
 ) -> Result<(), AllocError>
     requires fit { AllByRecursion (FitsSchema schema.now) events.now }
-    requires sound { IsSound (kinds_in query.now.aggregations) (map row_of groups.old.entries) }
-    ensures { OnOk result (AddsAll (asked query.now) (map row_of groups.old.entries) (map (unrolled schema.now) events.now) (map row_of groups.new.entries)) }
+    requires sound { IsSound (kinds_in (asked_once query.now).aggregations) (map row_of groups.old.entries) }
+    ensures { OnOk result (AddsAll (asked_once query.now) (map row_of groups.old.entries) (map (unrolled schema.now) events.now) (map row_of groups.new.entries)) }
 {
     for shared in events {
         add_event(groups, group, metrics, query, schema, shared.event())?;
@@ -65,8 +65,8 @@ fn add_event(
     event: &Event,
 ) -> Result<(), AllocError>
     requires fits { FitsSchema schema.now event.now }
-    requires sound { IsSound (kinds_in query.now.aggregations) (map row_of groups.old.entries) }
-    ensures { OnOk result (AddsAll (asked query.now) (map row_of groups.old.entries) (unrolled schema.now event.now ∷ []) (map row_of groups.new.entries)) }
+    requires sound { IsSound (kinds_in (asked_once query.now).aggregations) (map row_of groups.old.entries) }
+    ensures { OnOk result (AddsAll (asked_once query.now) (map row_of groups.old.entries) (unrolled schema.now event.now ∷ []) (map row_of groups.new.entries)) }
 {
     let time = schema.query_granularity().truncate(event.time);
     let dims = event.dims.as_slice();

@@ -1,6 +1,6 @@
 ghost use Rattle.std.specs.Prelude.{map, OnOk};
 ghost use Rattle.std.specs.List.{AllByRecursion};
-ghost use Rattle.dr_ask.specs.Asked.{asked};
+ghost use Rattle.dr_ask.specs.Once.{asked_once};
 ghost use Rattle.dr_rollup.specs.Entries.{row_of};
 ghost use Rattle.dr_time.specs.Instant.{IsInstant};
 ghost use Rattle.dr_partial.specs.Grouped.{IsSound, AddsAll};
@@ -22,8 +22,8 @@ pub fn add_range(
     fragment: &SharedFragment,
 ) -> Result<(), AllocError>
     requires instants { AllByRecursion (λ r. IsInstant r.key.time) fragment.now.rows }
-    requires sound { IsSound (kinds_in query.now.aggregations) (map row_of groups.old.entries) }
-    ensures { OnOk result (AddsAll (asked query.now) (map row_of groups.old.entries) fragment.now.rows (map row_of groups.new.entries)) }
+    requires sound { IsSound (kinds_in (asked_once query.now).aggregations) (map row_of groups.old.entries) }
+    ensures { OnOk result (AddsAll (asked_once query.now) (map row_of groups.old.entries) fragment.now.rows (map row_of groups.new.entries)) }
 {
     let mut group = Vec::new(*groups.allocator());
     match fragment.form() {

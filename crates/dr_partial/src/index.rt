@@ -1,7 +1,7 @@
 ghost use Rattle.std.specs.Prelude.{◌≡◌, ◌<◌, ◌≤◌, length, map, IfOk, OnOk, slice_range};
 ghost use Rattle.std.specs.List.{AllByRecursion};
 ghost use Rattle.dr_time.specs.Instant.{IsInstant};
-ghost use Rattle.dr_ask.specs.Asked.{asked};
+ghost use Rattle.dr_ask.specs.Once.{asked_once};
 ghost use Rattle.dr_rollup.specs.Entries.{row_of};
 ghost use Rattle.dr_partial.specs.Grouped.{IsSound, AddsAll};
 ghost use Rattle.dr_partial.specs.Partial.{kinds_in};
@@ -22,8 +22,8 @@ pub fn add_index(
     index: &OpenIndex,
 ) -> Result<(), AllocError>
     requires instants { AllByRecursion (λ r. IsInstant r.key.time) index.now.rows }
-    requires sound { IsSound (kinds_in query.now.aggregations) (map row_of groups.old.entries) }
-    ensures { OnOk result (AddsAll (asked query.now) (map row_of groups.old.entries) index.now.rows (map row_of groups.new.entries)) }
+    requires sound { IsSound (kinds_in (asked_once query.now).aggregations) (map row_of groups.old.entries) }
+    ensures { OnOk result (AddsAll (asked_once query.now) (map row_of groups.old.entries) index.now.rows (map row_of groups.new.entries)) }
 {
     add_arrived(groups, group, query, &index.arrived())
 }
@@ -36,8 +36,8 @@ fn add_arrived(
     rows: &Arrived<'_>,
 ) -> Result<(), AllocError>
     requires instants { AllByRecursion (λ r. IsInstant r.key.time) rows.now }
-    requires sound { IsSound (kinds_in query.now.aggregations) (map row_of groups.old.entries) }
-    ensures { OnOk result (AddsAll (asked query.now) (map row_of groups.old.entries) rows.now (map row_of groups.new.entries)) }
+    requires sound { IsSound (kinds_in (asked_once query.now).aggregations) (map row_of groups.old.entries) }
+    ensures { OnOk result (AddsAll (asked_once query.now) (map row_of groups.old.entries) rows.now (map row_of groups.new.entries)) }
 {
     let count = rows.len();
     let mut from = 0;
@@ -58,10 +58,10 @@ fn add_from(
 ) -> Result<usize, AllocError>
     requires from { from < length rows.now }
     requires instants { AllByRecursion (λ r. IsInstant r.key.time) rows.now }
-    requires sound { IsSound (kinds_in query.now.aggregations) (map row_of groups.old.entries) }
+    requires sound { IsSound (kinds_in (asked_once query.now).aggregations) (map row_of groups.old.entries) }
     ensures more { IfOk result (λ to. from < to) }
     ensures within { IfOk result (λ to. to ≤ length rows.now) }
-    ensures adds { IfOk result (λ to. AddsAll (asked query.now) (map row_of groups.old.entries) (slice_range rows.now from to) (map row_of groups.new.entries)) }
+    ensures adds { IfOk result (λ to. AddsAll (asked_once query.now) (map row_of groups.old.entries) (slice_range rows.now from to) (map row_of groups.new.entries)) }
 {
     let _ = rows.len();
     let (time, _, _) = rows.row(from);

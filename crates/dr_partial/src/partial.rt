@@ -1,7 +1,7 @@
 ghost use Rattle.std.specs.Prelude.{◌≡◌, ◌++◌, true, IfOk, List, length, map, option_map};
 ghost use Rattle.std.specs.List.{All, AllByRecursion, flat_map};
-ghost use Rattle.dr_agg.specs.Rollup.{all_rows, rollup_onto, rows_at, AllFit};
-ghost use Rattle.dr_ask.specs.Asked.{asked};
+ghost use Rattle.dr_agg.specs.Rollup.{all_rows, rollup_onto, rows_at, AllFit, IsInOrder};
+ghost use Rattle.dr_ask.specs.Once.{asked_once};
 ghost use Rattle.dr_base.specs.declared.key.Key.{Key};
 ghost use Rattle.dr_base.specs.declared.row.Row.{Row};
 ghost use Rattle.dr_intervals.specs.Printable.{StartsPrintable};
@@ -54,7 +54,7 @@ impl Partial {
     /// the groups. Where the intervals of the query start at times that can be printed, so do the buckets.
     pub fn of_rows(alloc: Global, query: &Query, pieces: &[&[Row]]) -> Result<Partial, AllocError>
         requires { AllByRecursion (λ r. IsInstant r.key.time) (all_rows (map (λ p. p.now) pieces.now)) }
-        ensures value { IfOk result (λ p. p ≡ partial (asked query.now) (all_rows (map (λ p. p.now) pieces.now))) }
+        ensures value { IfOk result (λ p. p ≡ partial (asked_once query.now) (all_rows (map (λ p. p.now) pieces.now))) }
         ensures printable { All StartsPrintable query.now.intervals → IfOk result (λ p. AllByRecursion (λ g. IsPrintable g.key.time) p) }
     {
         let mut groups = IndexMap::new(alloc);
@@ -72,7 +72,7 @@ impl Partial {
         pieces: &[&[SharedEvent]],
     ) -> Result<Partial, AllocError>
         requires { AllByRecursion (FitsSchema schema.now) (flat_map (λ p. p.now) pieces.now) }
-        ensures value { IfOk result (λ p. p ≡ partial (asked query.now) (map (unrolled schema.now) (flat_map (λ p. p.now) pieces.now))) }
+        ensures value { IfOk result (λ p. p ≡ partial (asked_once query.now) (map (unrolled schema.now) (flat_map (λ p. p.now) pieces.now))) }
         ensures printable { All StartsPrintable query.now.intervals → IfOk result (λ p. AllByRecursion (λ g. IsPrintable g.key.time) p) }
     {
         let mut groups = IndexMap::new(alloc);
@@ -89,7 +89,7 @@ impl Partial {
         fragment: &SharedFragment,
     ) -> Result<Partial, AllocError>
         requires { AllByRecursion (λ r. IsInstant r.key.time) fragment.now.rows }
-        ensures value { IfOk result (λ p. p ≡ partial (asked query.now) fragment.now.rows) }
+        ensures value { IfOk result (λ p. p ≡ partial (asked_once query.now) fragment.now.rows) }
         ensures printable { All StartsPrintable query.now.intervals → IfOk result (λ p. AllByRecursion (λ g. IsPrintable g.key.time) p) }
     {
         let none = Partial::of_rows(alloc, query, &[])?;
@@ -114,9 +114,9 @@ impl Partial {
         query: &Query,
         fragment: &SharedFragment,
     ) -> Result<Partial, AllocError>
-        requires own { IsPartial (asked query.now) self }
+        requires own { IsPartial (asked_once query.now) self }
         requires instants { AllByRecursion (λ r. IsInstant r.key.time) fragment.now.rows }
-        ensures value { IfOk result (λ p. (a : List Row) → self ≡ partial (asked query.now) a → p ≡ partial (asked query.now) (a ++ fragment.now.rows)) }
+        ensures value { IfOk result (λ p. (a : List Row) → self ≡ partial (asked_once query.now) a → p ≡ partial (asked_once query.now) (a ++ fragment.now.rows)) }
         ensures printable { All StartsPrintable query.now.intervals → AllByRecursion (λ g. IsPrintable g.key.time) self → IfOk result (λ p. AllByRecursion (λ g. IsPrintable g.key.time) p) }
     {
         let _ = self.groups.len();
@@ -130,9 +130,9 @@ impl Partial {
     /// memory ran out. It takes expected time by the groups of the smaller one and the bytes of their dimension values; no key
     /// is copied.
     pub fn merge(self, query: &Query, other: Partial) -> Result<Partial, AllocError>
-        requires own { IsPartial (asked query.now) self }
-        requires other { IsPartial (asked query.now) other }
-        ensures value { IfOk result (λ p. (a b : List Row) → self ≡ partial (asked query.now) a → other ≡ partial (asked query.now) b → p ≡ partial (asked query.now) (a ++ b)) }
+        requires own { IsPartial (asked_once query.now) self }
+        requires other { IsPartial (asked_once query.now) other }
+        ensures value { IfOk result (λ p. (a b : List Row) → self ≡ partial (asked_once query.now) a → other ≡ partial (asked_once query.now) b → p ≡ partial (asked_once query.now) (a ++ b)) }
         ensures printable { AllByRecursion (λ g. IsPrintable g.key.time) self → AllByRecursion (λ g. IsPrintable g.key.time) other → IfOk result (λ p. AllByRecursion (λ g. IsPrintable g.key.time) p) }
     {
         let own = self.groups.len();
@@ -176,7 +176,8 @@ impl Partial {
     /// The groups in any order: of each key the group that there is. The only error is that memory ran out. It takes time by the
     /// groups, and sorts nothing; keys and folds aren't copied.
     pub fn into_groups(self) -> Result<Vec<Row>, AllocError>
-        ensures { IfOk result (λ rows. (k : Key) → rows_at k rows.items ≡ rows_at k self) }
+        ensures same { IfOk result (λ rows. (k : Key) → rows_at k rows.items ≡ rows_at k self) }
+        ensures order { IsInOrder self }
     {
         let rows = entry_rows(self.groups)?;
         Ok(rows)
@@ -189,12 +190,12 @@ fn joined(
     larger: IndexMap<Key, Numbers>,
     smaller: IndexMap<Key, Numbers>,
 ) -> Result<Partial, AllocError>
-    requires sound { IsSound (kinds_in query.now.aggregations) (map row_of larger.entries) }
-    requires fit { AllFit (kinds_in query.now.aggregations) (map row_of smaller.entries) }
-    ensures { IfOk result (λ p. p ≡ rollup_onto true (kinds_in query.now.aggregations) (in_order (map row_of larger.entries)) (map row_of smaller.entries)) }
+    requires sound { IsSound (kinds_in (asked_once query.now).aggregations) (map row_of larger.entries) }
+    requires fit { AllFit (kinds_in (asked_once query.now).aggregations) (map row_of smaller.entries) }
+    ensures { IfOk result (λ p. p ≡ rollup_onto true (kinds_in (asked_once query.now).aggregations) (in_order (map row_of larger.entries)) (map row_of smaller.entries)) }
 {
     let mut groups = larger;
-    add_groups(&mut groups, query.aggregations.as_slice(), smaller)?;
+    add_groups(&mut groups, query.aggregations.distinct(), smaller)?;
     Ok(Partial { groups })
 }
 

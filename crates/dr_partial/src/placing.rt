@@ -1,7 +1,7 @@
 ghost use Rattle.std.specs.Prelude.{◌≡◌, ◌<◌, ◌∷◌, ◌++◌, [], length, map, IfSome, IfOk, OnOk};
 ghost use Rattle.dr_agg.specs.Combination.{combine_columns, FitsColumns};
 ghost use Rattle.dr_agg.specs.Rollup.{AllFit};
-ghost use Rattle.dr_ask.specs.Asked.{asked};
+ghost use Rattle.dr_ask.specs.Once.{asked_once};
 ghost use Rattle.dr_answers.specs.Fold.{folds};
 ghost use Rattle.dr_answers.specs.Groups.{bucket as bucket_of};
 ghost use Rattle.dr_image.specs.Table.{row_at};
@@ -32,11 +32,11 @@ pub fn add_selected_at(
     i: usize,
 ) -> Result<(), AllocError>
     requires within { i < length source.now.view.now.times }
-    requires bucket { bucket ≡ bucket_of (asked source.now.query.now) (key_at source.now.view.now i).time }
-    requires sound { IsSound (kinds_in source.now.query.now.aggregations) (map row_of groups.old.entries) }
-    requires known { AreKnown (asked source.now.query.now) source.now.view.now (map row_of groups.old.entries) known.old.items }
-    ensures adds { OnOk result (Adds (kinds_in source.now.query.now.aggregations) (map row_of groups.old.entries) (alone (asked source.now.query.now) (row_at source.now.view.now i)) (map row_of groups.new.entries)) }
-    ensures known { OnOk result (AreKnown (asked source.now.query.now) source.now.view.now (map row_of groups.new.entries) known.new.items) }
+    requires bucket { bucket ≡ bucket_of (asked_once source.now.query.now) (key_at source.now.view.now i).time }
+    requires sound { IsSound (kinds_in (asked_once source.now.query.now).aggregations) (map row_of groups.old.entries) }
+    requires known { AreKnown (asked_once source.now.query.now) source.now.view.now (map row_of groups.old.entries) known.old.items }
+    ensures adds { OnOk result (Adds (kinds_in (asked_once source.now.query.now).aggregations) (map row_of groups.old.entries) (alone (asked_once source.now.query.now) (row_at source.now.view.now i)) (map row_of groups.new.entries)) }
+    ensures known { OnOk result (AreKnown (asked_once source.now.query.now) source.now.view.now (map row_of groups.new.entries) known.new.items) }
 {
     let slot = slot(source.columns.as_slice(), known.len(), i);
     if let Some(place) = place_known(groups, source, known.as_slice(), slot, bucket, i) {
@@ -66,8 +66,8 @@ fn place_known(
     bucket: i64,
     i: usize,
 ) -> Option<usize>
-    requires { AreKnown (asked source.now.query.now) source.now.view.now (map row_of groups.now.entries) known.now }
-    ensures { IfSome result (HasKeyAt (group_in (asked source.now.query.now) source.now.view.now bucket i) (map row_of groups.now.entries)) }
+    requires { AreKnown (asked_once source.now.query.now) source.now.view.now (map row_of groups.now.entries) known.now }
+    ensures { IfSome result (HasKeyAt (group_in (asked_once source.now.query.now) source.now.view.now bucket i) (map row_of groups.now.entries)) }
 {
     let Some(noted) = known.get(slot) else {
         return None;
@@ -82,8 +82,8 @@ fn place_known(
 // Combines a row into the group at a place.
 fn combine_at(groups: &mut IndexMap<Key, Numbers>, place: usize, source: &Source<'_>, i: usize)
     requires place { place < length (map row_of groups.old.entries) }
-    requires fits { AllFit (kinds_in source.now.query.now.aggregations) (map row_of groups.old.entries) }
-    ensures { CombinesAt (kinds_in source.now.query.now.aggregations) (folds source.now.query.now.aggregations (row_at source.now.view.now i ∷ [])) (map row_of groups.old.entries) place (map row_of groups.new.entries) }
+    requires fits { AllFit (kinds_in (asked_once source.now.query.now).aggregations) (map row_of groups.old.entries) }
+    ensures { CombinesAt (kinds_in (asked_once source.now.query.now).aggregations) (folds (asked_once source.now.query.now).aggregations (row_at source.now.view.now i ∷ [])) (map row_of groups.old.entries) place (map row_of groups.new.entries) }
 {
     combine_read(source.readings.as_slice(), &mut groups[place], i);
 }
@@ -110,9 +110,9 @@ fn add_found(
     i: usize,
 ) -> Result<usize, AllocError>
     requires within { i < length source.now.view.now.times }
-    requires sound { IsSound (kinds_in source.now.query.now.aggregations) (map row_of groups.old.entries) }
-    ensures adds { OnOk result (Adds (kinds_in source.now.query.now.aggregations) (map row_of groups.old.entries) (record { key = group_in (asked source.now.query.now) source.now.view.now bucket i; metrics = folds source.now.query.now.aggregations (row_at source.now.view.now i ∷ []) }) (map row_of groups.new.entries)) }
-    ensures place { IfOk result (HasKeyAt (group_in (asked source.now.query.now) source.now.view.now bucket i) (map row_of groups.new.entries)) }
+    requires sound { IsSound (kinds_in (asked_once source.now.query.now).aggregations) (map row_of groups.old.entries) }
+    ensures adds { OnOk result (Adds (kinds_in (asked_once source.now.query.now).aggregations) (map row_of groups.old.entries) (record { key = group_in (asked_once source.now.query.now) source.now.view.now bucket i; metrics = folds (asked_once source.now.query.now).aggregations (row_at source.now.view.now i ∷ []) }) (map row_of groups.new.entries)) }
+    ensures place { IfOk result (HasKeyAt (group_in (asked_once source.now.query.now) source.now.view.now bucket i) (map row_of groups.new.entries)) }
     ensures keeps { OnOk result (KeepsKeys (map row_of groups.old.entries) (map row_of groups.new.entries)) }
 {
     let alloc = *groups.allocator();
@@ -138,7 +138,7 @@ fn put_read(
     i: usize,
 ) -> Result<(), AllocError>
     requires { NoneHas (record { time = group.now.time; dims = group.now.dims.now }) (map row_of groups.old.entries) }
-    ensures { OnOk result (map row_of groups.new.entries ≡ map row_of groups.old.entries ++ record { key = record { time = group.now.time; dims = group.now.dims.now }; metrics = folds source.now.query.now.aggregations (row_at source.now.view.now i ∷ []) } ∷ []) }
+    ensures { OnOk result (map row_of groups.new.entries ≡ map row_of groups.old.entries ++ record { key = record { time = group.now.time; dims = group.now.dims.now }; metrics = folds (asked_once source.now.query.now).aggregations (row_at source.now.view.now i ∷ []) } ∷ []) }
 {
     let alloc = *groups.allocator();
     let key = group.copy(alloc)?;
@@ -148,7 +148,7 @@ fn put_read(
 
 // What each aggregation folds to over a row alone.
 fn values_read(alloc: Global, source: &Source<'_>, i: usize) -> Result<Numbers, AllocError>
-    ensures { IfOk result (λ values. values ≡ folds source.now.query.now.aggregations (row_at source.now.view.now i ∷ [])) }
+    ensures { IfOk result (λ values. values ≡ folds (asked_once source.now.query.now).aggregations (row_at source.now.view.now i ∷ [])) }
 {
     let mut values = Vec::with_capacity(alloc, source.readings.len())?;
     for reading in source.readings.as_slice() {
@@ -165,9 +165,9 @@ fn note(
     slot: usize,
     noted: Known,
 ) -> Result<(), AllocError>
-    requires known { AreKnown (asked source.now.query.now) source.now.view.now (map row_of groups.now.entries) known.old.items }
-    requires noted { HasKeyAt (group_in (asked source.now.query.now) source.now.view.now noted.bucket noted.row) (map row_of groups.now.entries) noted.place }
-    ensures { OnOk result (AreKnown (asked source.now.query.now) source.now.view.now (map row_of groups.now.entries) known.new.items) }
+    requires known { AreKnown (asked_once source.now.query.now) source.now.view.now (map row_of groups.now.entries) known.old.items }
+    requires noted { HasKeyAt (group_in (asked_once source.now.query.now) source.now.view.now noted.bucket noted.row) (map row_of groups.now.entries) noted.place }
+    ensures { OnOk result (AreKnown (asked_once source.now.query.now) source.now.view.now (map row_of groups.now.entries) known.new.items) }
 {
     if known.is_empty() {
         let alloc = *groups.allocator();

@@ -2,7 +2,8 @@ ghost use Rattle.std.specs.Prelude.{◌≡◌, ◌∷◌, [], map, OnOk};
 ghost use Rattle.std.specs.List.{AllByRecursion, flat_map};
 ghost use Rattle.dr_time.specs.Instant.{IsInstant};
 ghost use Rattle.dr_rollup.specs.Entries.{row_of};
-ghost use Rattle.dr_ask.specs.Asked.{asked, asked_shape, dimensions_by};
+ghost use Rattle.dr_ask.specs.Asked.{dimensions_by};
+ghost use Rattle.dr_ask.specs.Once.{asked_once};
 ghost use Rattle.dr_answers.specs.Groups.{group_of, grouped_values};
 ghost use Rattle.dr_partial.specs.Grouped.{folds_alone, IsSound, Adds, AddsAll};
 ghost use Rattle.dr_partial.specs.Partial.{kinds_in};
@@ -24,8 +25,8 @@ pub fn add_pieces(
     pieces: &[&[Row]],
 ) -> Result<(), AllocError>
     requires instants { AllByRecursion (λ r. IsInstant r.key.time) (flat_map (λ p. p.now) pieces.now) }
-    requires sound { IsSound (kinds_in query.now.aggregations) (map row_of groups.old.entries) }
-    ensures { OnOk result (AddsAll (asked query.now) (map row_of groups.old.entries) (flat_map (λ p. p.now) pieces.now) (map row_of groups.new.entries)) }
+    requires sound { IsSound (kinds_in (asked_once query.now).aggregations) (map row_of groups.old.entries) }
+    ensures { OnOk result (AddsAll (asked_once query.now) (map row_of groups.old.entries) (flat_map (λ p. p.now) pieces.now) (map row_of groups.new.entries)) }
 {
     for piece in pieces {
         add_rows(groups, group, query, piece)?;
@@ -41,8 +42,8 @@ pub fn add_rows(
     rows: &[Row],
 ) -> Result<(), AllocError>
     requires instants { AllByRecursion (λ r. IsInstant r.key.time) rows.now }
-    requires sound { IsSound (kinds_in query.now.aggregations) (map row_of groups.old.entries) }
-    ensures { OnOk result (AddsAll (asked query.now) (map row_of groups.old.entries) rows.now (map row_of groups.new.entries)) }
+    requires sound { IsSound (kinds_in (asked_once query.now).aggregations) (map row_of groups.old.entries) }
+    ensures { OnOk result (AddsAll (asked_once query.now) (map row_of groups.old.entries) rows.now (map row_of groups.new.entries)) }
 {
     for row in rows {
         add_row(groups, group, query, row)?;
@@ -58,8 +59,8 @@ fn add_row(
     row: &Row,
 ) -> Result<(), AllocError>
     requires instant { IsInstant row.now.key.time }
-    requires sound { IsSound (kinds_in query.now.aggregations) (map row_of groups.old.entries) }
-    ensures { OnOk result (AddsAll (asked query.now) (map row_of groups.old.entries) (row.now ∷ []) (map row_of groups.new.entries)) }
+    requires sound { IsSound (kinds_in (asked_once query.now).aggregations) (map row_of groups.old.entries) }
+    ensures { OnOk result (AddsAll (asked_once query.now) (map row_of groups.old.entries) (row.now ∷ []) (map row_of groups.new.entries)) }
 {
     add_parts(groups, group, query, &row.key, row.metrics.as_slice())
 }
@@ -73,8 +74,8 @@ pub fn add_parts(
     metrics: &[i64],
 ) -> Result<(), AllocError>
     requires instant { IsInstant key.now.time }
-    requires sound { IsSound (kinds_in query.now.aggregations) (map row_of groups.old.entries) }
-    ensures { OnOk result (AddsAll (asked query.now) (map row_of groups.old.entries) (record { key = key.now; metrics = metrics.now } ∷ []) (map row_of groups.new.entries)) }
+    requires sound { IsSound (kinds_in (asked_once query.now).aggregations) (map row_of groups.old.entries) }
+    ensures { OnOk result (AddsAll (asked_once query.now) (map row_of groups.old.entries) (record { key = key.now; metrics = metrics.now } ∷ []) (map row_of groups.new.entries)) }
 {
     let time = key.time;
     let dims = key.dims.as_slice();
@@ -94,8 +95,8 @@ pub fn add_selected(
     metrics: &[i64],
 ) -> Result<(), AllocError>
     requires instant { IsInstant time }
-    requires sound { IsSound (kinds_in query.now.aggregations) (map row_of groups.old.entries) }
-    ensures { OnOk result (Adds (kinds_in query.now.aggregations) (map row_of groups.old.entries) (record { key = group_of (asked query.now) (dimensions_by (asked_shape query.now.shape)) (record { time = time; dims = dims.now }); metrics = folds_alone query.now.aggregations metrics.now }) (map row_of groups.new.entries)) }
+    requires sound { IsSound (kinds_in (asked_once query.now).aggregations) (map row_of groups.old.entries) }
+    ensures { OnOk result (Adds (kinds_in (asked_once query.now).aggregations) (map row_of groups.old.entries) (record { key = group_of (asked_once query.now) (dimensions_by (asked_once query.now).shape) (record { time = time; dims = dims.now }); metrics = folds_alone (asked_once query.now).aggregations metrics.now }) (map row_of groups.new.entries)) }
 {
     let alloc = *group.allocator();
     read_group(alloc, dimensions(query), dims, group)?;
@@ -103,7 +104,7 @@ pub fn add_selected(
         time: bucket_start(query, time),
         dims: group.as_slice(),
     };
-    add(groups, query.aggregations.as_slice(), &key, metrics)?;
+    add(groups, query.aggregations.distinct(), &key, metrics)?;
     Ok(())
 }
 
@@ -119,9 +120,9 @@ pub fn add_held(
     key: &KeyOf<'_>,
     metrics: &[i64],
 ) -> Result<usize, AllocError>
-    requires held { LiesIn (asked query.now) bucket key.now.time }
-    requires sound { IsSound (kinds_in query.now.aggregations) (map row_of groups.old.entries) }
-    ensures { OnOk result (AddsAll (asked query.now) (map row_of groups.old.entries) (record { key = record { time = key.now.time; dims = key.now.dims.now }; metrics = metrics.now } ∷ []) (map row_of groups.new.entries)) }
+    requires held { LiesIn (asked_once query.now) bucket key.now.time }
+    requires sound { IsSound (kinds_in (asked_once query.now).aggregations) (map row_of groups.old.entries) }
+    ensures { OnOk result (AddsAll (asked_once query.now) (map row_of groups.old.entries) (record { key = record { time = key.now.time; dims = key.now.dims.now }; metrics = metrics.now } ∷ []) (map row_of groups.new.entries)) }
 {
     if !passes(&query.filter, key.time, key.dims) {
         return Ok(last);
@@ -139,10 +140,10 @@ fn add_passed(
     dims: &[Text],
     metrics: &[i64],
 ) -> Result<usize, AllocError>
-    requires sound { IsSound (kinds_in query.now.aggregations) (map row_of groups.old.entries) }
-    ensures { OnOk result (Adds (kinds_in query.now.aggregations) (map row_of groups.old.entries) (record { key = record { time = bucket; dims = grouped_values (dimensions_by (asked_shape query.now.shape)) dims.now }; metrics = folds_alone query.now.aggregations metrics.now }) (map row_of groups.new.entries)) }
+    requires sound { IsSound (kinds_in (asked_once query.now).aggregations) (map row_of groups.old.entries) }
+    ensures { OnOk result (Adds (kinds_in (asked_once query.now).aggregations) (map row_of groups.old.entries) (record { key = record { time = bucket; dims = grouped_values (dimensions_by (asked_once query.now).shape) dims.now }; metrics = folds_alone (asked_once query.now).aggregations metrics.now }) (map row_of groups.new.entries)) }
 {
-    let aggregations = query.aggregations.as_slice();
+    let aggregations = query.aggregations.distinct();
     if is_group_at(groups, last, bucket, dimensions(query), dims) {
         combine(groups, last, aggregations, metrics);
         return Ok(last);

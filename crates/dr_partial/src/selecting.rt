@@ -2,7 +2,8 @@ ghost use Rattle.std.specs.Prelude.{◌≡◌, [], true, IfOk, OnOk, option_map,
 ghost use Rattle.dr_time.specs.Instant.{IsInstant};
 ghost use Rattle.dr_filter.specs.Condition.{condition_in};
 ghost use Rattle.dr_filter.specs.Match.{value_at};
-ghost use Rattle.dr_ask.specs.Asked.{asked, asked_shape, dimensions_by};
+ghost use Rattle.dr_ask.specs.Asked.{dimensions_by};
+ghost use Rattle.dr_ask.specs.Once.{asked_once};
 ghost use Rattle.dr_answers.specs.Groups.{bucket, grouped_values};
 ghost use Rattle.dr_answers.specs.Selection.{selects, passes as passes_of};
 
@@ -14,7 +15,7 @@ use std::alloc::{AllocError, Global};
 
 /// Whether a query selects the rows of a time and of these dimension values.
 pub fn is_selected(query: &Query, time: i64, dims: &[Text]) -> bool
-    ensures { result ≡ selects (asked query.now) (record { time = time; dims = dims.now }) }
+    ensures { result ≡ selects (asked_once query.now) (record { time = time; dims = dims.now }) }
 {
     query.intervals.contains(time) && passes(&query.filter, time, dims)
 }
@@ -32,18 +33,18 @@ pub fn passes(filter: &Option<Filter>, time: i64, dims: &[Text]) -> bool
 /// The start of the bucket of a time.
 pub fn bucket_start(query: &Query, time: i64) -> i64
     requires { IsInstant time }
-    ensures { result ≡ bucket (asked query.now) time }
+    ensures { result ≡ bucket (asked_once query.now) time }
 {
     bucket_of(query, time).unwrap_or(0)
 }
 
 /// The dimensions that a query groups by.
 pub fn dimensions(query: &Query) -> &[Dimension]
-    ensures { result.now ≡ dimensions_by (asked_shape query.now.shape) }
+    ensures { result.now ≡ dimensions_by (asked_once query.now).shape }
 {
     match &query.shape {
         Shape::Timeseries(_) | Shape::Scan(_) => &[],
-        Shape::GroupBy(groups) => groups.dimensions.as_slice(),
+        Shape::GroupBy(groups) => groups.dimensions.distinct(),
     }
 }
 

@@ -1,5 +1,6 @@
 ghost use Rattle.std.specs.Prelude.{◌≡◌, ◌<◌, ℕ, true, length, map, IfOk};
-ghost use Rattle.dr_ask.specs.Asked.{asked, asked_shape, dimensions_by};
+ghost use Rattle.dr_ask.specs.Asked.{dimensions_by};
+ghost use Rattle.dr_ask.specs.Once.{asked_once};
 ghost use Rattle.dr_answers.specs.Fold.{reading_in};
 ghost use Rattle.dr_answers.specs.Groups.{grouped_values};
 ghost use Rattle.dr_answers.specs.Selection.{selects};
@@ -24,10 +25,10 @@ pub struct Source<'a> {
     pub selection: Selection,
     pub readings: Vec<Reading<'a>>,
     pub columns: Vec<Numbered<'a>>,
-    ghost selected: { (i : ℕ) → i < length view.now.times → tells selection i ≡ selects (asked query.now) (key_at view.now i) },
-    ghost kinds: { map (λ r. r.kind) readings.items ≡ kinds_in query.now.aggregations },
-    ghost read: { (i : ℕ) → map (λ r. read_at r i) readings.items ≡ map (λ a. reading_in a.kind a.column (row_at view.now i)) query.now.aggregations },
-    ghost grouped: { (i j : ℕ) → same_numbers columns.items i j ≡ true → grouped_values (dimensions_by (asked_shape query.now.shape)) (key_at view.now i).dims ≡ grouped_values (dimensions_by (asked_shape query.now.shape)) (key_at view.now j).dims },
+    ghost selected: { (i : ℕ) → i < length view.now.times → tells selection i ≡ selects (asked_once query.now) (key_at view.now i) },
+    ghost kinds: { map (λ r. r.kind) readings.items ≡ kinds_in (asked_once query.now).aggregations },
+    ghost read: { (i : ℕ) → map (λ r. read_at r i) readings.items ≡ map (λ a. reading_in a.kind a.column (row_at view.now i)) (asked_once query.now).aggregations },
+    ghost grouped: { (i j : ℕ) → same_numbers columns.items i j ≡ true → grouped_values (dimensions_by (asked_once query.now).shape) (key_at view.now i).dims ≡ grouped_values (dimensions_by (asked_once query.now).shape) (key_at view.now j).dims },
 }
 
 impl<'a> Source<'a> {
@@ -44,7 +45,7 @@ impl<'a> Source<'a> {
             query,
             view,
             selection: rows_selected(alloc, query, view)?,
-            readings: readings(alloc, view, query.aggregations.as_slice())?,
+            readings: readings(alloc, view, query.aggregations.distinct())?,
             columns: columns(alloc, view, dimensions(query))?,
         })
     }

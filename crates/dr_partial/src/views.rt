@@ -1,5 +1,5 @@
 ghost use Rattle.std.specs.Prelude.{◌≡◌, ◌<◌, ◌≤◌, ◌∷◌, [], ℕ, true, length, map, OnOk};
-ghost use Rattle.dr_ask.specs.Asked.{asked};
+ghost use Rattle.dr_ask.specs.Once.{asked_once};
 ghost use Rattle.dr_answers.specs.Groups.{bucket as bucket_of};
 ghost use Rattle.dr_image.specs.Table.{rows_of, row_at};
 ghost use Rattle.dr_columns.specs.Rows.{key_at, rows_between};
@@ -26,8 +26,8 @@ pub fn add_view(
     query: &Query,
     view: &SegmentView<'_>,
 ) -> Result<(), AllocError>
-    requires { IsSound (kinds_in query.now.aggregations) (map row_of groups.old.entries) }
-    ensures { OnOk result (AddsAll (asked query.now) (map row_of groups.old.entries) (rows_of view.now) (map row_of groups.new.entries)) }
+    requires { IsSound (kinds_in (asked_once query.now).aggregations) (map row_of groups.old.entries) }
+    ensures { OnOk result (AddsAll (asked_once query.now) (map row_of groups.old.entries) (rows_of view.now) (map row_of groups.new.entries)) }
 {
     if is_apart(view, &query.intervals) {
         return Ok(());
@@ -41,8 +41,8 @@ pub fn add_view(
 
 // Adds the rows of an image, those of one bucket after those of another.
 fn add_runs(groups: &mut IndexMap<Key, Numbers>, source: &Source<'_>) -> Result<(), AllocError>
-    requires { IsSound (kinds_in source.now.query.now.aggregations) (map row_of groups.old.entries) }
-    ensures { OnOk result (AddsAll (asked source.now.query.now) (map row_of groups.old.entries) (rows_of source.now.view.now) (map row_of groups.new.entries)) }
+    requires { IsSound (kinds_in (asked_once source.now.query.now).aggregations) (map row_of groups.old.entries) }
+    ensures { OnOk result (AddsAll (asked_once source.now.query.now) (map row_of groups.old.entries) (rows_of source.now.view.now) (map row_of groups.new.entries)) }
 {
     let alloc = *groups.allocator();
     let mut known = Vec::new(alloc);
@@ -68,11 +68,11 @@ fn add_run(
 ) -> Result<(), AllocError>
     requires some { from < to }
     requires within { to ≤ length source.now.view.now.times }
-    requires same { (i : ℕ) → from ≤ i → i < to → bucket_of (asked source.now.query.now) (key_at source.now.view.now i).time ≡ bucket_of (asked source.now.query.now) (key_at source.now.view.now from).time }
-    requires sound { IsSound (kinds_in source.now.query.now.aggregations) (map row_of groups.old.entries) }
-    requires known { AreKnown (asked source.now.query.now) source.now.view.now (map row_of groups.old.entries) known.old.items }
-    ensures adds { OnOk result (AddsAll (asked source.now.query.now) (map row_of groups.old.entries) (rows_between source.now.view.now from to) (map row_of groups.new.entries)) }
-    ensures known { OnOk result (AreKnown (asked source.now.query.now) source.now.view.now (map row_of groups.new.entries) known.new.items) }
+    requires same { (i : ℕ) → from ≤ i → i < to → bucket_of (asked_once source.now.query.now) (key_at source.now.view.now i).time ≡ bucket_of (asked_once source.now.query.now) (key_at source.now.view.now from).time }
+    requires sound { IsSound (kinds_in (asked_once source.now.query.now).aggregations) (map row_of groups.old.entries) }
+    requires known { AreKnown (asked_once source.now.query.now) source.now.view.now (map row_of groups.old.entries) known.old.items }
+    ensures adds { OnOk result (AddsAll (asked_once source.now.query.now) (map row_of groups.old.entries) (rows_between source.now.view.now from to) (map row_of groups.new.entries)) }
+    ensures known { OnOk result (AreKnown (asked_once source.now.query.now) source.now.view.now (map row_of groups.new.entries) known.new.items) }
 {
     let bucket = bucket_start(source.query, time_at(source.view, from));
     for i in from..to {
@@ -91,11 +91,11 @@ fn add_at(
     i: usize,
 ) -> Result<(), AllocError>
     requires within { i < length source.now.view.now.times }
-    requires bucket { bucket ≡ bucket_of (asked source.now.query.now) (key_at source.now.view.now i).time }
-    requires sound { IsSound (kinds_in source.now.query.now.aggregations) (map row_of groups.old.entries) }
-    requires known { AreKnown (asked source.now.query.now) source.now.view.now (map row_of groups.old.entries) known.old.items }
-    ensures adds { OnOk result (AddsAll (asked source.now.query.now) (map row_of groups.old.entries) (row_at source.now.view.now i ∷ []) (map row_of groups.new.entries)) }
-    ensures known { OnOk result (AreKnown (asked source.now.query.now) source.now.view.now (map row_of groups.new.entries) known.new.items) }
+    requires bucket { bucket ≡ bucket_of (asked_once source.now.query.now) (key_at source.now.view.now i).time }
+    requires sound { IsSound (kinds_in (asked_once source.now.query.now).aggregations) (map row_of groups.old.entries) }
+    requires known { AreKnown (asked_once source.now.query.now) source.now.view.now (map row_of groups.old.entries) known.old.items }
+    ensures adds { OnOk result (AddsAll (asked_once source.now.query.now) (map row_of groups.old.entries) (row_at source.now.view.now i ∷ []) (map row_of groups.new.entries)) }
+    ensures known { OnOk result (AreKnown (asked_once source.now.query.now) source.now.view.now (map row_of groups.new.entries) known.new.items) }
 {
     if !source.selection.holds(i) {
         return Ok(());

@@ -1,5 +1,6 @@
 ghost use Rattle.std.specs.Prelude.{◌≡◌, ◌<◌, ◌≤◌, [], ℕ, true, length, map, IfOk, OnOk};
-ghost use Rattle.dr_ask.specs.Asked.{asked, asked_shape, dimensions_by};
+ghost use Rattle.dr_ask.specs.Asked.{dimensions_by};
+ghost use Rattle.dr_ask.specs.Once.{asked_once};
 ghost use Rattle.dr_answers.specs.Fold.{folds};
 ghost use Rattle.dr_answers.specs.Groups.{bucket};
 ghost use Rattle.dr_answers.specs.Selection.{selects};
@@ -26,9 +27,9 @@ pub fn add_whole_runs(
     source: &Source<'_>,
 ) -> Result<(), AllocError>
     requires every { (i : ℕ) → tells source.now.selection i ≡ true }
-    requires plain { dimensions_by (asked_shape source.now.query.now.shape) ≡ [] }
-    requires sound { IsSound (kinds_in source.now.query.now.aggregations) (map row_of groups.old.entries) }
-    ensures { OnOk result (AddsAll (asked source.now.query.now) (map row_of groups.old.entries) (rows_of source.now.view.now) (map row_of groups.new.entries)) }
+    requires plain { dimensions_by (asked_once source.now.query.now).shape ≡ [] }
+    requires sound { IsSound (kinds_in (asked_once source.now.query.now).aggregations) (map row_of groups.old.entries) }
+    ensures { OnOk result (AddsAll (asked_once source.now.query.now) (map row_of groups.old.entries) (rows_of source.now.view.now) (map row_of groups.new.entries)) }
 {
     let count = source.view.row_count();
     let mut from = 0;
@@ -49,11 +50,11 @@ fn add_whole_run(
 ) -> Result<(), AllocError>
     requires some { from < to }
     requires within { to ≤ length source.now.view.now.times }
-    requires same { (i : ℕ) → from ≤ i → i < to → bucket (asked source.now.query.now) (key_at source.now.view.now i).time ≡ bucket (asked source.now.query.now) (key_at source.now.view.now from).time }
+    requires same { (i : ℕ) → from ≤ i → i < to → bucket (asked_once source.now.query.now) (key_at source.now.view.now i).time ≡ bucket (asked_once source.now.query.now) (key_at source.now.view.now from).time }
     requires every { (i : ℕ) → tells source.now.selection i ≡ true }
-    requires plain { dimensions_by (asked_shape source.now.query.now.shape) ≡ [] }
-    requires sound { IsSound (kinds_in source.now.query.now.aggregations) (map row_of groups.old.entries) }
-    ensures { OnOk result (AddsAll (asked source.now.query.now) (map row_of groups.old.entries) (rows_between source.now.view.now from to) (map row_of groups.new.entries)) }
+    requires plain { dimensions_by (asked_once source.now.query.now).shape ≡ [] }
+    requires sound { IsSound (kinds_in (asked_once source.now.query.now).aggregations) (map row_of groups.old.entries) }
+    ensures { OnOk result (AddsAll (asked_once source.now.query.now) (map row_of groups.old.entries) (rows_between source.now.view.now from to) (map row_of groups.new.entries)) }
 {
     let bucket = bucket_start(source.query, time_at(source.view, from));
     let folds = folds_between(*groups.allocator(), source, from, to)?;
@@ -61,7 +62,7 @@ fn add_whole_run(
         time: bucket,
         dims: &[],
     };
-    add_folds(groups, source.query.aggregations.as_slice(), &group, folds)
+    add_folds(groups, source.query.aggregations.distinct(), &group, folds)
 }
 
 // What each aggregation folds to over the rows from a number on, up to another.
@@ -72,7 +73,7 @@ fn folds_between(
     to: usize,
 ) -> Result<Numbers, AllocError>
     requires { from ≤ to }
-    ensures { IfOk result (λ values. values ≡ folds source.now.query.now.aggregations (rows_between source.now.view.now from to)) }
+    ensures { IfOk result (λ values. values ≡ folds (asked_once source.now.query.now).aggregations (rows_between source.now.view.now from to)) }
 {
     let mut values = Vec::with_capacity(alloc, source.readings.len())?;
     for reading in source.readings.as_slice() {

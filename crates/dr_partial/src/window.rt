@@ -2,7 +2,7 @@ ghost use Rattle.std.specs.Prelude.{◌≡◌, ◌&&◌, ◌≤ℤ◌, ◌<ℤ�
 ghost use Rattle.dr_time.specs.Instant.{IsInstant};
 ghost use Rattle.dr_time.specs.Interval.{holds_time};
 ghost use Rattle.dr_time.specs.Union.{union_holds};
-ghost use Rattle.dr_ask.specs.Asked.{asked};
+ghost use Rattle.dr_ask.specs.Once.{asked_once};
 ghost use Rattle.dr_partial.specs.Runs.{IsWindow};
 
 use crate::selecting::bucket_start;
@@ -25,7 +25,7 @@ impl Window {
     pub fn around(query: &Query, time: i64) -> Window
         requires instant { IsInstant time }
         requires held { union_holds query.now.intervals time ≡ true }
-        ensures same { IsWindow (asked query.now) result }
+        ensures same { IsWindow (asked_once query.now) result }
         ensures own { (result.from ≤ℤ time) × (time <ℤ result.to) }
     {
         let bucket = bucket_start(query, time);

@@ -7,7 +7,7 @@ use Rattle.dr_time.specs.Printed.{IsPrintable}
 use Rattle.dr_base.specs.declared.row.Row.{Row}
 use Rattle.dr_agg.specs.Rollup.{all_rows}
 use Rattle.dr_ask.specs.declared.query.Query.{Query}
-use Rattle.dr_ask.specs.Asked.{asked}
+use Rattle.dr_ask.specs.Once.{asked_once}
 use Rattle.dr_partial.specs.Partial.{partial}
 use Rattle.dr_workers.specs.Shared.{IsFoldOf}
 use Rattle.dr_scatter.specs.Folds.{AreFoldsOf, IsFoldOfAll}
@@ -23,7 +23,7 @@ one-fold q rows before groups parts few are folds = at rows before (subst (AreFo
     at rows (p ∷ before) folds less = absurd (omega (arith, less))
 
 pub no-fold : {E : Type 0} (q : Query) (parts : List (List Row)) (r : Result (List Row) E) → length parts ≡ 0
-    → IfOk r (λ p. p ≡ partial (asked q) []) → (All StartsPrintable q.intervals → IfOk r (λ p. AllByRecursion (λ g. IsPrintable g.key.time) p))
+    → IfOk r (λ p. p ≡ partial (asked_once q) []) → (All StartsPrintable q.intervals → IfOk r (λ p. AllByRecursion (λ g. IsPrintable g.key.time) p))
     → IfOk r (IsFoldOfAll q parts)
 no-fold q (x ∷ parts) r none value printable = absurd (omega (arith, none))
 no-fold q [] (Err e) none value printable = tt
@@ -57,7 +57,7 @@ pub told : {E : Type 0} (q : Query) (parts : List (List Row)) (r : Result (List 
 told q parts r p h is = subst (λ x. IfOk x (IsFoldOfAll q parts)) is h
 
 pub both : {E : Type 0} (q : Query) (left right parts : List (List Row)) (x y : List Row) (r : Result (List Row) E) → left ++ right ≡ parts → IsFoldOfAll q left x → IsFoldOfAll q right y
-    → IfOk r (λ p. (a b : List Row) → x ≡ partial (asked q) a → y ≡ partial (asked q) b → p ≡ partial (asked q) (a ++ b))
+    → IfOk r (λ p. (a b : List Row) → x ≡ partial (asked_once q) a → y ≡ partial (asked_once q) b → p ≡ partial (asked_once q) (a ++ b))
     → (AllByRecursion (λ g. IsPrintable g.key.time) x → AllByRecursion (λ g. IsPrintable g.key.time) y → IfOk r (λ p. AllByRecursion (λ g. IsPrintable g.key.time) p))
     → IfOk r (IsFoldOfAll q parts)
 both q left right parts x y (Err e) is of_x of_y value printable = tt
@@ -65,4 +65,4 @@ both q left right parts x y (Ok p) is of_x of_y value printable = λ rows folds.
     let s = split-parts q rows left right parts is folds in
     let f = of_x s.first s.folds_first in
     let g = of_y s.second s.folds_second in
-    (value (all_rows s.first) (all_rows s.second) f.0 g.0 ∙ ap (partial (asked q)) s.all, λ starts. printable (f.1 starts) (g.1 starts))
+    (value (all_rows s.first) (all_rows s.second) f.0 g.0 ∙ ap (partial (asked_once q)) s.all, λ starts. printable (f.1 starts) (g.1 starts))

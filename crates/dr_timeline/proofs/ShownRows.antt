@@ -8,6 +8,7 @@ use Rattle.dr_rollup.specs.Unrolled.{unrolled}
 use Rattle.dr_ask.specs.Asked.{Asked}
 use Rattle.dr_ask.specs.MadeFor.{MadeFor}
 use Rattle.dr_ask.specs.Matching.{is_matching}
+use Rattle.dr_ask.specs.Once.{once}
 use Rattle.dr_answers.specs.Answer.{answer}
 use Rattle.dr_answers.specs.Span.{span}
 use Rattle.dr_cuts.specs.declared.range_info.RangeInfo.{RangeInfo}
@@ -36,11 +37,11 @@ module _ (schema : Schema) (es : List Event) (held : List (List Row)) (ranges : 
   answer-shown q made matches = ap (answer q) held-cuts ∙ answer-cut_rows schema q es shows.cuts shows.are_cuts made matches
 
   -- the answer from the groups over these rows and the span of the events
-  pub answer-own : (q : Asked) (found : Option (ℤ × ℤ)) (groups : List Row) → found ≡ span (map (unrolled schema) es) → groups ≡ partial q (all_rows held) → answer_from q found groups ≡ answer q (rows_over schema es ranges)
+  pub answer-own : (q : Asked) (found : Option (ℤ × ℤ)) (groups : List Row) → found ≡ span (map (unrolled schema) es) → groups ≡ partial (once q) (all_rows held) → answer_from q found groups ≡ answer q (rows_over schema es ranges)
   answer-own q found groups spans made =
       (λ i. answer_from q ((spans ∙ sym span-shown) i) (made i)) ∙ sym (answer-partial q (all_rows held)) ∙ ap (answer q) (held-rows schema es held ranges shows.rows)
 
-  pub answer-raw : (q : Asked) (found : Option (ℤ × ℤ)) (groups : List Row) → found ≡ span (map (unrolled schema) es) → groups ≡ partial q (all_rows held) → MadeFor schema q → is_matching q ≡ true
+  pub answer-raw : (q : Asked) (found : Option (ℤ × ℤ)) (groups : List Row) → found ≡ span (map (unrolled schema) es) → groups ≡ partial (once q) (all_rows held) → MadeFor schema q → is_matching q ≡ true
       → answer_from q found groups ≡ raw_answer schema q es
   answer-raw q found groups spans made for_schema matches =
       (λ i. answer_from q ((spans ∙ sym span-shown) i) (made i)) ∙ sym (answer-partial q (all_rows held)) ∙ answer-shown q for_schema matches

@@ -4,7 +4,7 @@ use Rattle.std.specs.List.{All, AllByRecursion}
 use Rattle.dr_base.specs.declared.row.Row.{Row}
 use Rattle.dr_agg.specs.Rollup.{all_rows}
 use Rattle.dr_ask.specs.declared.query.Query.{Query}
-use Rattle.dr_ask.specs.Asked.{asked}
+use Rattle.dr_ask.specs.Once.{asked_once}
 use Rattle.dr_fragment.specs.declared.fragment.Fragment.{Fragment}
 use Rattle.dr_intervals.specs.Printable.{StartsPrintable}
 use Rattle.dr_partial.specs.Partial.{partial}
@@ -20,4 +20,4 @@ ArePrintable q groups = All StartsPrintable q.intervals → AllByRecursion (λ g
 
 -- the groups of a query over rows
 abbrev pub IsFoldOf : Query → List Row → List Row → Type 0
-IsFoldOf q rows groups = (groups ≡ partial (asked q) rows) × ArePrintable q groups
+IsFoldOf q rows groups = (groups ≡ partial (asked_once q) rows) × ArePrintable q groups

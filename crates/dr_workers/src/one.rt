@@ -1,6 +1,6 @@
 ghost use Rattle.std.specs.Prelude.{◌≡◌, IfOk};
 ghost use Rattle.std.specs.List.{All, AllByRecursion};
-ghost use Rattle.dr_ask.specs.Asked.{asked};
+ghost use Rattle.dr_ask.specs.Once.{asked_once};
 ghost use Rattle.dr_intervals.specs.Printable.{StartsPrintable};
 ghost use Rattle.dr_partial.specs.Partial.{partial};
 ghost use Rattle.dr_time.specs.Instant.{IsInstant};
@@ -24,7 +24,7 @@ pub fn scatter_one(
     fragments: &[SharedFragment],
 ) -> Result<Partial, AllocError>
     requires { AllByRecursion (λ r. IsInstant r.key.time) (rows_of fragments.now) }
-    ensures value { IfOk result (λ p. p ≡ partial (asked query.now) (rows_of fragments.now)) }
+    ensures value { IfOk result (λ p. p ≡ partial (asked_once query.now) (rows_of fragments.now)) }
     ensures printable { All StartsPrintable query.now.intervals → IfOk result (λ p. AllByRecursion (λ g. IsPrintable g.key.time) p) }
 {
     scatter_here(alloc, query, fragments, &OpenGate)
@@ -38,7 +38,7 @@ pub fn scatter_here<G: Gate>(
     gate: &G,
 ) -> Result<Partial, AllocError>
     requires { AllByRecursion (λ r. IsInstant r.key.time) (rows_of fragments.now) }
-    ensures value { IfOk result (λ p. p ≡ partial (asked query.now) (rows_of fragments.now)) }
+    ensures value { IfOk result (λ p. p ≡ partial (asked_once query.now) (rows_of fragments.now)) }
     ensures printable { All StartsPrintable query.now.intervals → IfOk result (λ p. AllByRecursion (λ g. IsPrintable g.key.time) p) }
 {
     partial_of(alloc, query, 0, fragments, gate)

@@ -1,5 +1,5 @@
 use dr_base::Text;
-use dr_having::Having;
+use dr_having::{Having, OutputNumbers, OutputTexts};
 use dr_order::LimitSpec;
 use serde_json::Value;
 use std::alloc::Global;
@@ -16,7 +16,14 @@ fn met(alloc: Global, having: &str) -> Result<u16, Fail> {
     let aggregations = [text(alloc, "added")?, text(alloc, "lo")?];
     let value = Value::from_str(alloc, having)?;
     match Having::parse(alloc, &value, &dimensions, &aggregations) {
-        Ok(having) => Ok(u16::from(having.meets(&[text(alloc, "A")?], &[5, -2]))),
+        Ok(having) => {
+            let dims = [text(alloc, "A")?];
+            let group = (
+                OutputTexts::new(&dims, &[0]),
+                OutputNumbers::new(&[5, -2], &[0, 1]),
+            );
+            Ok(u16::from(having.meets(&group.0, &group.1)))
+        }
         Err(error) => Ok(error.number()),
     }
 }
@@ -92,28 +99,36 @@ fn groups_meet_conditions_by_their_table(rt: HostRuntime) -> Result<(), Fail> {
     Ok(())
 }
 
-// How group (A, 5) compares with group (B, 5): -1, 0 or 1; and the number of the refusal.
+// How group (A, 5) compares with group (B, 5) by the columns: -1, 0 or 1; and the number of the refusal.
 fn compared(alloc: Global, spec: &str) -> Result<i64, Fail> {
     let dimensions = [text(alloc, "page")?];
     let aggregations = [text(alloc, "added")?];
     let value = Value::from_str(alloc, spec)?;
     match LimitSpec::parse(alloc, Some(&value), &dimensions, &aggregations) {
         Ok(spec) => {
-            let order = spec
-                .columns
-                .order(&[text(alloc, "A")?], &[5], &[text(alloc, "B")?], &[5]);
-            Ok(if order == Ordering::Less { -1 } else { 1 })
+            let (dims, others) = ([text(alloc, "A")?], [text(alloc, "B")?]);
+            let order = spec.columns.order(
+                &OutputTexts::new(&dims, &[0]),
+                &OutputNumbers::new(&[5], &[0]),
+                &OutputTexts::new(&others, &[0]),
+                &OutputNumbers::new(&[5], &[0]),
+            );
+            Ok(match order {
+                Ordering::Less => -1,
+                Ordering::Equal => 0,
+                Ordering::Greater => 1,
+            })
         }
         Err(error) => Ok(i64::from(error.number())),
     }
 }
 
 const COMPARED: [(&str, i64); 9] = [
-    (r#"{"type":"default"}"#, -1),
-    (r#"{"type":"NoopLimitSpec"}"#, -1),
+    (r#"{"type":"default"}"#, 0),
+    (r#"{"type":"NoopLimitSpec"}"#, 0),
     (
         r#"{"columns":[{"dimension":"added","direction":"DESCENDING"}]}"#,
-        -1,
+        0,
     ),
     (
         r#"{"columns":["added",{"dimension":"page","direction":"descending"}]}"#,

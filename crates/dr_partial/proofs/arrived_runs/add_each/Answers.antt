@@ -2,7 +2,7 @@ use Rattle.std.proofs.Common.{subst, sym, map, slice_range, ◌∷◌, [], arith
 use Rattle.std.proofs.lemmas.Int.{to_z-of_z}
 use Rattle.dr_base.specs.declared.row.Row.{Row}
 use Rattle.dr_rollup.specs.Entries.{row_of}
-use Rattle.dr_ask.specs.Asked.{asked}
+use Rattle.dr_ask.specs.Once.{asked_once}
 use Rattle.dr_partial.specs.Grouped.{AddsAll}
 use Rattle.dr_partial.specs.Runs.{LiesIn}
 use Rattle.dr_partial.proofs.Pieces.{no-rows, more-rows}
@@ -12,11 +12,11 @@ use Rattle.dr_partial.proofs.arrived_runs.add_each.Goals as goal
 pub loop-i-init : goal.loop-i-init
 loop-i-init c =
     let before = map row_of c.args.groups.now.entries in
-    subst (λ l. AddsAll (asked c.args.query.now) before l before) (sym (none c.args.rows.now c.args.from)) (no-rows (asked c.args.query.now) before c.requires.sound)
+    subst (λ l. AddsAll (asked_once c.args.query.now) before l before) (sym (none c.args.rows.now c.args.from)) (no-rows (asked_once c.args.query.now) before c.requires.sound)
 
 pub add_held-requires-clause-held : goal.add_held-requires-clause-held
 add_held-requires-clause-held c =
-    let q = asked c.args.query.now in
+    let q = asked_once c.args.query.now in
     let r : Row = record { key = record { time = c.row-time.result.0; dims = c.row-time.result.1.now }; metrics = c.row-time.result.2.now } in
     let fits : FitsSigned w64 c.args.bucket = search rules in
     let own : FitsSigned w64 c.row-time.result.0 = search rules in
@@ -24,7 +24,7 @@ add_held-requires-clause-held c =
 
 pub loop-i-preserved : goal.loop-i-preserved
 loop-i-preserved c =
-    let q = asked c.args.query.now in
+    let q = asked_once c.args.query.now in
     let before = map row_of c.args.groups.now.entries in
     let between = map row_of c.loop-i.groups.entries in
     let after = map row_of c.add_held.new.groups.entries in

@@ -5,13 +5,13 @@ use Rattle.std.proofs.lemmas.Grind.{flat_map-append}
 use Rattle.dr_schema.specs.Fits.{FitsSchema}
 use Rattle.dr_rollup.specs.Entries.{row_of}
 use Rattle.dr_rollup.specs.Unrolled.{unrolled}
-use Rattle.dr_ask.specs.Asked.{asked}
+use Rattle.dr_ask.specs.Once.{asked_once}
 use Rattle.dr_partial.specs.Grouped.{AddsAll}
 use Rattle.dr_partial.proofs.Pieces.{no-rows, next, only-piece, in-piece}
 use Rattle.dr_partial.proofs.events.add_event_pieces.Goals as goal
 
 pub loop-piece-init : goal.loop-piece-init
-loop-piece-init c = no-rows (asked c.args.query.now) (map row_of c.args.groups.now.entries) c.requires.sound
+loop-piece-init c = no-rows (asked_once c.args.query.now) (map row_of c.args.groups.now.entries) c.requires.sound
 
 pub add_events-requires-clause-fit : goal.add_events-requires-clause-fit
 add_events-requires-clause-fit c =
@@ -19,7 +19,7 @@ add_events-requires-clause-fit c =
 
 pub loop-piece-preserved : goal.loop-piece-preserved
 loop-piece-preserved c =
-    let q = asked c.args.query.now in
+    let q = asked_once c.args.query.now in
     let u = unrolled c.args.schema.now in
     let after = map row_of c.add_events.new.groups.entries in
     next q (λ l. map u (flat_map (λ p. p.now) l)) (λ a b. ap (map u) (flat_map-append (λ p. p.now) a b) ∙ map-append u (flat_map (λ p. p.now) a) (flat_map (λ p. p.now) b))

@@ -1,17 +1,17 @@
 use Rattle.std.proofs.Common.{subst, map, take, slice_range, arith}
 use Rattle.dr_rollup.specs.Entries.{row_of}
-use Rattle.dr_ask.specs.Asked.{asked}
+use Rattle.dr_ask.specs.Once.{asked_once}
 use Rattle.dr_partial.specs.Grouped.{AddsAll}
 use Rattle.dr_partial.proofs.Pieces.{no-rows, more-rows}
 use Rattle.dr_partial.proofs.Runs.{joined}
 use Rattle.dr_partial.proofs.index.add_arrived.Goals as goal
 
 pub loop-from-init : goal.loop-from-init
-loop-from-init c = (omega arith, no-rows (asked c.args.query.now) (map row_of c.args.groups.now.entries) c.requires.sound)
+loop-from-init c = (omega arith, no-rows (asked_once c.args.query.now) (map row_of c.args.groups.now.entries) c.requires.sound)
 
 pub loop-from-preserved : goal.loop-from-preserved
 loop-from-preserved c =
-    let q = asked c.args.query.now in
+    let q = asked_once c.args.query.now in
     let before = map row_of c.args.groups.now.entries in
     let between = map row_of c.loop-from.groups.entries in
     let after = map row_of c.add_from.new.groups.entries in

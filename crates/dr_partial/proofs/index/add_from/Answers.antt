@@ -5,7 +5,7 @@ use Rattle.dr_base.specs.declared.row.Row.{Row}
 use Rattle.dr_time.specs.Instant.{IsInstant}
 use Rattle.dr_time.specs.Union.{union_holds}
 use Rattle.dr_rollup.specs.Entries.{row_of}
-use Rattle.dr_ask.specs.Asked.{asked}
+use Rattle.dr_ask.specs.Once.{asked_once}
 use Rattle.dr_answers.specs.Selection.{passes, selects}
 use Rattle.dr_partial.specs.Grouped.{AddsAll}
 use Rattle.dr_partial.specs.Runs.{IsWithin, LiesIn}
@@ -15,7 +15,7 @@ use Rattle.dr_partial.proofs.index.add_from.Goals as goal
 
 pub returns-then-not-contains-clause-adds : goal.returns-then-not-contains-clause-adds
 returns-then-not-contains-clause-adds c =
-    let q = asked c.args.query.now in
+    let q = asked_once c.args.query.now in
     let before = map row_of c.args.groups.now.entries in
     let rows = c.args.rows.now in
     let from = c.args.from in
@@ -35,7 +35,7 @@ around-window-requires-clause-instant c =
 
 pub add_run-requires-clause-same : goal.add_run-requires-clause-same
 add_run-requires-clause-same c =
-    let q = asked c.args.query.now in
+    let q = asked_once c.args.query.now in
     let rows = c.args.rows.now in
     let from = c.args.from in
     let to = c.run_end-to.result in

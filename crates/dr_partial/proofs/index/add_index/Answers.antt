@@ -3,7 +3,8 @@ use Rattle.std.specs.List.Sorted.{IsPermutation}
 use Rattle.dr_base.specs.declared.row.Row.{Row}
 use Rattle.dr_time.specs.Instant.{IsInstant}
 use Rattle.dr_rollup.specs.Entries.{row_of}
-use Rattle.dr_ask.specs.Asked.{Asked, asked}
+use Rattle.dr_ask.specs.Asked.{Asked}
+use Rattle.dr_ask.specs.Once.{asked_once}
 use Rattle.dr_partial.specs.Grouped.{IsSound, AddsAll}
 use Rattle.dr_partial.specs.Partial.{kinds_in}
 use Rattle.dr_partial.proofs.Moved.{adds-moved, all-moved}
@@ -17,4 +18,4 @@ pub add_arrived-requires-clause-instants : goal.add_arrived-requires-clause-inst
 add_arrived-requires-clause-instants c = all-moved (λ (r : Row). IsInstant r.key.time) c.arrived.result c.args.index.now.rows c.arrived.ensures.permuted c.requires.instants
 
 pub returns : goal.returns
-returns c = moved_all (asked c.args.query.now) (map row_of c.args.groups.now.entries) c.arrived.result c.args.index.now.rows (map row_of c.add_arrived.new.groups.entries) c.add_arrived.result c.requires.sound c.arrived.ensures.permuted c.add_arrived.ensures
+returns c = moved_all (asked_once c.args.query.now) (map row_of c.args.groups.now.entries) c.arrived.result c.args.index.now.rows (map row_of c.add_arrived.new.groups.entries) c.add_arrived.result c.requires.sound c.arrived.ensures.permuted c.add_arrived.ensures

@@ -4,7 +4,7 @@ use Rattle.std.proofs.lemmas.List.{length-map}
 use Rattle.std.proofs.lemmas.Option.{slice_get_within}
 use Rattle.dr_base.specs.declared.key.Key.{Key}
 use Rattle.dr_base.specs.declared.row.Row.{Row}
-use Rattle.dr_ask.specs.Asked.{asked}
+use Rattle.dr_ask.specs.Once.{asked_once}
 use Rattle.dr_answers.specs.Fold.{folds}
 use Rattle.dr_answers.specs.Groups.{grouped_values}
 use Rattle.dr_image.specs.Table.{row_at}
@@ -18,7 +18,7 @@ use Rattle.dr_partial.proofs.ByColumns.{fits-folds, keeps-combined, keeps-pushed
 use Rattle.dr_partial.proofs.placing.add_found.Goals as goal
 use Rattle.dr_partial.proofs.placing.add_found.Goals.{After-as_slice}
 
-same_key : (c : After-as_slice) → ◌≡◌ {A = Key} (record { time = to_z w64 (of_z w64 c.args.bucket); dims = c.as_slice.result.now }) (group_in (asked c.args.source.now.query.now) c.args.source.now.view.now c.args.bucket c.args.i)
+same_key : (c : After-as_slice) → ◌≡◌ {A = Key} (record { time = to_z w64 (of_z w64 c.args.bucket); dims = c.as_slice.result.now }) (group_in (asked_once c.args.source.now.query.now) c.args.source.now.view.now c.args.bucket c.args.i)
 same_key c =
     let fits : FitsSigned w64 c.args.bucket = search rules in
     let dims = c.as_slice.ensures.value ∙ c.in_ok-read_group.ensures ∙ ap (λ ds. grouped_values ds (key_at c.args.source.now.view.now c.args.i).dims) c.dimensions.ensures in
@@ -30,8 +30,8 @@ pub returns-in-Some-clause-adds : goal.returns-in-Some-clause-adds
 returns-in-Some-clause-adds c =
     let s = c.args.source.now in
     let k = subst (λ (x : Key). HasKeyAt x (map row_of c.args.groups.now.entries) c.in-Some.place) (same_key (goal.at.returns-in-Some-clause-adds c).After-as_slice) c.in-Some.ensures.found in
-    known-adds (kinds_in s.query.now.aggregations) (map row_of c.args.groups.now.entries) c.requires.sound
-    (record { key = group_in (asked s.query.now) s.view.now c.args.bucket c.args.i; metrics = folds s.query.now.aggregations (row_at s.view.now c.args.i ∷ []) })
+    known-adds (kinds_in (asked_once s.query.now).aggregations) (map row_of c.args.groups.now.entries) c.requires.sound
+    (record { key = group_in (asked_once s.query.now) s.view.now c.args.bucket c.args.i; metrics = folds (asked_once s.query.now).aggregations (row_at s.view.now c.args.i ∷ []) })
     c.in-Some.place k (map row_of c.combine_at.new.groups.entries) c.combine_at.ensures
 
 pub returns-in-Some-clause-place : goal.returns-in-Some-clause-place
@@ -40,7 +40,7 @@ returns-in-Some-clause-place c =
     let before = map row_of c.args.groups.now.entries in
     let found = c.in-Some.ensures.found in
     let k = subst (λ (x : Key). HasKeyAt x before c.in-Some.place) (same_key (goal.at.returns-in-Some-clause-place c).After-as_slice) found in
-    keeps-combined (kinds_in s.query.now.aggregations) (folds s.query.now.aggregations (row_at s.view.now c.args.i ∷ [])) before c.in-Some.place (map row_of c.combine_at.new.groups.entries)
+    keeps-combined (kinds_in (asked_once s.query.now).aggregations) (folds (asked_once s.query.now).aggregations (row_at s.view.now c.args.i ∷ [])) before c.in-Some.place (map row_of c.combine_at.new.groups.entries)
     (slice_get_within before c.in-Some.place found.0 found.1) c.combine_at.ensures _ c.in-Some.place k
 
 pub returns-in-Some-clause-keeps : goal.returns-in-Some-clause-keeps
@@ -48,7 +48,7 @@ returns-in-Some-clause-keeps c =
     let s = c.args.source.now in
     let before = map row_of c.args.groups.now.entries in
     let found = c.in-Some.ensures.found in
-    keeps-combined (kinds_in s.query.now.aggregations) (folds s.query.now.aggregations (row_at s.view.now c.args.i ∷ [])) before c.in-Some.place (map row_of c.combine_at.new.groups.entries)
+    keeps-combined (kinds_in (asked_once s.query.now).aggregations) (folds (asked_once s.query.now).aggregations (row_at s.view.now c.args.i ∷ [])) before c.in-Some.place (map row_of c.combine_at.new.groups.entries)
     (slice_get_within before c.in-Some.place found.0 found.1) c.combine_at.ensures
 
 -- ---- a new one
@@ -56,19 +56,19 @@ returns-in-Some-clause-keeps c =
 pub returns-clause-adds : goal.returns-clause-adds
 returns-clause-adds c =
     let s = c.args.source.now in
-    let ks = kinds_in s.query.now.aggregations in
+    let ks = kinds_in (asked_once s.query.now).aggregations in
     let before = map row_of c.args.groups.now.entries in
-    let values = folds s.query.now.aggregations (row_at s.view.now c.args.i ∷ []) in
+    let values = folds (asked_once s.query.now).aggregations (row_at s.view.now c.args.i ∷ []) in
     let g : Row = record { key = record { time = to_z w64 (of_z w64 c.args.bucket); dims = c.as_slice.result.now }; metrics = values } in
     subst (λ (k : Key). Adds ks before (record { key = k; metrics = values }) (map row_of c.put_read.new.groups.entries)) (same_key (goal.at.returns-clause-adds c).After-as_slice)
-    (subst (Adds ks before g) (sym c.in_ok-put_read.ensures) (new-adds ks before c.requires.sound g (c.in_default.ensures.none refl) (fits-folds s.query.now.aggregations (row_at s.view.now c.args.i ∷ []))))
+    (subst (Adds ks before g) (sym c.in_ok-put_read.ensures) (new-adds ks before c.requires.sound g (c.in_default.ensures.none refl) (fits-folds (asked_once s.query.now).aggregations (row_at s.view.now c.args.i ∷ []))))
 
 pub returns-clause-place : goal.returns-clause-place
 returns-clause-place c =
     let s = c.args.source.now in
     let before = map row_of c.args.groups.now.entries in
     let after = map row_of c.put_read.new.groups.entries in
-    let g : Row = record { key = record { time = to_z w64 (of_z w64 c.args.bucket); dims = c.as_slice.result.now }; metrics = folds s.query.now.aggregations (row_at s.view.now c.args.i ∷ []) } in
+    let g : Row = record { key = record { time = to_z w64 (of_z w64 c.args.bucket); dims = c.as_slice.result.now }; metrics = folds (asked_once s.query.now).aggregations (row_at s.view.now c.args.i ∷ []) } in
     let last = subst (λ l. HasKeyAt g.key l (length before)) (sym c.in_ok-put_read.ensures) (last-pushed before g) in
     let place : length before ≡ c.len-place.result = length-map c.args.groups.now.entries row_of ∙ sym c.len-place.ensures.len in
     subst (λ (k : Key). HasKeyAt k after c.len-place.result) (same_key (goal.at.returns-clause-place c).After-as_slice) (subst (HasKeyAt g.key after) place last)

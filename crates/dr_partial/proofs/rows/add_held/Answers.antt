@@ -2,7 +2,8 @@ use Rattle.std.proofs.Common.{◌≡◌, ◌∙◌, ◌&&◌, sym, subst, true, 
 use Rattle.std.proofs.lemmas.Int.{to_z-of_z}
 use Rattle.dr_base.specs.declared.row.Row.{Row}
 use Rattle.dr_rollup.specs.Entries.{row_of}
-use Rattle.dr_ask.specs.Asked.{asked, dimensions_by}
+use Rattle.dr_ask.specs.Asked.{dimensions_by}
+use Rattle.dr_ask.specs.Once.{asked_once}
 use Rattle.dr_answers.specs.Groups.{grouped_values}
 use Rattle.dr_answers.specs.Selection.{passes, selects}
 use Rattle.dr_partial.specs.Grouped.{folds_alone, Adds}
@@ -12,7 +13,7 @@ use Rattle.dr_partial.proofs.rows.add_held.Goals as goal
 
 pub returns-then-not-passes : goal.returns-then-not-passes
 returns-then-not-passes c =
-    let q = asked c.args.query.now in
+    let q = asked_once c.args.query.now in
     let r : Row = record { key = record { time = c.args.key.now.time; dims = c.args.key.now.dims.now }; metrics = c.args.metrics.now } in
     let fits : FitsSigned w64 r.key.time = search rules in
     let tested = rw (to_z-of_z w64 r.key.time fits) at c.passes.ensures in
@@ -22,7 +23,7 @@ returns-then-not-passes c =
 
 pub returns : goal.returns
 returns c =
-    let q = asked c.args.query.now in
+    let q = asked_once c.args.query.now in
     let r : Row = record { key = record { time = c.args.key.now.time; dims = c.args.key.now.dims.now }; metrics = c.args.metrics.now } in
     let before = map row_of c.args.groups.now.entries in
     let after = map row_of c.add_passed.new.groups.entries in

@@ -2,7 +2,8 @@ use Rattle.std.proofs.Common.{map, rules, FitsSigned, w64}
 use Rattle.std.proofs.lemmas.Int.{to_z-of_z}
 use Rattle.dr_base.specs.declared.row.Row.{Row}
 use Rattle.dr_rollup.specs.Entries.{row_of}
-use Rattle.dr_ask.specs.Asked.{asked_shape, dimensions_by}
+use Rattle.dr_ask.specs.Asked.{dimensions_by}
+use Rattle.dr_ask.specs.Once.{asked_once}
 use Rattle.dr_answers.specs.Groups.{grouped_values}
 use Rattle.dr_partial.specs.Grouped.{folds_alone}
 use Rattle.dr_partial.specs.Partial.{kinds_in}
@@ -13,7 +14,7 @@ pub returns-then-is_group_at : goal.returns-then-is_group_at
 returns-then-is_group_at c =
     let q = c.args.query.now in
     let fits : FitsSigned w64 c.args.bucket = search rules in
-    let g : Row = record { key = record { time = c.args.bucket; dims = grouped_values (dimensions_by (asked_shape q.shape)) c.args.dims.now }; metrics = folds_alone q.aggregations c.args.metrics.now } in
+    let g : Row = record { key = record { time = c.args.bucket; dims = grouped_values (dimensions_by (asked_once q).shape) c.args.dims.now }; metrics = folds_alone (asked_once q).aggregations c.args.metrics.now } in
     let at = rw (to_z-of_z w64 c.args.bucket fits, c.dimensions.ensures) at (c.is_group_at.ensures c.if-is_group_at.true) in
-    let combines = rw c.as_slice-aggregations.ensures at c.combine.ensures in
-    known-adds (kinds_in q.aggregations) (map row_of c.args.groups.now.entries) c.requires.sound g c.args.last at (map row_of c.combine.new.groups.entries) combines
+    let combines = rw c.distinct-aggregations.ensures at c.combine.ensures in
+    known-adds (kinds_in (asked_once q).aggregations) (map row_of c.args.groups.now.entries) c.requires.sound g c.args.last at (map row_of c.combine.new.groups.entries) combines

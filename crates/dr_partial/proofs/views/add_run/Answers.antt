@@ -1,5 +1,5 @@
 use Rattle.std.proofs.Common.{sym, subst, map, ◌∷◌, [], arith}
-use Rattle.dr_ask.specs.Asked.{asked}
+use Rattle.dr_ask.specs.Once.{asked_once}
 use Rattle.dr_image.specs.Table.{row_at}
 use Rattle.dr_columns.specs.Rows.{rows_between}
 use Rattle.dr_columns.proofs.RunLemmas.{none, one-more}
@@ -12,12 +12,12 @@ pub loop-i-init : goal.loop-i-init
 loop-i-init c =
     let s = c.args.source.now in
     let before = map row_of c.args.groups.now.entries in
-    (subst (λ l. AddsAll (asked s.query.now) before l before) (sym (none s.view.now c.args.from)) (no-rows (asked s.query.now) before c.requires.sound), c.requires.known)
+    (subst (λ l. AddsAll (asked_once s.query.now) before l before) (sym (none s.view.now c.args.from)) (no-rows (asked_once s.query.now) before c.requires.sound), c.requires.known)
 
 pub loop-i-preserved : goal.loop-i-preserved
 loop-i-preserved c =
     let s = c.args.source.now in
-    let q = asked s.query.now in
+    let q = asked_once s.query.now in
     let before = map row_of c.args.groups.now.entries in
     let between = map row_of c.loop-i.groups.entries in
     let after = map row_of c.add_at.new.groups.entries in

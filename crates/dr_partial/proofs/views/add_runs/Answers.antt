@@ -1,5 +1,5 @@
 use Rattle.std.proofs.Common.{sym, subst, map, arith}
-use Rattle.dr_ask.specs.Asked.{asked}
+use Rattle.dr_ask.specs.Once.{asked_once}
 use Rattle.dr_columns.specs.Rows.{rows_between}
 use Rattle.dr_columns.proofs.RunLemmas.{none, joined}
 use Rattle.dr_rollup.specs.Entries.{row_of}
@@ -12,12 +12,12 @@ pub loop-from-init : goal.loop-from-init
 loop-from-init c =
     let s = c.args.source.now in
     let before = map row_of c.args.groups.now.entries in
-    (omega arith, subst (λ l. AddsAll (asked s.query.now) before l before) (sym (none s.view.now 0)) (no-rows (asked s.query.now) before c.requires), subst (AreKnown (asked s.query.now) s.view.now before) (sym c.new-known.ensures.items) tt)
+    (omega arith, subst (λ l. AddsAll (asked_once s.query.now) before l before) (sym (none s.view.now 0)) (no-rows (asked_once s.query.now) before c.requires), subst (AreKnown (asked_once s.query.now) s.view.now before) (sym c.new-known.ensures.items) tt)
 
 pub loop-from-preserved : goal.loop-from-preserved
 loop-from-preserved c =
     let s = c.args.source.now in
-    let q = asked s.query.now in
+    let q = asked_once s.query.now in
     let before = map row_of c.args.groups.now.entries in
     let between = map row_of c.loop-from.groups.entries in
     let after = map row_of c.add_run.new.groups.entries in

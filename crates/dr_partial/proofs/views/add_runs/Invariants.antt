@@ -1,6 +1,6 @@
 use Rattle.std.proofs.Common.{◌≤◌, ◌-◌, length, map}
 use Rattle.dr_rollup.specs.Entries.{row_of}
-use Rattle.dr_ask.specs.Asked.{asked}
+use Rattle.dr_ask.specs.Once.{asked_once}
 use Rattle.dr_columns.specs.Rows.{rows_between}
 use Rattle.dr_partial.specs.Grouped.{AddsAll}
 use Rattle.dr_partial.specs.Known.{AreKnown}
@@ -9,8 +9,8 @@ use Rattle.dr_partial.proofs.views.add_runs.Given as goal
 abbrev pub invariant-loop-from : goal.invariant-loop-from
 invariant-loop-from l =
     (l.from ≤ length l.source.view.now.times)
-    × AddsAll (asked l.source.query.now) (map row_of l.initial.groups.entries) (rows_between l.source.view.now 0 l.from) (map row_of l.groups.entries)
-    × AreKnown (asked l.source.query.now) l.source.view.now (map row_of l.groups.entries) l.known.items
+    × AddsAll (asked_once l.source.query.now) (map row_of l.initial.groups.entries) (rows_between l.source.view.now 0 l.from) (map row_of l.groups.entries)
+    × AreKnown (asked_once l.source.query.now) l.source.view.now (map row_of l.groups.entries) l.known.items
 
 abbrev pub decreases-loop-from : goal.decreases-loop-from
 decreases-loop-from l = length l.source.view.now.times - l.from

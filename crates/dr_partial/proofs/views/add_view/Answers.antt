@@ -1,7 +1,7 @@
 use Rattle.std.proofs.Common.{◌≡◌, ap, map, false, ◌&&◌, subst, ◌-◌, length, arith}
 use Rattle.std.specs.List.{AllByRecursion, range_with_len}
 use Rattle.dr_base.specs.declared.row.Row.{Row}
-use Rattle.dr_ask.specs.Asked.{asked}
+use Rattle.dr_ask.specs.Once.{asked_once}
 use Rattle.dr_answers.specs.Selection.{selects, passes}
 use Rattle.dr_rollup.specs.Entries.{row_of}
 use Rattle.dr_image.specs.Table.{rows_of, row_at}
@@ -11,7 +11,7 @@ use Rattle.dr_partial.proofs.views.add_view.Goals as goal
 
 pub returns-then-is_apart : goal.returns-then-is_apart
 returns-then-is_apart c =
-    let q = asked c.args.query.now in
+    let q = asked_once c.args.query.now in
     let t = c.args.view.now in
     let n : length t.times - 0 ≡ length t.times = omega arith in
     none-added q (rows_of t) (map row_of c.args.groups.now.entries)

@@ -1,7 +1,7 @@
 use Rattle.std.proofs.Common.{◌∙◌, sym, ap, subst, map, [], ◌<◌, ℕ, ◌≤◌, arith, rules, OnOk, FitsSigned, w64, to_z, of_z}
 use Rattle.std.proofs.lemmas.Int.{to_z-of_z}
 use Rattle.dr_base.specs.declared.key.Key.{Key}
-use Rattle.dr_ask.specs.Asked.{asked}
+use Rattle.dr_ask.specs.Once.{asked_once}
 use Rattle.dr_answers.specs.Groups.{bucket, grouped_values}
 use Rattle.dr_columns.specs.Rows.{key_at}
 use Rattle.dr_rollup.specs.Entries.{row_of}
@@ -14,7 +14,7 @@ use Rattle.dr_partial.proofs.whole_runs.add_whole_run.Goals as goal
 pub returns : goal.returns
 returns c =
     let s = c.args.source.now in
-    let q = asked s.query.now in
+    let q = asked_once s.query.now in
     let t = s.view.now in
     let fits : FitsSigned w64 c.bucket_start-bucket.result = search rules in
     let time : FitsSigned w64 c.time_at.result = search rules in
@@ -25,4 +25,4 @@ returns c =
       (λ j. record { time = (c.requires.same i le lt ∙ sym start) j; dims = grouped_values (c.requires.plain j) (key_at t i).dims }),
     ) in
     run-added q t c.args.from c.args.to (map row_of c.args.groups.now.entries) (map row_of c.add_folds.new.groups.entries) k _ c.add_folds.result c.requires.some own c.in_ok-folds.ensures
-    (subst (λ l. OnOk c.add_folds.result (Adds (kinds_in l) (map row_of c.args.groups.now.entries) (record { key = k; metrics = c.in_ok-folds.folds }) (map row_of c.add_folds.new.groups.entries))) c.as_slice.ensures c.add_folds.ensures)
+    (subst (λ l. OnOk c.add_folds.result (Adds (kinds_in l) (map row_of c.args.groups.now.entries) (record { key = k; metrics = c.in_ok-folds.folds }) (map row_of c.add_folds.new.groups.entries))) c.distinct.ensures c.add_folds.ensures)

@@ -2,7 +2,7 @@ use Rattle.std.proofs.Common.{◌∙◌, ap, subst, take}
 use Rattle.std.proofs.lemmas.List.{take_all}
 use Rattle.dr_base.specs.declared.row.Row.{Row}
 use Rattle.dr_time.specs.Instant.{IsInstant}
-use Rattle.dr_ask.specs.Asked.{asked}
+use Rattle.dr_ask.specs.Once.{asked_once}
 use Rattle.dr_partial.specs.Partial.{partial}
 use Rattle.dr_workers.specs.Shared.{rows_of, IsFoldOf}
 use Rattle.dr_workers.proofs.Rows.{rows-more, in-range}
@@ -19,7 +19,7 @@ pub loop-i-preserved : goal.loop-i-preserved
 loop-i-preserved g c =
     let before = rows_of (take c.loop-i.i c.args.fragments.now) in (
       c.in_ok-groups-2.ensures.value before c.loop-i.invariant.0
-          ∙ ap (partial (asked c.args.query.now)) (rows-more c.args.fragments.now c.loop-i.i c.index-fragments-i.result c.loop-i-test.true c.index-fragments-i.is),
+          ∙ ap (partial (asked_once c.args.query.now)) (rows-more c.args.fragments.now c.loop-i.i c.index-fragments-i.result c.loop-i-test.true c.index-fragments-i.is),
       λ starts. c.in_ok-groups-2.ensures.printable starts (c.loop-i.invariant.1 starts),
     )
 

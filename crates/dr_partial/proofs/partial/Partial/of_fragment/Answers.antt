@@ -1,4 +1,4 @@
-use Rattle.std.proofs.Common.{[], refl}
+use Rattle.std.proofs.Common.{[]}
 use Rattle.dr_partial.proofs.partial.Partial.of_fragment.Goals as goal
 
 pub add_fragment-requires-clause-own : goal.add_fragment-requires-clause-own

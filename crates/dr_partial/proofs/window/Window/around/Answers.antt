@@ -1,12 +1,12 @@
 use Rattle.std.proofs.Common.{rules, FitsSigned, w64}
 use Rattle.std.proofs.lemmas.Int.{to_z-of_z}
-use Rattle.dr_ask.specs.Asked.{asked}
+use Rattle.dr_ask.specs.Once.{asked_once}
 use Rattle.dr_partial.proofs.Windows.{bounds, window-bucket, greatest_both, least_both}
 use Rattle.dr_partial.proofs.window.Window.around.Goals as goal
 
 pub returns-clause-same : goal.returns-clause-same
 returns-clause-same c =
-    let q = asked c.args.query.now in
+    let q = asked_once c.args.query.now in
     let held = c.held_around-held.result in
     let f0 : FitsSigned w64 c.bucket_start-bucket.result = search rules in
     let f1 : FitsSigned w64 held.start = search rules in

@@ -1,6 +1,7 @@
 use Rattle.std.proofs.Common.{◌≡◌, ◌∙◌, sym, ap, subst, map}
 use Rattle.dr_rollup.specs.Unrolled.{unrolled}
 use Rattle.dr_ask.specs.Asked.{Asked, asked}
+use Rattle.dr_ask.specs.Once.{once}
 use Rattle.dr_answers.specs.Answer.{answer}
 use Rattle.dr_answers.specs.Span.{span}
 use Rattle.dr_partial.specs.Partial.{partial}
@@ -27,7 +28,7 @@ returns-clause-own_rows c =
     let s = c.self.inside in
     let q : Asked = asked c.args.query.now in
     let spans = c.span.ensures ∙ sym (ap (λ (p : Pinned). span (map (unrolled p.schema) p.stream)) c.self.view_is) in
-    let made = c.in_ok-partial.ensures.value ∙ ap (λ fs. partial q (shared.rows_of fs)) c.as_slice.ensures in
+    let made = c.in_ok-partial.ensures.value ∙ ap (λ fs. partial (once q) (shared.rows_of fs)) c.as_slice.ensures in
     let from : answer_from q c.span.result c.in_ok-partial.partial ≡ answer q (rows_of c.args.self.now) =
     answer-own s.schema s.stream.items (map (λ (f : Fragment). f.rows) s.fragments) s.ranges.items c.self.invariant q c.span.result c.in_ok-partial.partial spans made ∙ ap (λ (p : Pinned). answer q (rows_of p)) c.self.view_is in
     rw (← from) c.answer.ensures
@@ -38,7 +39,7 @@ returns-clause-raw_where_matching c = λ matches.
     let q : Asked = asked c.args.query.now in
     let for_schema = rw (← c.self.view_is) at c.requires in
     let spans = c.span.ensures ∙ sym (ap (λ (p : Pinned). span (map (unrolled p.schema) p.stream)) c.self.view_is) in
-    let made = c.in_ok-partial.ensures.value ∙ ap (λ fs. partial q (shared.rows_of fs)) c.as_slice.ensures in
+    let made = c.in_ok-partial.ensures.value ∙ ap (λ fs. partial (once q) (shared.rows_of fs)) c.as_slice.ensures in
     let from : answer_from q c.span.result c.in_ok-partial.partial ≡ raw_answer c.args.self.now.schema q c.args.self.now.stream =
     answer-raw s.schema s.stream.items (map (λ (f : Fragment). f.rows) s.fragments) s.ranges.items c.self.invariant q c.span.result c.in_ok-partial.partial spans made for_schema matches
     ∙ ap (λ (p : Pinned). raw_answer p.schema q p.stream) c.self.view_is in

@@ -2,6 +2,7 @@ use Rattle.std.proofs.Common.{◌≡◌, ◌∙◌, sym, ap, subst, map}
 use Rattle.std.specs.List.{flat_map}
 use Rattle.dr_rollup.specs.Unrolled.{unrolled}
 use Rattle.dr_ask.specs.Asked.{Asked, asked}
+use Rattle.dr_ask.specs.Once.{once}
 use Rattle.dr_answers.specs.Span.{span}
 use Rattle.dr_partial.specs.Partial.{partial}
 use Rattle.dr_cuts.specs.RawAnswer.{raw_answer}
@@ -21,8 +22,8 @@ returns c =
     let q : Asked = asked c.args.query.now in
     let p : Pinned = c.args.self.now in
     let lent = ap (flat_map (λ p. p.now)) c.deref.ensures.value ∙ c.in_ok-pieces.ensures in
-    let made : c.in_ok-partial.partial ≡ partial q (map (unrolled p.schema) p.stream) =
-    c.in_ok-partial.ensures.value ∙ ap (λ es. partial q (map (unrolled s.schema) es)) lent ∙ ap (λ (p : Pinned). partial q (map (unrolled p.schema) p.stream)) c.self.view_is in
+    let made : c.in_ok-partial.partial ≡ partial (once q) (map (unrolled p.schema) p.stream) =
+    c.in_ok-partial.ensures.value ∙ ap (λ es. partial (once q) (map (unrolled s.schema) es)) lent ∙ ap (λ (p : Pinned). partial (once q) (map (unrolled p.schema) p.stream)) c.self.view_is in
     let from : answer_from q c.span.result c.in_ok-partial.partial ≡ raw_answer p.schema q p.stream =
     (λ i. answer_from q (c.span.ensures i) (made i)) ∙ sym (answer-partial q (map (unrolled p.schema) p.stream)) in
     rw (← from) c.answer.ensures

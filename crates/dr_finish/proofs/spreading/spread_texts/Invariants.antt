@@ -1,0 +1,6 @@
+use Rattle.std.proofs.Common.{◌≡◌, take}
+use Rattle.dr_having.specs.Numbered.{texts_by}
+use Rattle.dr_finish.proofs.spreading.spread_texts.Given as goal
+
+abbrev pub invariant-loop-number : goal.invariant-loop-number
+invariant-loop-number l = l.spread.items ≡ texts_by (take l.number-index l.numbers) l.all
