@@ -1,5 +1,5 @@
--- The laws over the definitions of an answer alone: what of the rows it depends on, and that their order doesn't show; and what is asked
--- more than once.
+-- The laws over the definitions of an answer alone: what of the rows it depends on, that their order doesn't show, and that what
+-- is asked twice may be asked once.
 use Rattle.std.specs.Prelude.{◌≡◌, ℤ, Bool, List, filter, map}
 use Rattle.std.specs.List.{list_any}
 use Rattle.std.specs.List.Sorted.{IsPermutation}

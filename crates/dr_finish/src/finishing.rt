@@ -14,13 +14,13 @@ use dr_ask::{Query, Shape};
 use dr_partial::Partial;
 use std::alloc::Global;
 
-/// The groups that a query gives, in their order, from its partial result over some rows, which has each of its dimensions and
-/// aggregations once, and the span of these rows, from the least to the greatest time, both included, in milliseconds since the epoch (Apache Druid documentation, timeseries and
-/// groupBy queries, having and limitSpec). The buckets of a timeseries are filled, unless it skips empty ones, and turned round
-/// where it is descending; the groups of a groupBy are those that its having keeps, in the order of its limitSpec, without the
-/// first ones that its offset leaves out; of either there are at most as many as its limit. A scan gives none. Refusals: 81 `ResultTooLarge` where
-/// there are over 100000 groups or buckets before having, offset and limit; 0 `NoMemory` may come in the place of any other
-/// answer.
+/// The groups that a query gives, in their order, from its partial result over some rows, which has each of its dimensions
+/// and aggregations once, and the span of these rows, from the least to the greatest time, both included, in milliseconds
+/// since the epoch (Apache Druid documentation, timeseries and groupBy queries, having and limitSpec). The buckets of a
+/// timeseries are filled, unless it skips empty ones, and turned round where it is descending; the groups of a groupBy are
+/// those that its having keeps, in the order of its limitSpec, without the first ones that its offset leaves out; of either
+/// there are at most as many as its limit. A scan gives none. Refusals: 81 `ResultTooLarge` where there are over 100000
+/// groups or buckets before having, offset and limit; 0 `NoMemory` may come in the place of any other answer.
 ///
 /// The values of a group are moved and not copied, but for those of the buckets of a timeseries that doesn't skip empty ones, and
 /// where a dimension or an aggregation is asked for more than once.
