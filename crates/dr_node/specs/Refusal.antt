@@ -1,5 +1,5 @@
 -- The numbers and names of the refusals of a node.
-use Rattle.std.specs.Prelude.{ℕ, List, Bool, false, codes}
+use Rattle.std.specs.Prelude.{ℕ, List, codes}
 use Rattle.dr_merge.specs.Refusal as merge
 use Rattle.dr_timeline.specs.Refusal as timeline
 use Rattle.dr_node.specs.declared.node_error.NodeError.{NodeError}
@@ -14,9 +14,3 @@ abbrev pub name_of : NodeError → List ℕ
 name_of (Timeline e) = timeline.name_of e
 name_of (Merge e) = merge.name_of e
 name_of HistoryMismatch = codes "HistoryMismatch"
-
--- memory ran out
-abbrev pub is_memory : NodeError → Bool
-is_memory (Timeline e) = timeline.is_memory e
-is_memory (Merge e) = merge.is_memory e
-is_memory HistoryMismatch = false
