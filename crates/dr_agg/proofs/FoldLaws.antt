@@ -20,7 +20,7 @@ use Rattle.dr_agg.proofs.KeyOrder.{same_key}
 use Rattle.dr_agg.proofs.ColumnLaws.{combine_of-assoc, combine_of-exchange}
 
 -- a value more, at the start or at the end
-fold_first : (k : Kind) (a b : ℤ) (values : List ℤ) → fold (combine_of k) (combine_of k a b) values ≡ combine_of k (fold (combine_of k) a values) b
+pub fold_first : (k : Kind) (a b : ℤ) (values : List ℤ) → fold (combine_of k) (combine_of k a b) values ≡ combine_of k (fold (combine_of k) a values) b
 fold_first k a b [] = refl
 fold_first k a b (v ∷ values) = ap (λ c. fold (combine_of k) c values) (combine_of-exchange k a b v) ∙ fold_first k (combine_of k a v) b values
 

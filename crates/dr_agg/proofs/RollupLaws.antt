@@ -15,8 +15,9 @@ use Rattle.dr_agg.specs.Combination.{combine_columns, FitsColumns}
 use Rattle.dr_agg.specs.Rollup.{rows_at, combined, together, IsInOrder, IsRising, IsRollup, joined, add_row, rollup_onto, rollup, all_rows, join, AllFit}
 use Rattle.dr_agg.proofs.KeyOrder.{key_cmp_total, same_key, itself, less_back, greater_back, below_differs, above_differs, not_below}
 use Rattle.dr_agg.proofs.ColumnLaws.{combine_columns-assoc, length-combine_columns}
+use Rattle.dr_base.proofs.Truths.{or_false, or_twice, or_moves, or_moves_out}
 
-AllByRecursion-implied : (P Q : Row → Type 0) → ((x : Row) → P x → Q x) → (xs : List Row) → AllByRecursion P xs → AllByRecursion Q xs
+pub AllByRecursion-implied : (P Q : Row → Type 0) → ((x : Row) → P x → Q x) → (xs : List Row) → AllByRecursion P xs → AllByRecursion Q xs
 AllByRecursion-implied P Q f [] all = tt
 AllByRecursion-implied P Q f (x ∷ xs) all = (f x all.0, AllByRecursion-implied P Q f xs all.1)
 
@@ -224,7 +225,7 @@ pub IsSound-add_row : (combines : Bool) (kinds : List Kind) (rows : List Row) (r
 IsSound-add_row true kinds rows r sound = IsRising-add_row kinds rows r sound
 IsSound-add_row false kinds rows r sound = IsInOrder-add_row false kinds rows r sound
 
-IsInOrder-from_sound : (combines : Bool) (rows : List Row) → IsSound combines rows → IsInOrder rows
+pub IsInOrder-from_sound : (combines : Bool) (rows : List Row) → IsSound combines rows → IsInOrder rows
 IsInOrder-from_sound true rows sound = IsInOrder-from_rising rows sound
 IsInOrder-from_sound false rows sound = sound
 
@@ -326,22 +327,12 @@ AllFit-rollup_onto combines kinds rows (e ∷ es) all each = AllFit-rollup_onto 
 
 -- ---- keys that pass a test
 
-or_swap : (a b c : Bool) → (a || (b || c)) ≡ (b || (a || c))
-or_swap true true c = refl
-or_swap true false c = refl
-or_swap false true c = refl
-or_swap false false c = refl
-
-or_twice : (a b : Bool) → (a || b) ≡ (a || (a || b))
-or_twice true b = refl
-or_twice false b = refl
-
 list_any-add_row : (combines : Bool) (kinds : List Kind) (test : Key → Bool) (rows : List Row) (r : Row) → list_any (λ x. test x.key) (add_row combines kinds rows r) ≡ (test r.key || list_any (λ x. test x.key) rows)
 unfolding add_row
 list_any-add_row combines kinds test [] r = refl
 list_any-add_row combines kinds test (x ∷ xs) r =
     let p : Row → Bool = λ y. test y.key in
-    let behind : list_any p (x ∷ add_row combines kinds xs r) ≡ (test r.key || list_any p (x ∷ xs)) = ap (λ b. test x.key || b) (list_any-add_row combines kinds test xs r) ∙ or_swap (test x.key) (test r.key) (list_any p xs) in
+    let behind : list_any p (x ∷ add_row combines kinds xs r) ≡ (test r.key || list_any p (x ∷ xs)) = ap (λ b. test x.key || b) (list_any-add_row combines kinds test xs r) ∙ or_moves (test x.key) (test r.key) (list_any p xs) in
     elim (key_cmp r.key x.key) as (λ o. key_cmp r.key x.key ≡ o → list_any p (match_ordering o (r ∷ x ∷ xs) (if combines then joined kinds x r ∷ xs else (x ∷ add_row combines kinds xs r)) (x ∷ add_row combines kinds xs r)) ≡ (test r.key || list_any p (x ∷ xs))) [
       | Less ↦ λ t. refl
       | Equal ↦ λ t. elim combines as (λ b. list_any p (if b then joined kinds x r ∷ xs else (x ∷ add_row combines kinds xs r)) ≡ (test r.key || list_any p (x ∷ xs)))
@@ -350,22 +341,13 @@ list_any-add_row combines kinds test (x ∷ xs) r =
     ]
     refl
 
-or_false : (a : Bool) → (a || false) ≡ a
-or_false true = refl
-or_false false = refl
-
-or_assoc : (a b c : Bool) → ((a || b) || c) ≡ (b || (a || c))
-or_assoc true true c = refl
-or_assoc true false c = refl
-or_assoc false b c = refl
-
 list_any-rollup_onto : (combines : Bool) (kinds : List Kind) (test : Key → Bool) (rows es : List Row)
     → list_any (λ x. test x.key) (rollup_onto combines kinds rows es) ≡ (list_any (λ x. test x.key) rows || list_any (λ x. test x.key) es)
 unfolding rollup_onto
 list_any-rollup_onto combines kinds test rows [] = sym (or_false (list_any (λ x. test x.key) rows))
 list_any-rollup_onto combines kinds test rows (e ∷ es) =
     let p : Row → Bool = λ y. test y.key in
-    list_any-rollup_onto combines kinds test (add_row combines kinds rows e) es ∙ ap (λ b. b || list_any p es) (list_any-add_row combines kinds test rows e) ∙ or_assoc (test e.key) (list_any p rows) (list_any p es)
+    list_any-rollup_onto combines kinds test (add_row combines kinds rows e) es ∙ ap (λ b. b || list_any p es) (list_any-add_row combines kinds test rows e) ∙ or_moves_out (test e.key) (list_any p rows) (list_any p es)
 
 pub list_any-rollup : (combines : Bool) (kinds : List Kind) (test : Key → Bool) (es : List Row) → list_any (λ x. test x.key) (rollup combines kinds es) ≡ list_any (λ x. test x.key) es
 list_any-rollup combines kinds test es = list_any-rollup_onto combines kinds test [] es

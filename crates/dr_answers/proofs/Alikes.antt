@@ -6,20 +6,11 @@ use Rattle.std.specs.Cmp.Lexicographic.{slice_cmp}
 use Rattle.std.specs.Ordering.{ordering_then}
 use Rattle.std.specs.declared.cmp.Ordering.{Ordering}
 use Rattle.std.specs.declared.cmp.Ordering.TheVariants.{Less, Equal, Greater}
+use Rattle.dr_order.proofs.Deciding.{then_equal, then_then}
 use Rattle.dr_ask.specs.Firsts.{number_in, with_new, firsts, numbers_of}
 use Rattle.dr_ask.proofs.Firsts.{each-stands}
 
 -- ---- orders
-
-then_equal : (o : Ordering) → ordering_then o Equal ≡ o
-then_equal Less = refl
-then_equal Equal = refl
-then_equal Greater = refl
-
-then_then : (o p q : Ordering) → ordering_then (ordering_then o p) q ≡ ordering_then o (ordering_then p q)
-then_then Less p q = refl
-then_then Equal p q = refl
-then_then Greater p q = refl
 
 then_first : (o p : Ordering) → ordering_then o p ≡ Equal → o ≡ Equal
 then_first Less p e = absurd (cc)

@@ -31,7 +31,7 @@ use Rattle.dr_answers.proofs.Alikes.{compared-firsts, values-firsts}
 
 -- ---- what is the same has the same values
 
-place_same : (p q : Option ℕ) → is_same_place p q ≡ true → p ≡ q
+pub place_same : (p q : Option ℕ) → is_same_place p q ≡ true → p ≡ q
 place_same None None h = refl
 place_same None (Some j) h = absurd (cc)
 place_same (Some i) None h = absurd (cc)

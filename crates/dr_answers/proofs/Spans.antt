@@ -1,5 +1,5 @@
 -- The span of rows is known by their keys.
-use Rattle.std.proofs.Common.{◌≡◌, ◌∙◌, sym, refl, ap, subst, ℤ, Bool, true, false, List, [], ◌∷◌, map, Option, Some, None, ◌||◌, arith}
+use Rattle.std.proofs.Common.{◌≡◌, ◌∙◌, sym, refl, ap, subst, ℤ, Bool, true, List, [], ◌∷◌, map, Option, Some, None, ◌||◌, arith}
 use Rattle.std.specs.Int.{int_min, int_max}
 use Rattle.std.specs.List.{list_any, fold, AllByRecursion}
 use Rattle.std.specs.declared.cmp.Ordering.TheVariants.{Less, Equal, Greater}
@@ -11,6 +11,7 @@ use Rattle.dr_base.specs.Order.{key_cmp}
 use Rattle.dr_agg.specs.CombinationLaws.{int_min-assoc, int_min-comm, int_max-assoc, int_max-comm}
 use Rattle.dr_agg.proofs.KeyOrder.{same_key, itself}
 use Rattle.dr_answers.specs.Span.{wider, span}
+use Rattle.dr_base.proofs.Truths.{or_true}
 
 int_min-same : (a : ℤ) → int_min a a ≡ a
 int_min-same a = omega (arith, ints, clamps)
@@ -78,10 +79,6 @@ Holds-key s r (x ∷ rows) all any =
       | Greater ↦ λ t h. Holds-key s r rows all.1 h
     ] refl any
 
-or-true : (a : Bool) → (a || true) ≡ true
-or-true true = refl
-or-true false = refl
-
 -- each row's key is among the keys
 abbrev Has : List Row → Key → Type 0
 Has rows k = list_any (λ x. eq_by_cmp key_cmp k x.key) rows ≡ true
@@ -90,7 +87,7 @@ Has-each : (all rows : List Row) → ((k : Key) → Has rows k → Has all k) �
 Has-each all [] h = tt
 Has-each all (r ∷ rows) h = (
   h r.key (ap (λ o. is_eq o || list_any (λ x. eq_by_cmp key_cmp r.key x.key) rows) (itself r.key)),
-  Has-each all rows (λ k there. h k (ap (λ b. eq_by_cmp key_cmp k r.key || b) there ∙ or-true (eq_by_cmp key_cmp k r.key))),
+  Has-each all rows (λ k there. h k (ap (λ b. eq_by_cmp key_cmp k r.key || b) there ∙ or_true (eq_by_cmp key_cmp k r.key))),
 )
 
 held : (s : Option (ℤ × ℤ)) (a b : List Row) → AllByRecursion (Holds s) a → AllByRecursion (λ r. Has a r.key) b → AllByRecursion (Holds s) b

@@ -1,8 +1,6 @@
 ghost use Rattle.std.specs.Prelude.{◌≡◌, ◌++◌, ◌∷◌, [], IfOk, OnOk, map, option_map};
 ghost use Rattle.serde_json.specs.View.{view, items_view};
-ghost use Rattle.dr_schema.specs.Columns.{column_names};
-ghost use Rattle.dr_ask.specs.AggregationsOf.{column_of};
-ghost use Rattle.dr_ask.specs.ColumnsOf.{all_names, source_named, column_named, columns_named, dimension_or_metric, metric_or_unknown, name_of, names_from, names_of, columns_of};
+ghost use Rattle.dr_ask.specs.ColumnsOf.{all_names, source_named, column_named, columns_named, name_of, names_from, names_of, columns_of};
 ghost use Rattle.dr_ask.specs.Refusal.{Gives};
 
 use crate::aggregation_reading::column;

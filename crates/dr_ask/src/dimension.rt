@@ -1,5 +1,5 @@
-ghost use Rattle.std.specs.Prelude.{◌≡◌, IfOk, option_map};
-ghost use Rattle.dr_ask.specs.Firsts.{is_same_dimension, is_same_place};
+ghost use Rattle.std.specs.Prelude.{◌≡◌, IfOk};
+ghost use Rattle.dr_ask.specs.Firsts.{is_same_dimension};
 
 use dr_base::Text;
 use std::alloc::AllocError;

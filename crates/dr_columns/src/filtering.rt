@@ -1,6 +1,6 @@
 ghost use Rattle.std.specs.Prelude.{◌≡◌, ◌<◌, ◌&&◌, ℕ, false, true, not, length, map, get_or, OnOk, IfOk};
 ghost use Rattle.dr_time.specs.Union.{union_holds};
-ghost use Rattle.dr_filter.specs.Condition.{condition_in, conditions_in, conditions_of, members_of, selects, ranges, every_matches, some_matches, matches};
+ghost use Rattle.dr_filter.specs.Condition.{condition_in, conditions_in, conditions_of, members_of, selects, ranges, every_matches, some_matches};
 ghost use Rattle.dr_filter.specs.LookUps.{every_holds, some_holds};
 ghost use Rattle.dr_filter.specs.Match.{holds_of, passes};
 ghost use Rattle.dr_image.specs.Checked.{column_at};

@@ -1,4 +1,4 @@
-ghost use Rattle.std.specs.Prelude.{◌≡◌, ◌<◌, ℕ, true, false, length, IfOk, option_map};
+ghost use Rattle.std.specs.Prelude.{◌≡◌, ◌<◌, ℕ, true, false, length, IfOk};
 ghost use Rattle.dr_time.specs.Union.{union_holds};
 ghost use Rattle.dr_ask.specs.Asked.{asked};
 ghost use Rattle.dr_answers.specs.Selection.{selects};

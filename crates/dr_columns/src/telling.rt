@@ -1,6 +1,5 @@
 ghost use Rattle.std.specs.Prelude.{◌≡◌, ◌&&◌, ◌<◌, not, false, true, length, get_or, replicate, IfOk};
-ghost use Rattle.dr_columns.specs.Rows.{Narrows, number_in, truth_in, key_at};
-ghost use Rattle.dr_time.specs.Union.{union_holds};
+ghost use Rattle.dr_columns.specs.Rows.{Narrows, truth_in};
 
 use crate::cells::number_at;
 use dr_image::SegmentView;

@@ -9,6 +9,7 @@ use Rattle.std.specs.Cmp.{int_cmp_total}
 use Rattle.std.specs.FinMap.{int_cmp-IsAntisymmetric}
 use Rattle.dr_cuts.specs.Chunks.{with_value, values_onto}
 use Rattle.dr_cuts.proofs.Totals.{Combines, total, total-units, total-same, exchange}
+use Rattle.dr_base.proofs.Truths.{or_true, or_twice, or_moves_out}
 
 pub is_eq-true : (o : Ordering) → is_eq o ≡ true → o ≡ Equal
 is_eq-true Less h = cc
@@ -19,7 +20,7 @@ pub greater-less : (a b : ℤ) → int_cmp a b ≡ Greater → int_cmp b a ≡ L
 greater-less a b h = int_cmp_total.antisymm b a ∙ rw h refl
 
 -- what holds of each value, and of one more
-All-with_value : (P : ℤ → Type 0) (k : ℤ) (ks : List ℤ) → P k → AllByRecursion P ks → AllByRecursion P (with_value k ks)
+pub All-with_value : (P : ℤ → Type 0) (k : ℤ) (ks : List ℤ) → P k → AllByRecursion P ks → AllByRecursion P (with_value k ks)
 unfolding with_value
 All-with_value P k [] p h = (p, tt)
 All-with_value P k (j ∷ js) p h =
@@ -45,12 +46,8 @@ rising-with_value k (j ∷ js) h =
 abbrev pub has : ℤ → List ℤ → Bool
 has k ks = list_any (int_eq k) ks
 
-or-true : (a : Bool) → (a || true) ≡ true
-or-true true = refl
-or-true false = refl
-
 or-right : (a b : Bool) → b ≡ true → (a || b) ≡ true
-or-right a b h = ap (λ x. a || x) h ∙ or-true a
+or-right a b h = ap (λ x. a || x) h ∙ or_true a
 
 pub int_eq-itself : (k : ℤ) → int_eq k k ≡ true
 int_eq-itself k = ap is_eq (elim (int_cmp k k) as (λ o. int_cmp k k ≡ o → o ≡ Equal) [
@@ -109,19 +106,10 @@ or-false : (a : Bool) → a ≡ (a || false)
 or-false true = refl
 or-false false = refl
 
-or-twice : (a b : Bool) → (a || b) ≡ (a || (a || b))
-or-twice true b = refl
-or-twice false b = refl
-
 or-swap : (a b c : Bool) → (a || (b || c)) ≡ (b || (a || c))
 or-swap true true c = refl
 or-swap true false c = refl
 or-swap false b c = refl
-
-or-moved : (a b c : Bool) → ((a || b) || c) ≡ (b || (a || c))
-or-moved true true c = refl
-or-moved true false c = refl
-or-moved false b c = refl
 
 any-with_value : (p : ℤ → Bool) (k : ℤ) (ks : List ℤ) → list_any p (with_value k ks) ≡ (p k || list_any p ks)
 unfolding with_value
@@ -131,7 +119,7 @@ any-with_value p k (j ∷ js) =
       | Less ↦ λ h. refl
       | Equal ↦ λ h.
           let same : k ≡ j = int_cmp-IsAntisymmetric k j h in
-          or-twice (p j) (list_any p js) ∙ ap (λ x. p x || (p j || list_any p js)) (sym same)
+          or_twice (p j) (list_any p js) ∙ ap (λ x. p x || (p j || list_any p js)) (sym same)
       | Greater ↦ λ h. ap (λ b. p j || b) (any-with_value p k js) ∙ or-swap (p j) (p k) (list_any p js)
     ] refl
 
@@ -141,7 +129,7 @@ any-values_onto p f ks [] = or-false (list_any p ks)
 any-values_onto p f ks (x ∷ xs) =
     any-values_onto p f (with_value (f x) ks) xs
     ∙ ap (λ b. b || list_any p (map f xs)) (any-with_value p (f x) ks)
-    ∙ or-moved (p (f x)) (list_any p ks) (list_any p (map f xs))
+    ∙ or_moves_out (p (f x)) (list_any p ks) (list_any p (map f xs))
 
 pub any-values : {A : Type 0} (p : ℤ → Bool) (f : A → ℤ) (xs : List A) → list_any p (values_onto f [] xs) ≡ list_any p (map f xs)
 any-values p f xs = any-values_onto p f [] xs

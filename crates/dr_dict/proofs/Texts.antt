@@ -4,8 +4,6 @@ use Rattle.std.specs.List.{position, position_or_len, list_any, AllByRecursion, 
 use Rattle.std.specs.Cmp.Lexicographic.{nat_list_eq_equiv}
 use Rattle.std.proofs.lemmas.Bool.{or_parts}
 use Rattle.std.proofs.lemmas.List.{length-map}
-use Rattle.std.proofs.lemmas.List.{map-append}
-use Rattle.indexmap.specs.IndexSet.{insert_key}
 use Rattle.dr_dict.specs.Dictionary.{number_in, with_text}
 
 module _ {K X : Type 0} (f : K → X) where

@@ -1,4 +1,4 @@
-ghost use Rattle.std.specs.Prelude.{◌≡◌, ◌<◌, ◌++◌, length, map};
+ghost use Rattle.std.specs.Prelude.{◌<◌, length, map};
 ghost use Rattle.dr_image.specs.Table.{row_at};
 ghost use Rattle.dr_dump.specs.Dump.{dimension_data, row_data, whole_number};
 ghost use Rattle.dr_dump.specs.Written.{Adds, all_tokens, data_tokens};

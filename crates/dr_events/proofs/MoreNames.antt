@@ -36,12 +36,6 @@ zip_implied R S f [] (y ∷ ys) all = absurd all
 zip_implied R S f (x ∷ xs) [] all = absurd all
 zip_implied R S f (x ∷ xs) (y ∷ ys) all = (f x y all.0, zip_implied R S f xs ys all.1)
 
-pub zip_pushed : {A B : Type 0} (R : A → B → Type 0) (xs : List A) (ys : List B) (x : A) (y : B) → AllZip R xs ys → R x y → AllZip R (xs ++ x ∷ []) (ys ++ y ∷ [])
-zip_pushed R [] [] x y all one = (one, tt)
-zip_pushed R [] (b ∷ ys) x y all one = absurd all
-zip_pushed R (a ∷ xs) [] x y all one = absurd all
-zip_pushed R (a ∷ xs) (b ∷ ys) x y all one = (all.0, zip_pushed R xs ys x y all.1 one)
-
 pub named-more : (old new columns : List (List ℕ)) (places : List ℕ) → More old new → AreNamed old columns places → AreNamed new columns places
 named-more old new columns places m = zip_implied (λ column place. slice_get old place ≡ Some column) (λ column place. slice_get new place ≡ Some column) (λ column place e. get-more old new place column m e) columns places
 

@@ -1,6 +1,6 @@
 -- The time of an event (Apache Druid documentation, ingestion spec, `timestampSpec`; which texts are whole numbers is this
 -- project's own).
-use Rattle.std.specs.Prelude.{ℕ, nat_le, ◌==◌, length, List, [], ◌∷◌, Bool, ℤ, pos, ◌*ℤ◌, int_le, ◌&&◌, Option, Some, None, option_map, option_and_then, if◌then◌else◌, Result, Err}
+use Rattle.std.specs.Prelude.{ℕ, nat_le, ◌==◌, length, List, [], ◌∷◌, Bool, ℤ, pos, ◌*ℤ◌, ◌&&◌, Option, Some, None, option_map, option_and_then, if◌then◌else◌, Result, Err}
 use Rattle.std.specs.Result.{result_ok}
 use Rattle.std.specs.List.{list_all}
 use Rattle.std.specs.Char.{is_ascii_digit}

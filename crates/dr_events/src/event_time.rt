@@ -1,7 +1,6 @@
 ghost use Rattle.std.specs.Prelude.{◌≡◌, ℤ, Option, option_map, option_and_then};
 ghost use Rattle.std.specs.List.{list_all};
 ghost use Rattle.std.specs.Char.{is_ascii_digit};
-ghost use Rattle.dr_events.specs.Refusal.{Gives};
 ghost use Rattle.dr_time.specs.Instant.{is_instant};
 ghost use Rattle.dr_events.specs.WholeNumber.{in_64_bits};
 ghost use Rattle.dr_events.specs.Scalars.{data_of};

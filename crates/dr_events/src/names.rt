@@ -1,4 +1,4 @@
-ghost use Rattle.std.specs.Prelude.{◌≡◌, ◌≤◌, ◌<◌, ◌++◌, [], false, true, length, List, ℕ, Some, IfOk, IfSome, IfNone, IsTrue, OnErr, bytes_eq, slice_get};
+ghost use Rattle.std.specs.Prelude.{◌≡◌, ◌<◌, ◌++◌, [], false, length, List, ℕ, Some, IfOk, IfSome, IfNone, IsTrue, bytes_eq, slice_get};
 ghost use Rattle.std.specs.List.{list_any, IsDistinct};
 
 use dr_base::Text;

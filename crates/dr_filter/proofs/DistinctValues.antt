@@ -1,10 +1,8 @@
 -- Reading the values of an `in` one after the other, as a loop does.
-use Rattle.std.proofs.Common.{◌≡◌, ◌∙◌, sym, refl, ap, Bool, true, false, not, ℕ, ◌+◌, ◌<◌, ◌≤◌, List, [], ◌∷◌, ◌++◌, length, drop, get_or, Result, Ok, Err, bytes_eq, ◌||◌, if◌then◌else◌}
+use Rattle.std.proofs.Common.{◌≡◌, ◌∙◌, sym, refl, ap, Bool, true, false, not, ℕ, ◌+◌, ◌<◌, ◌≤◌, List, [], ◌∷◌, ◌++◌, length, drop, get_or, Result, Ok, Err, bytes_eq, if◌then◌else◌}
 use Rattle.std.specs.List.{list_any}
 use Rattle.std.specs.Prelude.{codes}
-use Rattle.std.specs.Cmp.Lexicographic.{bytes_decides}
 use Rattle.std.proofs.lemmas.List.{drop_more, drop_all}
-use Rattle.std.proofs.lemmas.List.Folds.{list_any-append}
 use Rattle.serde_json.specs.declared.value.Value.{Value}
 use Rattle.serde_json.specs.View.{view, items_view}
 use Rattle.dr_base.specs.Reading.{FailsUnless}
@@ -43,32 +41,3 @@ module _ (texts : List (List ℕ)) (vs : List Value) (i : ℕ) (whole : Result (
       let none : drop i vs ≡ [] = drop_all i vs le in
       let one : distinct_from texts (items_view (drop i vs)) ≡ Ok texts = rw none refl in
       sym so_far ∙ one
-
--- a text that was there and passes is one of them
-there-too : (texts : List (List ℕ)) (text value : List ℕ) → list_any (bytes_eq text) texts ≡ true → list_any (bytes_eq value) texts ≡ (list_any (bytes_eq value) texts || bytes_eq value text)
-there-too texts text value there = at (bytes_eq value text) refl
-  where
-    or_none : (b : Bool) → b ≡ (b || false)
-    or_none true = refl
-    or_none false = refl
-
-    at : (b : Bool) → bytes_eq value text ≡ b → list_any (bytes_eq value) texts ≡ (list_any (bytes_eq value) texts || b)
-    at false is = or_none (list_any (bytes_eq value) texts)
-    at true is =
-        let same : value ≡ text = (bytes_decides value text).0 is in
-        let found : list_any (bytes_eq value) texts ≡ true = ap (λ v. list_any (bytes_eq v) texts) same ∙ there in
-        found ∙ sym (ap (λ b. b || true) found)
-
--- what passes once a text was added to a set
-pub passes-from_add : (old new : List (List ℕ)) (text : List ℕ) (is_new : Bool) → is_new ≡ not (list_any (bytes_eq text) old) → (is_new ≡ true → new ≡ old ++ text ∷ []) → (is_new ≡ false → new ≡ old)
-    → (value : List ℕ) → list_any (bytes_eq value) new ≡ (list_any (bytes_eq value) old || bytes_eq value text)
-passes-from_add old new text is_new told added same value = at (list_any (bytes_eq text) old) refl
-  where
-    or_none : (a b : Bool) → (a || (b || false)) ≡ (a || b)
-    or_none true b = refl
-    or_none false true = refl
-    or_none false false = refl
-
-    at : (b : Bool) → list_any (bytes_eq text) old ≡ b → list_any (bytes_eq value) new ≡ (list_any (bytes_eq value) old || bytes_eq value text)
-    at true is = ap (list_any (bytes_eq value)) (same (told ∙ ap not is)) ∙ there-too old text value is
-    at false is = ap (list_any (bytes_eq value)) (added (told ∙ ap not is)) ∙ list_any-append (bytes_eq value) old (text ∷ []) ∙ or_none (list_any (bytes_eq value) old) (bytes_eq value text)

@@ -1,5 +1,5 @@
 -- The bounds among the members of an `or`, gathered dimension by dimension.
-use Rattle.std.proofs.Common.{◌≡◌, ◌∙◌, sym, refl, ap, ℕ, zero, suc, ◌<◌, Bool, true, false, ◌||◌, List, [], ◌∷◌, ◌++◌, length, get_or, set, arith}
+use Rattle.std.proofs.Common.{◌≡◌, ◌∙◌, sym, ap, ℕ, zero, suc, ◌<◌, Bool, ◌||◌, List, [], ◌∷◌, ◌++◌, length, get_or, set, arith}
 use Rattle.std.specs.List.{list_any}
 use Rattle.std.proofs.lemmas.List.Folds.{list_any-append}
 use Rattle.dr_filter.specs.declared.bound.Bound.{Bound}
@@ -9,7 +9,7 @@ use Rattle.dr_filter.specs.Gathered.{holds_in, some_gathered, IsGroupOf}
 use Rattle.dr_filter.specs.LookUps.{as_range, some_holds}
 use Rattle.dr_filter.specs.Match.{value_at, holds_of}
 use Rattle.dr_filter.specs.Within.{lies_within, some_within}
-use Rattle.dr_filter.proofs.Truths.{or_regroups, or_swaps, or_ends}
+use Rattle.dr_base.proofs.Truths.{or_regroups, or_swaps, or_ends, or_false}
 
 module _ (f : DimensionBounds → Bool) (g new : DimensionBounds) (b : Bool) where
   -- one group more than before holds where it is put in the place of another
@@ -27,14 +27,10 @@ gathered-there groups i g new b at is same more dims =
     ((λ k. some_within (more k) (value_at (same k) dims)) ∙ list_any-append (λ c. lies_within c value) g.bounds.items (b.bounds ∷ [])
     ∙ or_ends (some_within g.bounds.items value) (lies_within b.bounds value) ∙ ap (λ p. some_within g.bounds.items value || lies_within b.bounds (value_at p dims)) here)
 
-or_none : (a : Bool) → (a || false) ≡ a
-or_none true = refl
-or_none false = refl
-
 pub gathered-behind : (groups : List DimensionBounds) (g : DimensionBounds) (b : Bound) → g.place ≡ b.place → g.bounds.items ≡ b.bounds ∷ [] → (dims : List (List ℕ)) → some_gathered dims (groups ++ g ∷ []) ≡ (some_gathered dims groups || holds_of (as_range b) dims)
 gathered-behind groups g b same one dims =
     list_any-append (λ x. holds_in x dims) groups (g ∷ []) ∙ or_ends (some_gathered dims groups) (holds_in g dims)
-    ∙ (λ k. some_gathered dims groups || some_within (one k) (value_at (same k) dims)) ∙ ap (λ a. some_gathered dims groups || a) (or_none (lies_within b.bounds (value_at b.place dims)))
+    ∙ (λ k. some_gathered dims groups || some_within (one k) (value_at (same k) dims)) ∙ ap (λ a. some_gathered dims groups || a) (or_false (lies_within b.bounds (value_at b.place dims)))
 
 pub looked_up : (old : List DimensionTest) (t : DimensionTest) (g : DimensionBounds) (rest : List DimensionBounds) (dims : List (List ℕ)) → holds_of t dims ≡ holds_in g dims
     → (some_holds dims (old ++ t ∷ []) || some_gathered dims rest) ≡ (some_holds dims old || some_gathered dims (g ∷ rest))
@@ -43,4 +39,4 @@ looked_up old t g rest dims is =
     ∙ sym (or_regroups (some_holds dims old) (holds_in g dims) (some_gathered dims rest))
 
 pub all_looked_up : (tests : List DimensionTest) (groups : List DimensionBounds) (dims : List (List ℕ)) → groups ≡ [] → (some_holds dims tests || some_gathered dims groups) ≡ some_holds dims tests
-all_looked_up tests groups dims none = ap (λ l. some_holds dims tests || some_gathered dims l) none ∙ or_none (some_holds dims tests)
+all_looked_up tests groups dims none = ap (λ l. some_holds dims tests || some_gathered dims l) none ∙ or_false (some_holds dims tests)

@@ -1,6 +1,5 @@
 pub mod DistinctValues
 pub mod Levels
-pub mod Truths
 pub mod LookedUp
 pub mod Ends
 pub mod Reaching

@@ -12,7 +12,7 @@ use Rattle.dr_filter.specs.Condition.{Condition, condition_in, conditions_of, ma
 use Rattle.dr_filter.specs.LookUps.{as_test, as_range, tests_in, some_holds, every_holds, AreLookedUp, IsTestOf}
 use Rattle.dr_filter.specs.Members.{others_in, PutsBehind}
 use Rattle.dr_filter.specs.Match.{lies_within, passes, value_at, holds_of}
-use Rattle.dr_filter.proofs.Truths.{or_regroups, or_swaps, or_moves, or_ends, and_regroups, and_swaps, and_moves, and_ends, neither_and}
+use Rattle.dr_base.proofs.Truths.{or_regroups, or_swaps, or_moves, or_ends, and_regroups, and_swaps, and_moves, and_ends, neither_and}
 
 -- ---- tests
 

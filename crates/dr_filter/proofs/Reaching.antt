@@ -17,6 +17,7 @@ use Rattle.dr_filter.specs.Within.{comes_after, not_before, lies_within, some_wi
 use Rattle.dr_filter.specs.Ends.{ends_before}
 use Rattle.dr_filter.specs.Ranges.{start_text, start_strict, start_order, begun, unended, ends_within, with_outer, Rise, Reach}
 use Rattle.dr_filter.proofs.Ends.{same_place, far, past, upper-more, upper-less}
+use Rattle.dr_base.proofs.Truths.{or_false}
 
 -- ---- one text
 
@@ -36,10 +37,6 @@ or_same : (a b : Bool) → (a ≡ true → b ≡ true) → (a || b) ≡ b
 or_same true b h = sym (h refl)
 or_same false b h = refl
 
-or_none : (a : Bool) → (a || false) ≡ a
-or_none true = refl
-or_none false = refl
-
 pub none_begun : (text : List ℕ) (bs : List Bounds) → AllWithin (λ b. begun text b ≡ false) bs 0 (length bs) → some_within bs text ≡ false
 none_begun text [] high = refl
 none_begun text (b ∷ bs) high =
@@ -54,7 +51,7 @@ pub last_begun : (text : List ℕ) (bs : List Bounds) (k : ℕ) (d : Bounds) →
 last_begun text [] k d reach lt low high = absurd (omega arith)
 last_begun text (b ∷ bs) zero d reach lt low high =
     let here = and_yes (begun text b) (unended text b) (low 0 b (omega arith) (omega arith)) in
-    (λ k. here k || none_begun text bs (λ j e le lt_j. high (suc j) e (omega arith) (omega arith)) k) ∙ or_none (unended text b)
+    (λ k. here k || none_begun text bs (λ j e le lt_j. high (suc j) e (omega arith) (omega arith)) k) ∙ or_false (unended text b)
 last_begun text (b ∷ bs) (suc k) d reach lt low high =
     let here = and_yes (begun text b) (unended text b) (low 0 b (omega arith) (omega arith)) in
     let rest = last_begun text bs k d (Reach-rest b bs reach) (omega arith) (λ j e le lt_j. low (suc j) e (omega arith) (omega arith)) (λ j e le lt_j. high (suc j) e (omega arith) (omega arith)) in
@@ -190,7 +187,7 @@ module _ (sorted bs : List Bounds) (n : ℕ) (b : Bounds) (up : Rise sorted) (lt
     rise = rise;
     reach = reach;
     ahead = ahead;
-    same = λ text. list_any-append (λ c. lies_within c text) bs (b ∷ []) ∙ ap (λ a. some_within bs text || a) (or_none (lies_within b text)) ∙ told text;
+    same = λ text. list_any-append (λ c. lies_within c text) bs (b ∷ []) ∙ ap (λ a. some_within bs text || a) (or_false (lies_within b text)) ∙ told text;
   }
     where
       count : length (bs ++ b ∷ []) ≡ length bs + 1

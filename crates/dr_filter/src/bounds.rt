@@ -1,6 +1,4 @@
-ghost use Rattle.std.specs.Prelude.{◌≡◌, ◌&&◌, ℕ, List, IfOk, OnOk, option_map};
-ghost use Rattle.std.specs.Ordering.{nat_cmp};
-ghost use Rattle.std.specs.Cmp.Lexicographic.{slice_cmp};
+ghost use Rattle.std.specs.Prelude.{◌≡◌, ◌&&◌, ℕ, List, IfOk, OnOk};
 ghost use Rattle.dr_filter.specs.Ends.{starts_behind as starts_behind_of, ends_before as ends_before_of};
 ghost use Rattle.dr_filter.specs.Within.{lies_within, not_before as not_before_of, not_after as not_after_of, comes_after as comes_after_of};
 

@@ -1,6 +1,5 @@
 ghost use Rattle.std.specs.Prelude.{◌≡◌, IfOk, option_map};
 ghost use Rattle.serde_json.specs.View.{view, items_view, number_view};
-ghost use Rattle.dr_base.specs.Each.{each};
 ghost use Rattle.dr_filter.specs.Refusal.{Gives};
 ghost use Rattle.dr_filter.specs.Values.{whole_text, value_of, value_or_empty, value_or_none, distinct_values};
 

@@ -6,7 +6,6 @@ use Rattle.std.specs.List.{list_any, fold, AllByRecursion}
 use Rattle.std.specs.Ordering.{nat_cmp, ordering_index, ordering_then}
 use Rattle.std.specs.declared.cmp.Ordering.{Ordering}
 use Rattle.std.specs.declared.cmp.Ordering.TheVariants.{Less, Equal, Greater}
-use Rattle.std.proofs.lemmas.Bool.{eqb-true}
 use Rattle.std.proofs.lemmas.List.{take-map, map-append, reverse-append, length-append, length-map, take_more}
 use Rattle.std.proofs.lemmas.List.Folds.{list_any-append}
 use Rattle.dr_having.specs.Meeting.{number_at, text_at}
@@ -26,8 +25,10 @@ use Rattle.dr_answers.specs.Groups.{max_groups}
 use Rattle.dr_answers.specs.Spread.{spread_over}
 use Rattle.dr_partial.specs.Partial.{result_row}
 use Rattle.dr_answers.proofs.Alikes.{compared-firsts}
+use Rattle.dr_answers.proofs.OnceGroups.{place_same}
 use Rattle.dr_finish.specs.Finished.{few_of, few_given}
 use Rattle.dr_finish.specs.RowOrder.{numbers_from, spread_row}
+use Rattle.dr_base.proofs.Truths.{or_true}
 
 -- ---- each value by its own number
 
@@ -111,21 +112,11 @@ number_same : (found : List Dimension) (d e : Dimension) → d.place ≡ e.place
 number_same [] d e same = refl
 number_same (x ∷ found) d e same = λ i. if is_same_place (same i) x.place then zero else suc (number_same found d e same i)
 
-place_same : (p q : Option ℕ) → is_same_place p q ≡ true → p ≡ q
-place_same None None h = refl
-place_same None (Some j) h = absurd (cc)
-place_same (Some i) None h = absurd (cc)
-place_same (Some i) (Some j) h = ap Some (eqb-true i j h)
-
 -- those that differ have the numbers one after another
 number_append : (xs : List Dimension) (x : Dimension) → numbers_from (length (xs ++ x ∷ [])) 0 ≡ numbers_from (length xs) 0 ++ length xs ∷ []
 number_append xs x =
     let one : length (xs ++ x ∷ []) ≡ suc (length xs) = length-append xs (x ∷ []) ∙ omega arith in
     ap (λ n. numbers_from n 0) one ∙ numbers-push (length xs) 0 ∙ ap (λ n. numbers_from (length xs) 0 ++ n ∷ []) (omega arith)
-
-or_true : (b : Bool) → (b || true) ≡ true
-or_true true = refl
-or_true false = refl
 
 each_known : (found xs : List Dimension) → AllByRecursion (λ y. list_any (is_same_dimension y) (found ++ xs) ≡ true) xs
 each_known found [] = tt

@@ -1,4 +1,4 @@
-ghost use Rattle.std.specs.Prelude.{◌≡◌, IfOk, IfSome};
+ghost use Rattle.std.specs.Prelude.{IfOk, IfSome};
 ghost use Rattle.std.specs.List.{All, AllByRecursion};
 ghost use Rattle.dr_answers.specs.AnswerRefusal.{Answers};
 ghost use Rattle.dr_ask.specs.Asked.{asked};

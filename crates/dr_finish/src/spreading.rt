@@ -1,4 +1,4 @@
-ghost use Rattle.std.specs.Prelude.{◌≡◌, ◌∷◌, ◌++◌, [], true, IfOk, length, map};
+ghost use Rattle.std.specs.Prelude.{◌≡◌, [], true, IfOk, map};
 ghost use Rattle.dr_having.specs.Meeting.{text_at};
 ghost use Rattle.dr_having.specs.Numbered.{numbers_by, texts_by};
 ghost use Rattle.dr_answers.specs.Spread.{spread_over};

@@ -1,4 +1,4 @@
-ghost use Rattle.std.specs.Prelude.{◌≡◌, ◌↔◌, ◌<◌, ◌≤◌, Ok, Some, length, slice_get, IfOk, IfSome, IsTrue};
+ghost use Rattle.std.specs.Prelude.{◌≡◌, ◌↔◌, ◌<◌, Ok, Some, length, slice_get, IfOk, IfSome, IsTrue};
 ghost use Rattle.dr_agg.specs.Rollup.{IsInOrder};
 ghost use Rattle.dr_image.specs.Sealed.{Sealed};
 ghost use Rattle.dr_image.specs.Laws.{IsImage, IsImageOf};

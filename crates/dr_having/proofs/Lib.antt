@@ -1,8 +1,6 @@
 pub mod Levels
-pub mod Truths
 pub mod Narrowing
 pub mod Together
 pub mod Members
 pub mod LookedUp
 pub mod Places
-pub mod Texts

@@ -8,7 +8,7 @@ use Rattle.dr_having.specs.Condition.{Condition, dimension, excluded, conditions
 use Rattle.dr_having.specs.LookUps.{some_selected, is_found, found_in_some, IsLookUpOf}
 use Rattle.dr_having.specs.Meeting.{meets_dimension, text_at}
 use Rattle.dr_having.proofs.Together.{list_any-set}
-use Rattle.dr_having.proofs.Truths.{and_moves, none_of_more, or_regroups, or_moves, or_ends}
+use Rattle.dr_base.proofs.Truths.{and_moves, neither_and, or_regroups, or_moves, or_ends}
 
 -- ---- look-ups
 
@@ -42,7 +42,7 @@ module _ (dims : List (List ℕ)) (values : List ℤ) where
       → meets_every dims values (conditions_of (members_of excluded ms cs)) ≡ (not (some_selected dims ms) && meets_every dims values (conditions_of cs))
   meets_every-members [] cs = refl
   meets_every-members (Some c ∷ ms) cs =
-      ap (λ b. not (meets_dimension c dims) && b) (meets_every-members ms cs) ∙ none_of_more (meets_dimension c dims) (some_selected dims ms) (meets_every dims values (conditions_of cs))
+      ap (λ b. not (meets_dimension c dims) && b) (meets_every-members ms cs) ∙ neither_and (meets_dimension c dims) (some_selected dims ms) (meets_every dims values (conditions_of cs))
   meets_every-members (None ∷ ms) [] = meets_every-members ms []
   meets_every-members (None ∷ ms) (c ∷ cs) =
       ap (λ b. meets dims values c && b) (meets_every-members ms cs) ∙ and_moves (meets dims values c) (not (some_selected dims ms)) (meets_every dims values (conditions_of cs))

@@ -8,7 +8,7 @@ use Rattle.dr_having.specs.declared.comparison.Comparison.TheVariants.{Equal, Gr
 use Rattle.dr_having.specs.declared.every_bound.EveryBound.{EveryBound}
 use Rattle.dr_having.specs.Bounds.{higher, lower, is_above, is_below, is_number, lies_in, with_number_beside, narrowed}
 use Rattle.dr_having.specs.Meeting.{compares}
-use Rattle.dr_having.proofs.Truths.{and_regroups, and_swaps, and_true}
+use Rattle.dr_base.proofs.Truths.{and_regroups, and_swaps, and_true}
 
 -- ---- two numbers
 

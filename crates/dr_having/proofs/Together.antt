@@ -10,7 +10,7 @@ use Rattle.dr_having.specs.Compared.{every_holds, some_holds, lies_in_at, lie_in
 use Rattle.dr_having.specs.Condition.{Condition, aggregation, conditions_of, members_of, meets, meets_every, meets_some}
 use Rattle.dr_having.specs.Meeting.{compares, meets_value, number_at}
 use Rattle.dr_having.proofs.Narrowing.{lies_in-narrowed, place-narrowed}
-use Rattle.dr_having.proofs.Truths.{and_regroups, and_swaps, and_moves, and_ends, or_regroups, or_swaps, or_moves, or_ends}
+use Rattle.dr_base.proofs.Truths.{and_regroups, and_swaps, and_moves, and_ends, or_regroups, or_swaps, or_moves, or_ends}
 
 -- ---- bounds
 

@@ -156,7 +156,7 @@ behind_head : (t : Table) (rest : List ℕ) → drop 48 (with_last t rest) ≡ d
 unfolding head_of eight_bytes
 behind_head t rest = refl
 
-length-head : (t : Table) → length (head_of t) ≡ 48
+pub length-head : (t : Table) → length (head_of t) ≡ 48
 unfolding head_of eight_bytes
 length-head t = refl
 

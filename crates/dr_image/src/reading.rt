@@ -1,7 +1,6 @@
 ghost use Rattle.std.specs.Prelude.{◌≡◌, ◌-◌, ◌<◌, ◌≤◌, ◌≤ℤ◌, All, [], true, Some, length, map, slice_get, get_or};
-ghost use Rattle.dr_image.specs.Words.{word, long};
+ghost use Rattle.dr_image.specs.Words.{word};
 ghost use Rattle.dr_image.specs.Pieces.{pieces};
-ghost use Rattle.dr_image.specs.Table.{value_at};
 ghost use Rattle.dr_image.specs.Layout.{read_table};
 ghost use Rattle.dr_image.specs.Parts.{part_seen};
 ghost use Rattle.dr_image.specs.Opening.{is_dictionary, is_index};

@@ -1,5 +1,5 @@
 -- Calls behind ones that changed nothing.
-use Rattle.std.proofs.Common.{◌≡◌, ℕ, List, ◌++◌, None, Some, Result, Ok, Err, sym, ap, ◌∙◌, take}
+use Rattle.std.proofs.Common.{ℕ, List, ◌++◌, None, Some, Result, Ok, Err, sym, ap, ◌∙◌, take}
 use Rattle.std.specs.Prelude.{Option}
 use Rattle.std.specs.Io.KnownBytes.{ReadConsumes, WriteAppends, Keeps, Appends, Consumes}
 use Rattle.std.proofs.KnownBytes.{Keeps-trans}

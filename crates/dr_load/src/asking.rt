@@ -1,4 +1,3 @@
-ghost use Rattle.std.specs.Prelude.{◌≡◌};
 ghost use Rattle.dr_ask.specs.Asked.{asked};
 ghost use Rattle.dr_ask.specs.MadeFor.{MadeFor};
 

@@ -1,5 +1,5 @@
 -- A row that is added to rising rows, none of which its key is below.
-use Rattle.std.proofs.Common.{◌≡◌, ◌∙◌, sym, refl, ap, ℕ, ◌+◌, ◌<◌, ◌≤◌, ◌⊎◌, inl, inr, Bool, true, false, ℤ, List, [], ◌∷◌, ◌++◌, Some, length, take, drop, get_or, slice_get, arith}
+use Rattle.std.proofs.Common.{◌≡◌, ◌∙◌, sym, refl, ap, ℕ, ◌+◌, ◌<◌, ◌⊎◌, inl, inr, true, false, List, [], ◌∷◌, ◌++◌, Some, length, take, drop, get_or, slice_get, arith}
 use Rattle.std.proofs.Math.ListN.{set}
 use Rattle.std.specs.List.{AllByRecursion}
 use Rattle.std.specs.Ordering.{is_lt, is_eq}
@@ -10,7 +10,6 @@ use Rattle.std.proofs.lemmas.Option.{slice_get-get_or}
 use Rattle.dr_base.specs.declared.row.Row.{Row}
 use Rattle.dr_base.specs.Order.{key_cmp}
 use Rattle.dr_agg.specs.declared.kind.Kind.{Kind}
-use Rattle.dr_agg.specs.Combination.{combine_columns}
 use Rattle.dr_agg.specs.Rollup.{add_row, joined, rollup, IsInOrder, IsRising, IsRollup}
 use Rattle.dr_agg.proofs.RollupLaws.{same_rollup, IsRollup-rollup}
 use Rattle.dr_agg.proofs.Sorting.{place-last, place-behind, set-parts}

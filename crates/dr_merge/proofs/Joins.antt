@@ -1,5 +1,5 @@
 -- The fragment that the inputs of a job are joined to has an image.
-use Rattle.std.proofs.Common.{◌≡◌, ◌∙◌, sym, subst, ap, refl, ℕ, ℤ, ◌+◌, ◌-◌, ◌^◌, ◌<◌, ◌≤◌, Bool, true, false, List, [], ◌∷◌, ◌++◌, length, map, length-append, arith}
+use Rattle.std.proofs.Common.{◌≡◌, sym, subst, refl, ℕ, ℤ, ◌+◌, ◌-◌, ◌^◌, ◌<◌, ◌≤◌, Bool, false, List, [], ◌∷◌, ◌++◌, length, map, length-append, arith}
 use Rattle.std.specs.Prelude.{fold}
 use Rattle.std.specs.List.{AllByRecursion}
 use Rattle.std.proofs.lemmas.List.Elements.{recursion_from_All}
@@ -8,7 +8,7 @@ use Rattle.dr_time.specs.Instant.{IsInstant}
 use Rattle.dr_agg.specs.Rollup.{all_rows, join}
 use Rattle.dr_schema.specs.Columns.{kinds_of}
 use Rattle.dr_schema.specs.declared.schema.Schema.{Schema}
-use Rattle.dr_image.specs.Sealed.{Sealed, HasImage, IsRowOf}
+use Rattle.dr_image.specs.Sealed.{HasImage, IsRowOf}
 use Rattle.dr_segment.specs.Encoding.{sealed}
 use Rattle.dr_fragment.specs.declared.fragment.Fragment.{Fragment}
 use Rattle.dr_merge.specs.declared.job.Job.{Job}

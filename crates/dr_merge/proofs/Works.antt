@@ -1,5 +1,5 @@
 -- What the work of a job gives, by the image that was written.
-use Rattle.std.proofs.Common.{◌≡◌, ◌∙◌, sym, refl, ap, ℕ, ◌+◌, ◌<◌, ◌≤◌, Bool, true, false, List, [], ◌∷◌, ◌++◌, length, map, take, get_or, append-nil, append_assoc, Result, Ok, Err, arith}
+use Rattle.std.proofs.Common.{◌≡◌, ◌∙◌, sym, refl, ap, ℕ, ◌+◌, ◌<◌, ◌≤◌, Bool, true, false, List, [], ◌∷◌, ◌++◌, length, map, take, get_or, append-nil, append_assoc, Ok, Err, arith}
 use Rattle.std.specs.Prelude.{nat_le, if◌then◌else◌}
 use Rattle.std.proofs.lemmas.Bool.Decides.{nat_tests}
 use Rattle.std.proofs.lemmas.List.{take_more}
@@ -17,7 +17,7 @@ use Rattle.dr_segment.specs.Encoding.{sealed, encoded}
 use Rattle.dr_merge.specs.declared.job.Job.{Job}
 use Rattle.dr_merge.specs.declared.merge_error.MergeError.{MergeError}
 use Rattle.dr_merge.specs.declared.merge_error.MergeError.TheVariants.{ImageTooLarge}
-use Rattle.dr_merge.specs.Refusal.{is_memory, not_written}
+use Rattle.dr_merge.specs.Refusal.{not_written}
 use Rattle.dr_merge.specs.Joined.{IsJobOf, first_from, last_to, joined_fragment, sealed_fragment, worked}
 use Rattle.dr_merge.proofs.Joins.{joined_has_image}
 

@@ -1,5 +1,5 @@
 -- The events with a mark from a place on, and the event that stands there.
-use Rattle.std.proofs.Common.{◌≡◌, ◌∙◌, sym, refl, ap, ℕ, zero, suc, ◌+◌, ◌<◌, length, Bool, true, false, cond, List, [], ◌∷◌, drop, Some, is_some, unwrap_or, true≢false, arith}
+use Rattle.std.proofs.Common.{◌≡◌, ◌∙◌, sym, ap, ℕ, zero, suc, ◌+◌, Bool, true, false, cond, List, [], ◌∷◌, drop, Some, is_some, unwrap_or, true≢false, arith}
 use Rattle.std.specs.Prelude.{slice_get, ◌==◌}
 use Rattle.dr_base.specs.declared.event.Event.{Event}
 use Rattle.dr_node.specs.Seats.{marked}

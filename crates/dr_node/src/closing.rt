@@ -1,4 +1,4 @@
-ghost use Rattle.std.specs.Prelude.{◌≡◌, ◌⊎◌, ◌==◌, ◌≤◌, ◌<◌, ◌↔◌, Err, IfOk, IfErr, IsTrue, All, length, map, sum};
+ghost use Rattle.std.specs.Prelude.{◌≡◌, ◌⊎◌, ◌==◌, ◌<◌, ◌↔◌, Err, IfOk, IfErr, IsTrue, All, length, map};
 ghost use Rattle.std.specs.List.{count_by, range_with_len};
 ghost use Rattle.dr_timeline.specs.declared.timeline_error.TimelineError.TheVariants.{NoMemory};
 ghost use Rattle.dr_node.specs.declared.node_error.NodeError.TheVariants as error;

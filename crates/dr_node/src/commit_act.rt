@@ -1,5 +1,4 @@
 ghost use Rattle.std.specs.Prelude.{◌≡◌, IfOk, OnErr};
-ghost use Rattle.dr_node.specs.Acting.{IsAtMostOneStep};
 ghost use Rattle.dr_base.specs.Reading.{GivesUnless};
 ghost use Rattle.dr_merge.specs.Joined.{joined_fragment};
 ghost use Rattle.dr_timeline.specs.Refusal.{is_memory};

@@ -1,4 +1,4 @@
-ghost use Rattle.std.specs.Prelude.{◌≡◌, ◌+◌, ◌<◌, ◌≤◌, ◌⊎◌, ◌∷◌, [], true, replicate, length, All, IfOk, IfErr, OnOk, OnErr};
+ghost use Rattle.std.specs.Prelude.{◌≡◌, ◌+◌, ◌<◌, ◌≤◌, ◌⊎◌, true, replicate, length, All, IfOk, IfErr, OnOk, OnErr};
 ghost use Rattle.dr_cuts.specs.State.{empty_state};
 ghost use Rattle.dr_timeline.specs.declared.timeline_error.TimelineError.TheVariants.{NoMemory, StreamFull};
 ghost use Rattle.dr_schema.specs.Fits.{FitsSchema};

@@ -1,6 +1,5 @@
 ghost use Rattle.std.specs.Prelude.{◌≡◌, IfOk};
 ghost use Rattle.dr_merge.specs.Joined.{IsJobOf};
-ghost use Rattle.dr_node.specs.Acting.{IsAtMostOneStep};
 ghost use Rattle.dr_base.specs.Reading.{GivesUnless};
 ghost use Rattle.dr_timeline.specs.Refusal.{is_memory};
 ghost use Rattle.dr_timeline.specs.Stepping.{plan};

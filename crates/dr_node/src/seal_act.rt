@@ -1,5 +1,4 @@
 ghost use Rattle.std.specs.Prelude.{◌≡◌, OnErr};
-ghost use Rattle.dr_node.specs.Acting.{IsAtMostOneStep};
 ghost use Rattle.dr_base.specs.Reading.{GivesUnless};
 ghost use Rattle.dr_timeline.specs.Refusal.{is_memory};
 ghost use Rattle.dr_timeline.specs.Stepping.{seal};

@@ -11,12 +11,12 @@ use Rattle.dr_order.specs.declared.order_column.OrderColumn.{OrderColumn}
 use Rattle.dr_order.specs.Deciding.{is_output, Decides}
 use Rattle.dr_order.specs.Order.{output_cmp, directed, column_cmp, columns_cmp}
 
-then_equal : (o : Ordering) → ordering_then o Equal ≡ o
+pub then_equal : (o : Ordering) → ordering_then o Equal ≡ o
 then_equal Less = refl
 then_equal Equal = refl
 then_equal Greater = refl
 
-then_then : (o p q : Ordering) → ordering_then (ordering_then o p) q ≡ ordering_then o (ordering_then p q)
+pub then_then : (o p q : Ordering) → ordering_then (ordering_then o p) q ≡ ordering_then o (ordering_then p q)
 then_then Less p q = refl
 then_then Equal p q = refl
 then_then Greater p q = refl

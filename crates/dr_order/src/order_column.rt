@@ -1,5 +1,5 @@
 ghost use Rattle.std.specs.Prelude.{◌≡◌};
-ghost use Rattle.dr_order.specs.Order.{column_cmp, directed as directed_of, output_cmp};
+ghost use Rattle.dr_order.specs.Order.{column_cmp, directed as directed_of};
 
 use crate::output::Output;
 use dr_having::{OutputNumbers, OutputTexts};

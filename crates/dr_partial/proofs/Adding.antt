@@ -1,43 +1,25 @@
 -- Groups with one row more.
-use Rattle.std.proofs.Common.{◌≡◌, ◌∙◌, sym, refl, ap, subst, ℕ, suc, true, false, cond, List, [], ◌∷◌, ◌++◌, map, length, Result, Ok, Err, OnOk, arith}
-use Rattle.std.specs.List.{AllByRecursion, IsDistinct}
-use Rattle.std.specs.declared.cmp.Ordering.TheVariants.{Less, Equal, Greater}
-use Rattle.std.specs.Ordering.{is_eq}
+use Rattle.std.proofs.Common.{◌≡◌, ◌∙◌, sym, refl, ap, subst, ℕ, suc, true, false, List, [], ◌∷◌, ◌++◌, map, length, Result, Ok, Err, OnOk, arith}
+use Rattle.std.specs.List.{IsDistinct}
 use Rattle.dr_base.specs.declared.key.Key.{Key}
 use Rattle.dr_base.specs.declared.row.Row.{Row}
-use Rattle.dr_base.specs.Order.{key_cmp}
 use Rattle.dr_agg.specs.declared.kind.Kind.{Kind}
 use Rattle.dr_agg.specs.Combination.{FitsColumns}
-use Rattle.dr_agg.specs.Rollup.{rows_at, together, IsRollup, rollup, add_row}
-use Rattle.dr_agg.proofs.KeyOrder.{key_cmp_total}
+use Rattle.dr_agg.specs.Rollup.{IsRollup, rollup, add_row}
 use Rattle.dr_agg.proofs.RollupLaws.{IsRollup-rollup, same_rollup}
 use Rattle.dr_rollup.specs.Entries.{same_keys, HasKeyAt, NoneHas}
 use Rattle.dr_rollup.specs.Sound as rows
 use Rattle.dr_rollup.proofs.Growing.{sound-combined, rows-combined, sound-added, rows-added}
 use Rattle.dr_partial.specs.Grouped.{IsSound, Adds, CombinesAt, in_order}
+use Rattle.dr_rollup.proofs.Rows.{alone}
 
 -- ---- groups that are apart
-
-none_alike : (q : Key) (x : Row) (xs : List Row) → key_cmp q x.key ≡ Equal → AllByRecursion (λ k. same_keys x.key k ≡ false) (map (λ y. y.key) xs) → rows_at q xs ≡ []
-none_alike q x [] t all = refl
-none_alike q x (y ∷ xs) t all = ap (λ b. cond b (y ∷ rows_at q xs) (rows_at q xs)) (ap is_eq (key_cmp_total.congr q x.key y.key t) ∙ all.0) ∙ none_alike q x xs t all.1
-
-one_each : (kinds : List Kind) (q : Key) (es : List Row) → IsDistinct same_keys (map (λ x. x.key) es) → together true kinds (rows_at q es) ≡ rows_at q es
-unfolding IsDistinct
-one_each kinds q [] d = refl
-one_each kinds q (x ∷ xs) d =
-    elim (key_cmp q x.key) as (λ o. key_cmp q x.key ≡ o → together true kinds (cond (is_eq o) (x ∷ rows_at q xs) (rows_at q xs)) ≡ cond (is_eq o) (x ∷ rows_at q xs) (rows_at q xs)) [
-      | Less ↦ λ t. one_each kinds q xs d.1
-      | Equal ↦ λ t. rw (none_alike q x xs t d.0) refl
-      | Greater ↦ λ t. one_each kinds q xs d.1
-    ]
-    refl
 
 -- in the order of their keys they are their rollup, since there is nothing to combine
 pub in_order-rollup : (kinds : List Kind) (groups : List Row) → IsDistinct same_keys (map (λ g. g.key) groups) → in_order groups ≡ rollup true kinds groups
 in_order-rollup kinds groups d =
     let own = IsRollup-rollup false [] groups in
-    let is : IsRollup true kinds groups (in_order groups) = record { ordered = own.ordered; each = λ q. own.each q ∙ sym (one_each kinds q groups d) } in
+    let is : IsRollup true kinds groups (in_order groups) = record { ordered = own.ordered; each = λ q. own.each q ∙ sym (alone kinds q groups d) } in
     same_rollup true kinds groups (in_order groups) (rollup true kinds groups) is (IsRollup-rollup true kinds groups)
 
 -- ---- one more row

@@ -24,6 +24,7 @@ use Rattle.dr_partial.specs.Partial.{kinds_in, alone}
 use Rattle.dr_columns.specs.Rows.{rows_between}
 use Rattle.dr_partial.proofs.Groups.{folds_push}
 use Rattle.dr_partial.proofs.Pieces.{no-rows, more-rows, passed-over}
+use Rattle.dr_rollup.proofs.Flat.{member}
 
 -- ---- what aggregations read, column by column
 
@@ -58,11 +59,6 @@ keeps_set (x ∷ xs) zero g m at k zero h = (record { key = g.key; metrics = m }
 keeps_set (x ∷ xs) zero g m at k (suc p) h = h
 keeps_set (x ∷ xs) (suc j) g m at k zero h = h
 keeps_set (x ∷ xs) (suc j) g m at k (suc p) h = keeps_set xs j g m at k p h
-
-member : {X : Type 0} (xs : List X) (i : ℕ) → i < length xs → (x : X) × (slice_get xs i ≡ Some x)
-member [] i lt = absurd (omega (arith, lt))
-member (x ∷ xs) zero lt = (x, refl)
-member (x ∷ xs) (suc i) lt = member xs i (omega (arith, lt))
 
 pub keeps-combined : (kinds : List Kind) (values : List ℤ) (before : List Row) (place : ℕ) (after : List Row) → place < length before → CombinesAt kinds values before place after → KeepsKeys before after
 keeps-combined kinds values before place after lt combines =

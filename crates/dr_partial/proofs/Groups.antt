@@ -15,9 +15,9 @@ use Rattle.dr_agg.specs.declared.kind.Kind.{Kind}
 use Rattle.dr_agg.specs.declared.kind.Kind.TheVariants.{Count, LongSum, LongMin, LongMax}
 use Rattle.dr_agg.specs.Combination.{combine_of, unit_of, fold_of, combine_columns}
 use Rattle.dr_agg.specs.Rollup.{rows_at, combined, together, IsRising, joined, add_row, rollup_onto}
-use Rattle.dr_agg.proofs.ColumnLaws.{combine_of-assoc, combine_of-exchange, combine_of-unit}
+use Rattle.dr_agg.proofs.ColumnLaws.{combine_of-assoc, combine_of-unit}
 use Rattle.dr_agg.proofs.KeyOrder.{itself, less_back, above_differs}
-use Rattle.dr_agg.proofs.RollupLaws.{IsRollup-rollup, IsRising-rollup}
+use Rattle.dr_agg.proofs.RollupLaws.{IsRollup-rollup, IsRising-rollup, AllByRecursion-implied}
 use Rattle.dr_rollup.proofs.Keys.{parts-same_keys}
 use Rattle.dr_rollup.proofs.Rows.{same_keys-comm}
 use Rattle.dr_ask.specs.declared.aggregation.Aggregation.{Aggregation}
@@ -27,12 +27,9 @@ use Rattle.dr_answers.specs.Groups.{group_of, is_same_group, with_group, groups_
 use Rattle.dr_answers.specs.Selection.{selected}
 use Rattle.dr_answers.specs.Span.{span}
 use Rattle.dr_partial.specs.Partial.{kinds_in, alone, partial, result_row, values_at, filled_row, groups_by, groups_from}
+use Rattle.dr_agg.proofs.FoldLaws.{fold_first}
 
 -- ---- a fold of folds over single rows
-
-fold_first : (k : Kind) (a b : ℤ) (values : List ℤ) → fold (combine_of k) (combine_of k a b) values ≡ combine_of k (fold (combine_of k) a values) b
-fold_first k a b [] = refl
-fold_first k a b (v ∷ values) = ap (λ c. fold (combine_of k) c values) (combine_of-exchange k a b v) ∙ fold_first k (combine_of k a v) b values
 
 unit_fits : (k : Kind) → FitsSigned w64 (unit_of k)
 unit_fits Count = search arith
@@ -126,10 +123,6 @@ none_at : (k : Key) (xs : List Row) → AllByRecursion (λ x. eq_by_cmp key_cmp 
 none_at k [] all = refl
 none_at k (x ∷ xs) all = ap (λ b. cond b (x ∷ rows_at k xs) (rows_at k xs)) all.0 ∙ none_at k xs all.1
 
-implied : (P Q : Row → Type 0) → ((x : Row) → P x → Q x) → (xs : List Row) → AllByRecursion P xs → AllByRecursion Q xs
-implied P Q f [] all = tt
-implied P Q f (x ∷ xs) all = (f x all.0, implied P Q f xs all.1)
-
 both : (P Q R : Row → Type 0) → ((x : Row) → P x → Q x → R x) → (xs : List Row) → AllByRecursion P xs → AllByRecursion Q xs → AllByRecursion R xs
 both P Q R f [] p q = tt
 both P Q R f (x ∷ xs) p q = (f x p.0 q.0, both P Q R f xs p.1 q.1)
@@ -139,7 +132,7 @@ only_ones : (rows : List Row) → IsRising rows → AllByRecursion (λ g. rows_a
 only_ones [] up = tt
 only_ones (x ∷ xs) up = (
   ap (λ o. cond (is_eq o) (x ∷ rows_at x.key xs) (rows_at x.key xs)) (itself x.key)
-      ∙ ap (λ l. x ∷ l) (none_at x.key xs (implied (λ y. key_cmp x.key y.key ≡ Less) (λ y. eq_by_cmp key_cmp x.key y.key ≡ false) (λ y h. above_differs x.key x.key y.key (itself x.key) h) xs up.0)),
+      ∙ ap (λ l. x ∷ l) (none_at x.key xs (AllByRecursion-implied (λ y. key_cmp x.key y.key ≡ Less) (λ y. eq_by_cmp key_cmp x.key y.key ≡ false) (λ y h. above_differs x.key x.key y.key (itself x.key) h) xs up.0)),
   both (λ y. key_cmp x.key y.key ≡ Less) (λ g. rows_at g.key xs ≡ g ∷ []) (λ g. rows_at g.key (x ∷ xs) ≡ g ∷ [])
       (λ g less one. ap (λ o. cond (is_eq o) (x ∷ rows_at g.key xs) (rows_at g.key xs)) (less_back x.key g.key less) ∙ one) xs up.0 (only_ones xs up.1),
 )
@@ -189,7 +182,7 @@ module _ (q : Asked) (rows : List Row) where
   all_groups : map (group q rows) (groups_of q (dimensions_by q.shape) (selected q rows)) ≡ map result_row (partial q rows)
   all_groups =
       ap (map (group q rows)) (sym keys_of_partial)
-      ∙ each_result (partial q rows) (implied (λ g. rows_at g.key (partial q rows) ≡ g ∷ []) (λ g. group q rows g.key ≡ result_row g) (group_is q rows) (partial q rows) (only_ones (partial q rows) (IsRising-rollup (kinds_in q.aggregations) (map (alone q) (selected q rows)))))
+      ∙ each_result (partial q rows) (AllByRecursion-implied (λ g. rows_at g.key (partial q rows) ≡ g ∷ []) (λ g. group q rows g.key ≡ result_row g) (group_is q rows) (partial q rows) (only_ones (partial q rows) (IsRising-rollup (kinds_in q.aggregations) (map (alone q) (selected q rows)))))
 
   -- ---- buckets that are filled
 

@@ -3,7 +3,7 @@ use Rattle.std.proofs.Common.{◌≡◌, ◌∙◌, sym, refl, ap, subst, ℤ, p
 use Rattle.std.proofs.lemmas.Int.{ints}
 use Rattle.std.proofs.lemmas.List.{length-map}
 use Rattle.std.proofs.lemmas.List.Folds.{flat_map-map}
-use Rattle.std.specs.List.{All, AllByRecursion, IsDistinct, flat_map}
+use Rattle.std.specs.List.{All, AllByRecursion, flat_map}
 use Rattle.std.specs.Map.{lookup}
 use Rattle.dr_base.specs.declared.key.Key.{Key}
 use Rattle.dr_base.specs.declared.row.Row.{Row}
@@ -23,7 +23,7 @@ use Rattle.dr_agg.specs.Rollup.{rows_at, rollup_onto, add_row}
 use Rattle.dr_agg.proofs.RollupLaws.{IsRollup-rollup, AllByRecursion-add_row}
 use Rattle.dr_schema.specs.declared.schema.Schema.{Schema}
 use Rattle.dr_schema.specs.Fits.{FitsSchema}
-use Rattle.dr_rollup.specs.Entries.{row_of, same_keys}
+use Rattle.dr_rollup.specs.Entries.{row_of}
 use Rattle.dr_rollup.specs.Lookup.{same_parts}
 use Rattle.dr_rollup.specs.Unrolled.{unrolled}
 use Rattle.dr_rollup.proofs.Keys.{parts-same_keys}
@@ -34,15 +34,12 @@ use Rattle.dr_answers.specs.Selection.{selects, selected}
 use Rattle.dr_partial.specs.Grouped.{IsSound, AddsAll, in_order, with_rows}
 use Rattle.dr_partial.specs.Partial.{kinds_in, alone, partial, values_at}
 use Rattle.dr_partial.proofs.Groups.{first_metrics, values-first}
+use Rattle.dr_rollup.proofs.Adding.{no_keys}
 
 -- ---- from no group on
 
-none_apart : IsDistinct same_keys []
-unfolding IsDistinct
-none_apart = tt
-
 pub nothing-sound : (kinds : List Kind) (es : List (Key × List ℤ)) → es ≡ [] → IsSound kinds (map row_of es)
-nothing-sound kinds es none = subst (λ l. IsSound kinds (map row_of l)) (sym none) (record { fits = tt; apart = none_apart })
+nothing-sound kinds es none = subst (λ l. IsSound kinds (map row_of l)) (sym none) (record { fits = tt; apart = no_keys })
 
 pub made : (q : Asked) (es : List (Key × List ℤ)) (rows after : List Row) → es ≡ [] → AddsAll q (map row_of es) rows after → in_order after ≡ partial q rows
 unfolding rollup_onto

@@ -22,7 +22,7 @@ use Rattle.dr_partial.specs.Partial.{kinds_in, alone, partial, IsPartial}
 use Rattle.dr_partial.proofs.Adding.{in_order-rollup}
 use Rattle.dr_partial.proofs.ByColumns.{fits-folds}
 use Rattle.dr_partial.proofs.Moved.{all-moved, partial-moved}
-use Rattle.dr_partial.proofs.Pieces.{onto_append}
+use Rattle.dr_rollup.proofs.Rows.{onto_append}
 
 -- ---- what is so of the groups of a partial result
 

@@ -8,7 +8,7 @@ use Rattle.dr_base.specs.declared.row.Row.{Row}
 use Rattle.dr_agg.specs.declared.kind.Kind.{Kind}
 use Rattle.dr_agg.specs.declared.kind.Kind.TheVariants.{Count, LongSum, LongMin, LongMax}
 use Rattle.dr_agg.specs.Combination.{combine_of, unit_of}
-use Rattle.dr_agg.specs.Rollup.{add_row, rollup_onto}
+use Rattle.dr_agg.specs.Rollup.{rollup_onto}
 use Rattle.dr_ask.specs.declared.column.Column.{Column}
 use Rattle.dr_ask.specs.declared.aggregation.Aggregation.{Aggregation}
 use Rattle.dr_ask.specs.Asked.{Asked, dimensions_by}
@@ -17,11 +17,7 @@ use Rattle.dr_answers.specs.Groups.{group_of}
 use Rattle.dr_answers.specs.Selection.{selects, selected}
 use Rattle.dr_partial.specs.Grouped.{bare, folds_alone, IsSound, Adds, AddsAll, in_order, with_rows}
 use Rattle.dr_partial.specs.Partial.{kinds_in, alone, partial}
-
-pub onto_append : (kinds : List Kind) (rows a b : List Row) → rollup_onto true kinds rows (a ++ b) ≡ rollup_onto true kinds (rollup_onto true kinds rows a) b
-unfolding rollup_onto
-onto_append kinds rows [] b = refl
-onto_append kinds rows (e ∷ a) b = onto_append kinds (add_row true kinds rows e) a b
+use Rattle.dr_rollup.proofs.Rows.{onto_append}
 
 -- the key doesn't matter to what is read
 pub read_bare : (k : Kind) (c : Option Column) (r : Row) → reading_in k c (bare r.metrics) ≡ reading_in k c r

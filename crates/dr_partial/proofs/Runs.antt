@@ -9,7 +9,6 @@ use Rattle.dr_base.specs.declared.key.Key.{Key}
 use Rattle.dr_base.specs.declared.row.Row.{Row}
 use Rattle.dr_agg.specs.declared.kind.Kind.{Kind}
 use Rattle.dr_agg.specs.Combination.{combine_of}
-use Rattle.dr_rollup.specs.Entries.{row_of}
 use Rattle.dr_ask.specs.Asked.{Asked, dimensions_by}
 use Rattle.dr_answers.specs.Fold.{folds}
 use Rattle.dr_answers.specs.Groups.{grouped_values}
@@ -103,11 +102,6 @@ in-run P xs from to i x le lt at all =
     let same : from + (i - from) ≡ i = omega (arith, le) in
     member P (slice_range xs from to) (i - from) x (taken (drop from xs) (to - from) (i - from) (omega (arith, le, lt)) ∙ dropped xs from (i - from) ∙ ap (slice_get xs) same ∙ at) all
 
-pub some-row : {X : Type 0} (xs : List X) (i : ℕ) → i < length xs → (x : X) × (slice_get xs i ≡ Some x)
-some-row [] i lt = absurd (omega (arith, lt))
-some-row (x ∷ xs) zero lt = (x, refl)
-some-row (x ∷ xs) (suc i) lt = some-row xs i (omega (arith, lt))
-
 pub absent : {X : Type 0} (xs : List X) (i : ℕ) → length xs ≤ i → slice_get xs i ≡ None
 absent [] i le = refl
 absent (x ∷ xs) zero le = absurd (omega (arith, le))
@@ -116,8 +110,3 @@ absent (x ∷ xs) (suc i) le = absent xs i (omega (arith, le))
 pub no-bytes : (xs : List ℕ) → (length xs == 0) ≡ true → xs ≡ []
 no-bytes [] h = refl
 no-bytes (x ∷ xs) h = absurd (true≢false (sym h ∙ eqb-suc-zero (length xs)))
-
-pub as-rows : (es : List (Key × List ℤ)) (i : ℕ) (e : Key × List ℤ) → slice_get es i ≡ Some e → slice_get (map row_of es) i ≡ Some (row_of e)
-as-rows [] i e at = absurd (true≢false (sym (ap is_some at)))
-as-rows (x ∷ es) zero e at = ap (λ o. Some (row_of (unwrap_or o e))) at
-as-rows (x ∷ es) (suc i) e at = as-rows es i e at

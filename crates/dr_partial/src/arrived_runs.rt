@@ -1,4 +1,4 @@
-ghost use Rattle.std.specs.Prelude.{◌≡◌, ◌<◌, ◌≤◌, ◌∷◌, [], true, None, length, map, IfOk, OnOk, slice_range};
+ghost use Rattle.std.specs.Prelude.{◌≡◌, ◌<◌, ◌≤◌, [], true, None, length, map, IfOk, OnOk, slice_range};
 ghost use Rattle.std.specs.List.{AllByRecursion};
 ghost use Rattle.dr_ask.specs.Asked.{dimensions_by};
 ghost use Rattle.dr_ask.specs.Once.{asked_once};

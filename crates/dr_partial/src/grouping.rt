@@ -1,5 +1,4 @@
-ghost use Rattle.std.specs.Prelude.{◌≡◌, ◌++◌, ◌∷◌, [], ◌<◌, None, true, map, length, IfOk, IfSome, OnOk};
-ghost use Rattle.dr_agg.specs.Combination.{combine_columns, FitsColumns};
+ghost use Rattle.std.specs.Prelude.{◌≡◌, ◌++◌, ◌∷◌, [], ◌<◌, None, true, map, length, IfSome, OnOk};
 ghost use Rattle.dr_agg.specs.Rollup.{AllFit};
 ghost use Rattle.dr_answers.specs.Groups.{grouped_values};
 ghost use Rattle.dr_rollup.specs.Entries.{row_of, HasKeyAt, NoneHas};

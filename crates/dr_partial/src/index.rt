@@ -1,4 +1,4 @@
-ghost use Rattle.std.specs.Prelude.{◌≡◌, ◌<◌, ◌≤◌, length, map, IfOk, OnOk, slice_range};
+ghost use Rattle.std.specs.Prelude.{◌<◌, ◌≤◌, length, map, IfOk, OnOk, slice_range};
 ghost use Rattle.std.specs.List.{AllByRecursion};
 ghost use Rattle.dr_time.specs.Instant.{IsInstant};
 ghost use Rattle.dr_ask.specs.Once.{asked_once};

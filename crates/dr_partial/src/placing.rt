@@ -1,5 +1,5 @@
 ghost use Rattle.std.specs.Prelude.{◌≡◌, ◌<◌, ◌∷◌, ◌++◌, [], length, map, IfSome, IfOk, OnOk};
-ghost use Rattle.dr_agg.specs.Combination.{combine_columns, FitsColumns};
+ghost use Rattle.dr_agg.specs.Combination.{combine_columns};
 ghost use Rattle.dr_agg.specs.Rollup.{AllFit};
 ghost use Rattle.dr_ask.specs.Once.{asked_once};
 ghost use Rattle.dr_answers.specs.Fold.{folds};

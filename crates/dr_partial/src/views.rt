@@ -1,4 +1,4 @@
-ghost use Rattle.std.specs.Prelude.{◌≡◌, ◌<◌, ◌≤◌, ◌∷◌, [], ℕ, true, length, map, OnOk};
+ghost use Rattle.std.specs.Prelude.{◌≡◌, ◌<◌, ◌≤◌, ◌∷◌, [], ℕ, length, map, OnOk};
 ghost use Rattle.dr_ask.specs.Once.{asked_once};
 ghost use Rattle.dr_answers.specs.Groups.{bucket as bucket_of};
 ghost use Rattle.dr_image.specs.Table.{rows_of, row_at};

@@ -3,7 +3,6 @@ ghost use Rattle.dr_ask.specs.Asked.{dimensions_by};
 ghost use Rattle.dr_ask.specs.Once.{asked_once};
 ghost use Rattle.dr_answers.specs.Fold.{folds};
 ghost use Rattle.dr_answers.specs.Groups.{bucket};
-ghost use Rattle.dr_answers.specs.Selection.{selects};
 ghost use Rattle.dr_image.specs.Table.{rows_of};
 ghost use Rattle.dr_columns.specs.Rows.{key_at, rows_between};
 ghost use Rattle.dr_columns.specs.Told.{tells};

@@ -85,7 +85,7 @@ module _ (s : Schema) (limit : ℕ) (en : HeldRows) (h : Holds s limit en) where
             rows = ap (rollup s.rollup (kinds_of s)) after ∙ rows-added (kinds_of s) limit s.rollup en.rows (unrolled s e) h.sound new;
           }
 
-no_keys : IsDistinct same_keys []
+pub no_keys : IsDistinct same_keys []
 unfolding IsDistinct
 no_keys = tt
 

@@ -64,7 +64,7 @@ member [] i lt = absurd (omega arith)
 member (x ∷ xs) zero lt = (x, refl)
 member (x ∷ xs) (suc i) lt = member xs i (omega arith)
 
-as_rows : (es : List (Key × List ℤ)) (i : ℕ) (e : Key × List ℤ) → slice_get es i ≡ Some e → slice_get (map row_of es) i ≡ Some (row_of e)
+pub as_rows : (es : List (Key × List ℤ)) (i : ℕ) (e : Key × List ℤ) → slice_get es i ≡ Some e → slice_get (map row_of es) i ≡ Some (row_of e)
 as_rows [] i e at = absurd (true≢false (sym (ap is_some at)))
 as_rows (x ∷ es) zero e at = ap (λ o. Some (row_of (unwrap_or o e))) at
 as_rows (x ∷ es) (suc i) e at = as_rows es i e at

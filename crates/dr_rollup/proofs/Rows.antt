@@ -16,7 +16,7 @@ use Rattle.dr_agg.specs.Combination.{combine_columns}
 use Rattle.dr_agg.specs.Rollup.{rows_at, together, IsInOrder, IsRollup, joined, add_row, rollup_onto, rollup}
 use Rattle.dr_agg.proofs.KeyOrder.{key_cmp_total, itself}
 use Rattle.dr_agg.proofs.ColumnLaws.{combine_columns-assoc}
-use Rattle.dr_agg.proofs.RollupLaws.{rollup_onto_push, IsRollup-rollup, same_rollup, list_any-rollup, IsSound, IsSound-nil, IsSound-add_row, IsSound-rollup_onto, IsInOrder-from_rising}
+use Rattle.dr_agg.proofs.RollupLaws.{rollup_onto_push, IsRollup-rollup, same_rollup, list_any-rollup, IsSound, IsSound-nil, IsSound-add_row, IsSound-rollup_onto, IsInOrder-from_sound}
 use Rattle.dr_agg.proofs.Rearranged.{rollup-IsPermutation}
 use Rattle.dr_agg.proofs.Sorting.{in_order, rows_at-sorted}
 use Rattle.dr_rollup.specs.Entries.{same_keys}
@@ -42,7 +42,7 @@ joined_twice kinds (y ∷ ys) x m =
     ]
     refl
 
-onto_append : (kinds : List Kind) (rows a b : List Row) → rollup_onto true kinds rows (a ++ b) ≡ rollup_onto true kinds (rollup_onto true kinds rows a) b
+pub onto_append : (kinds : List Kind) (rows a b : List Row) → rollup_onto true kinds rows (a ++ b) ≡ rollup_onto true kinds (rollup_onto true kinds rows a) b
 unfolding rollup_onto
 onto_append kinds rows [] b = refl
 onto_append kinds rows (e ∷ a) b = onto_append kinds (add_row true kinds rows e) a b
@@ -127,7 +127,7 @@ none_alike q x [] t all = refl
 none_alike q x (y ∷ xs) t all = ap (λ b. cond b (y ∷ rows_at q xs) (rows_at q xs)) (ap is_eq (key_cmp_total.congr q x.key y.key t) ∙ all.0) ∙ none_alike q x xs t all.1
 
 -- one row of a key stays as it is
-alone : (kinds : List Kind) (q : Key) (es : List Row) → IsDistinct same_keys (map (λ x. x.key) es) → together true kinds (rows_at q es) ≡ rows_at q es
+pub alone : (kinds : List Kind) (q : Key) (es : List Row) → IsDistinct same_keys (map (λ x. x.key) es) → together true kinds (rows_at q es) ≡ rows_at q es
 unfolding IsDistinct
 alone kinds q [] d = refl
 alone kinds q (x ∷ xs) d =
@@ -188,11 +188,7 @@ sorted-apart combines kinds es d =
 
 -- ---- a row that is added to a rollup
 
-in_order_from_sound : (combines : Bool) (rows : List Row) → IsSound combines rows → IsInOrder rows
-in_order_from_sound true rows sound = IsInOrder-from_rising rows sound
-in_order_from_sound false rows sound = sound
-
 pub added_in_order : (combines other : Bool) (kinds more : List Kind) (es rows : List Row) (r : Row) → rows ≡ rollup combines kinds es → other ≡ combines → IsInOrder (add_row other more rows r)
 added_in_order combines other kinds more es rows r e same =
     let sound = subst (IsSound combines) (sym e) (IsSound-rollup_onto combines kinds [] es (IsSound-nil combines)) in
-    subst (λ b. IsInOrder (add_row b more rows r)) (sym same) (in_order_from_sound combines (add_row combines more rows r) (IsSound-add_row combines more rows r sound))
+    subst (λ b. IsInOrder (add_row b more rows r)) (sym same) (IsInOrder-from_sound combines (add_row combines more rows r) (IsSound-add_row combines more rows r sound))

@@ -1,4 +1,4 @@
-ghost use Rattle.std.specs.Prelude.{◌≡◌, ◌++◌, IfOk, OnOk, Some};
+ghost use Rattle.std.specs.Prelude.{◌≡◌, IfOk, OnOk, Some};
 ghost use Rattle.dr_agg.specs.Combination.{column};
 ghost use Rattle.dr_filter.specs.Condition.{condition_in, matches};
 ghost use Rattle.dr_filter.specs.Match.{value_at};

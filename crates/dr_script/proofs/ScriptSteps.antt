@@ -20,15 +20,12 @@ use Rattle.dr_script.specs.Commands.{Answered, answered, refused_by}
 use Rattle.dr_script.specs.Script.{any_refused, first_step, text_of, Moves, ScriptFrom, ScriptAfter, Script}
 use Rattle.dr_script.specs.Runs.{AllReads, Answering, AnswersAll, AnswersFirst, AnswersWhole, BreaksOff, Ends, OneMore, ReadingFails, ReadingHolds, RunsScript, WhereOpen}
 use Rattle.dr_script.specs.Replies.{AnswersFrom, Opens, OpensScript, RunsOn, seen}
+use Rattle.dr_base.proofs.Truths.{or_false}
 
 -- ---- texts
 
 pub text_of-append : (made : List Answered) (a : Answered) → text_of (made ++ a ∷ []) ≡ text_of made ++ (a.line ++ 10 ∷ [])
 text_of-append made a = flat_map-append (λ (x : Answered). x.line ++ 10 ∷ []) made (a ∷ []) ∙ ap (λ l. text_of made ++ l) (append-nil (a.line ++ 10 ∷ []))
-
-or_false : (b : Bool) → (b || false) ≡ b
-or_false true = refl
-or_false false = refl
 
 any_refused-append : (made : List Answered) (a : Answered) → any_refused (made ++ a ∷ []) ≡ (any_refused made || a.is_refused)
 any_refused-append made a = list_any-append (λ (x : Answered). x.is_refused) made (a ∷ []) ∙ ap (λ b. any_refused made || b) (or_false a.is_refused)

@@ -16,6 +16,7 @@ use Rattle.dr_image.specs.Opening.{is_below}
 use Rattle.dr_image.specs.Image.{dictionary_of, values_of}
 use Rattle.dr_image.proofs.DictionaryLemmas.{dictionary_is, same_back}
 use Rattle.dr_segment.specs.Columns.{IsDistinctOf}
+use Rattle.dr_base.proofs.Truths.{or_true, or_false}
 
 -- ---- distinct texts
 
@@ -52,14 +53,6 @@ distinct_more texts values x d fresh = record {
   distinct = distinct_push texts x d.distinct fresh;
   alike = λ t. any_push t texts x ∙ ap (λ b. b || bytes_eq t x) (d.alike t) ∙ sym (any_push t values x);
 }
-
-or_true : (b : Bool) → (b || true) ≡ true
-or_true true = refl
-or_true false = refl
-
-or_false : (b : Bool) → (b || false) ≡ b
-or_false true = refl
-or_false false = refl
 
 -- one that was there
 pub distinct_same : (texts values : List (List ℕ)) (x : List ℕ) → IsDistinctOf texts values → list_any (bytes_eq x) texts ≡ true → IsDistinctOf texts (values ++ x ∷ [])

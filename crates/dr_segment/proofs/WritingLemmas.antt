@@ -21,6 +21,7 @@ use Rattle.dr_segment.specs.Heads.{two_bytes, wide_bytes, head_bytes}
 use Rattle.dr_image.specs.Sealed.{Sealed}
 use Rattle.dr_image.specs.Table.{Column, Table}
 use Rattle.dr_image.specs.Image.{joined, bytes_of_column, head_of, data_of, bytes_of, table_of, image, magic, with_digest}
+use Rattle.dr_image.proofs.EncodedLemmas.{length-head}
 
 -- a number, of which the low bytes are written
 pub low_bytes : (n : ℕ) → four_bytes (n % 4294967296) ≡ four_bytes n
@@ -132,10 +133,6 @@ ends_step f base out xs i d end next lt so_far adds =
     subst (λ yss. EndsSoFar base (out ++ four_bytes next) yss next) (sym (map_more f xs i d lt)) (ends_so_far base out (map f (take i xs)) (f (get_or xs i d)) end next so_far adds)
 
 -- ---- the length
-
-length-head : (t : Table) → length (head_of t) ≡ 48
-unfolding head_of eight_bytes
-length-head t = refl
 
 pub length-bytes : (t : Table) → length (bytes_of t) ≡ 80 + length (data_of t)
 unfolding bytes_of

@@ -15,7 +15,8 @@ use Rattle.dr_time.specs.Interval.{holds_time, is_empty, first_time, first_time_
 use Rattle.dr_time.specs.Union.{HoldsAll, union_holds}
 use Rattle.dr_time.specs.Joined.{AreApart, Rise, HoldSame, longer}
 use Rattle.dr_time.specs.Laws.{IsFirstTime}
-use Rattle.dr_time.proofs.UnionLemmas.{IsFirstTime-same}
+use Rattle.dr_time.proofs.UnionLemmas.{IsFirstTime-same, either}
+use Rattle.std.proofs.lemmas.Bool.{or_right}
 
 -- ---- the first time is one
 
@@ -101,17 +102,13 @@ last_started t (i ∷ is) (suc k) d apart lt low high =
 
 -- ---- the first time
 
-or_elim : {X : Type 0} (a b : Bool) → a || b ≡ true → (a ≡ true → X) → (b ≡ true → X) → X
-or_elim true b e left right = left refl
-or_elim false b e left right = right e
-
 in_low : (s e t : ℤ) → int_le s t && int_lt t e ≡ true → s ≤ℤ t
 in_low s e t h = grind (arith, ints)
 
 held-from : (is : List Interval) (low t : ℤ) → AllByRecursion (λ j. low <ℤ j.start) is → union_holds is t ≡ true → low <ℤ t
 held-from [] low t all h = absurd (cc h)
 held-from (i ∷ is) low t all h =
-    or_elim (int_le i.start t && int_lt t i.end) (union_holds is t) h
+    either (int_le i.start t && int_lt t i.end) (union_holds is t) h
     (λ here. let at = in_low i.start i.end t here in let above_low = all.0 in omega (arith, ints))
     (λ there. held-from is low t all.1 there)
 
@@ -120,7 +117,7 @@ start-first i is apart =
     let some = apart.0 in
     let here : int_le i.start i.start && int_lt i.start i.end ≡ true = grind (arith, ints) in (
       rw here refl,
-      λ t h. or_elim (int_le i.start t && int_lt t i.end) (union_holds is t) h (λ at. in_low i.start i.end t at)
+      λ t h. either (int_le i.start t && int_lt t i.end) (union_holds is t) h (λ at. in_low i.start i.end t at)
           (λ there. let behind = held-from is i.end t apart.1 there in omega (arith, ints)),
     )
 
@@ -361,15 +358,11 @@ sorted-held is js moved t = sym (list_any-IsPermutation (λ i. holds_time i t) i
 
 -- ---- all times from one to another
 
-or_last : (a b : Bool) → b ≡ true → a || b ≡ true
-or_last true b e = refl
-or_last false b e = e
-
 -- what one of them holds is held
 held_by : (is : List Interval) (k : ℕ) (d : Interval) (t : ℤ) → k < length is → holds_time (get_or is k d) t ≡ true → union_holds is t ≡ true
 held_by [] k d t lt h = absurd (omega arith)
 held_by (i ∷ is) zero d t lt h = rw h refl
-held_by (i ∷ is) (suc k) d t lt h = or_last (holds_time i t) (union_holds is t) (held_by is k d t (omega arith) h)
+held_by (i ∷ is) (suc k) d t lt h = or_right (holds_time i t) (union_holds is t) (held_by is k d t (omega arith) h)
 
 not_held : (held : Bool) → (held ≡ true → ⊥) → held ≡ false
 not_held true never = absurd (never refl)

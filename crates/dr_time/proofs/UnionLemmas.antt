@@ -7,6 +7,7 @@ use Rattle.dr_time.specs.declared.interval.Interval.{Interval}
 use Rattle.dr_time.specs.Interval.{holds_time, first_time, first_time_from}
 use Rattle.dr_time.specs.Union.{union_holds, earlier, union_start, union_first_from}
 use Rattle.dr_time.specs.Laws.{IsFirstTime}
+use Rattle.std.proofs.lemmas.Bool.{or_right}
 
 pub IsFirstTime-same : (P Q : ℤ → Bool) (o : Option ℤ) → ((t : ℤ) → P t ≡ Q t) → IsFirstTime P o → IsFirstTime Q o
 IsFirstTime-same P Q None same h = λ t. sym (same t) ∙ h t
@@ -18,10 +19,6 @@ or_false a b e f = rw (e, f) refl
 or_left : (a b : Bool) → a ≡ true → a || b ≡ true
 or_left a b e = rw e refl
 
-or_right : (a b : Bool) → b ≡ true → a || b ≡ true
-or_right true b e = refl
-or_right false b e = e
-
 or_none : (a : Bool) → a ≡ a || false
 or_none true = refl
 or_none false = refl
@@ -31,7 +28,7 @@ or_or true b c = refl
 or_or false b c = refl
 
 -- one of the two passes
-either : {X : Type 0} (a b : Bool) → a || b ≡ true → (a ≡ true → X) → (b ≡ true → X) → X
+pub either : {X : Type 0} (a b : Bool) → a || b ≡ true → (a ≡ true → X) → (b ≡ true → X) → X
 either true b e left right = left refl
 either false b e left right = right e
 

@@ -2,8 +2,8 @@
 use Rattle.std.proofs.Common.{◌≡◌, ◌∙◌, sym, refl, ap, subst, ℕ, ℤ, ◌+◌, ◌≤ℤ◌, ◌<ℤ◌, Bool, true, false, true≢false, cond, List, [], ◌∷◌, ◌++◌, length, map, filter, Option, Some, None, arith}
 use Rattle.std.specs.List.{AllByRecursion}
 use Rattle.std.specs.List.Sorted.{IsStrictlySortedBy}
-use Rattle.std.specs.declared.cmp.Ordering.TheVariants.{Less, Equal, Greater}
-use Rattle.std.specs.Ordering.{int_cmp, int_eq, match_ordering}
+use Rattle.std.specs.declared.cmp.Ordering.TheVariants.{Less, Equal}
+use Rattle.std.specs.Ordering.{int_cmp, int_eq}
 use Rattle.std.proofs.lemmas.Cmp.{int_ranked}
 use Rattle.std.proofs.lemmas.Int.{ints}
 use Rattle.dr_base.specs.declared.event.Event.{Event}
@@ -15,19 +15,12 @@ use Rattle.dr_cuts.specs.declared.range_info.RangeInfo.{RangeInfo}
 use Rattle.dr_cuts.specs.Chunks.{chunk, with_value, values_onto}
 use Rattle.dr_cuts.specs.Segments.{infos, infos_of_cut, sealed_info, open_info}
 use Rattle.dr_cuts.specs.State.{AreCuts, Cut, Range, open_from}
-use Rattle.dr_cuts.proofs.Parts.{int_eq-itself, is_eq-true, rising-values}
+use Rattle.dr_cuts.proofs.Parts.{int_eq-itself, is_eq-true, rising-values, All-with_value}
 use Rattle.dr_timeline.specs.Numbered.{next_place, numbered}
 use Rattle.dr_timeline.specs.Scanning.{segments_behind, segment_at}
 use Rattle.dr_timeline.proofs.Pinning.{rows_of_range}
 
 -- ---- the chunks of events are instants
-
-All-with_value : (P : ℤ → Type 0) (k : ℤ) (ks : List ℤ) → P k → AllByRecursion P ks → AllByRecursion P (with_value k ks)
-unfolding with_value
-All-with_value P k [] p h = (p, tt)
-All-with_value P k (j ∷ js) p h =
-    elim (int_cmp k j) as (λ o. AllByRecursion P (match_ordering o (k ∷ j ∷ js) (j ∷ js) (j ∷ with_value k js)))
-    [ Less ↦ (p, h) | Equal ↦ h | Greater ↦ (h.0, All-with_value P k js p h.1) ]
 
 instants-onto : (schema : Schema) (ks : List ℤ) (es : List Event) → AllByRecursion IsInstant ks → AllByRecursion (FitsSchema schema) es → AllByRecursion IsInstant (values_onto (chunk schema) ks es)
 unfolding values_onto

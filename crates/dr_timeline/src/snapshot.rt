@@ -1,4 +1,4 @@
-ghost use Rattle.std.specs.Prelude.{◌≡◌, ◌<◌, ◌↔◌, ◌++◌, IfErr, IfOk, IsTrue, List, true, length, map, option_map, slice_get};
+ghost use Rattle.std.specs.Prelude.{◌≡◌, ◌<◌, ◌↔◌, ◌++◌, IfErr, IsTrue, List, true, length, map, option_map, slice_get};
 ghost use Rattle.dr_base.specs.declared.event.Event.{Event};
 ghost use Rattle.dr_answers.specs.AnswerRefusal.{Answers};
 ghost use Rattle.dr_answers.specs.Answer.{answer};

@@ -2,7 +2,7 @@ use Rattle.std.proofs.Common.{◌∙◌, sym, ap, ◌&&◌, ◌||◌, not, map}
 use Rattle.dr_filter.specs.Condition.{condition_in, conditions_in, members_of, ranges, every_matches, some_matches}
 use Rattle.dr_filter.specs.LookUps.{as_test, as_range, tests_in, some_holds}
 use Rattle.dr_filter.proofs.LookedUp.{some_matches-members, some_matches-ranges, every_matches-denied, every_matches-ranges}
-use Rattle.dr_filter.proofs.Truths.{or_regroups}
+use Rattle.dr_base.proofs.Truths.{or_regroups}
 use Rattle.dr_columns.specs.Rows.{key_at}
 use Rattle.dr_columns.proofs.NarrowLemmas.{neither, narrowed-thrice}
 use Rattle.dr_columns.proofs.filtering.+narrowing.Goals as goal

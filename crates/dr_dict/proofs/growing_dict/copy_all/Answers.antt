@@ -1,5 +1,4 @@
-use Rattle.std.proofs.Common.{◌≡◌, ◌∙◌, ◌<◌, ap, sym, take, length, get_or, subst, bytes_eq, if◌then◌else◌, ◌++◌, ◌∷◌, []}
-use Rattle.std.specs.List.{list_any}
+use Rattle.std.proofs.Common.{◌≡◌, ◌<◌, ap, take, length, get_or, if◌then◌else◌, ◌++◌, ◌∷◌, []}
 use Rattle.dr_dict.proofs.Texts.{distinct-before}
 use Rattle.dr_dict.proofs.SortedTexts.{take-one_more}
 use Rattle.dr_dict.proofs.growing_dict.copy_all.Goals as goal

@@ -1,4 +1,4 @@
-use Rattle.std.proofs.Common.{◌≡◌, ◌∙◌, ◌≤◌, ◌<◌, ap, sym, arith, map, take, length, get_or, subst, slice_get, Some}
+use Rattle.std.proofs.Common.{◌≡◌, ◌∙◌, ◌≤◌, ◌<◌, sym, arith, map, take, length, get_or, subst, slice_get, Some}
 use Rattle.std.proofs.lemmas.List.{take_all}
 use Rattle.dr_dict.specs.Sorted.{IsSortedOf, IsRenumbering}
 use Rattle.dr_dict.proofs.SortedTexts.{sorted-contains, place-fits, places_pushed, sorted-unique, take-one_more}

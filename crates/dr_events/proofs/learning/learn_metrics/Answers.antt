@@ -3,7 +3,8 @@ use Rattle.std.proofs.lemmas.List.{take_more}
 use Rattle.dr_schema.specs.declared.metric.Metric.{Metric}
 use Rattle.dr_events.specs.declared.input.Input.{Input}
 use Rattle.dr_events.specs.Scalars.{IsPlaceOf}
-use Rattle.dr_events.proofs.MoreNames.{more-then, zip_pushed, read-more}
+use Rattle.dr_events.proofs.MoreNames.{more-then, read-more}
+use Rattle.dr_dict.proofs.SortedTexts.{places_pushed}
 use Rattle.dr_events.proofs.learning.learn_metrics.Goals as goal
 
 pub loop-metric-preserved : goal.loop-metric-preserved
@@ -17,6 +18,6 @@ loop-metric-preserved c =
     let input : Input = record { kind = item.kind; field = c.in_ok-field.field } in
     let taken : take (l.metric-index + 1) metrics ≡ before ++ item ∷ [] = take_more metrics l.metric-index item c.loop-metric-test.true ∙ ap (λ x. before ++ x ∷ []) (sym c.metric-item.is) in
     let kept = read-more l.names names before l.inputs.items more l.invariant.0 in (
-      rw (c.in_ok-push.ensures.items, taken) (zip_pushed (λ (metric : Metric) (input : Input). (input.kind ≡ metric.kind) × IsPlaceOf names metric.field input.field) before l.inputs.items item input kept (refl, c.in_ok-field.ensures.read)),
+      rw (c.in_ok-push.ensures.items, taken) (places_pushed (λ (metric : Metric) (input : Input). (input.kind ≡ metric.kind) × IsPlaceOf names metric.field input.field) before l.inputs.items item input kept (refl, c.in_ok-field.ensures.read)),
       more-then c.args.names.now l.names names l.invariant.1 more,
     )

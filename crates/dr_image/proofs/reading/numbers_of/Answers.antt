@@ -1,4 +1,4 @@
-use Rattle.std.proofs.Common.{◌≡◌, sym, ap, arith}
+use Rattle.std.proofs.Common.{sym, ap, arith}
 use Rattle.dr_image.specs.Table.{Column}
 use Rattle.dr_image.specs.Parts.{part_seen}
 use Rattle.dr_image.proofs.ReadingLemmas.{dims_seen, column_is}

@@ -4,7 +4,6 @@ use Rattle.std.proofs.lemmas.Option.{slice_get-get_or}
 use Rattle.dr_base.specs.declared.row.Row.{Row}
 use Rattle.dr_base.specs.Order.{key_cmp}
 use Rattle.dr_agg.specs.Combination.{combine_columns}
-use Rattle.dr_agg.specs.Rollup.{joined}
 use Rattle.dr_merge.proofs.Adding.{added_first, added_behind, added_into}
 use Rattle.dr_merge.proofs.combining.add_last.Goals as goal
 

@@ -1,4 +1,4 @@
-use Rattle.std.proofs.Common.{◌≡◌, ◌∙◌, sym, ap, ◌<◌, List, [], ◌∷◌, ◌++◌, length, take, append_assoc, arith}
+use Rattle.std.proofs.Common.{◌∙◌, sym, ap, ◌<◌, List, [], ◌∷◌, ◌++◌, length, take, append_assoc, arith}
 use Rattle.dr_base.specs.declared.row.Row.{Row}
 use Rattle.dr_fragment.proofs.SameRows.{one_more_taken}
 use Rattle.dr_merge.proofs.inputs.push_rows.Goals as goal

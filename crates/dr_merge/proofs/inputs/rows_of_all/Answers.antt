@@ -1,4 +1,4 @@
-use Rattle.std.proofs.Common.{◌≡◌, ◌∙◌, sym, ap, ◌++◌}
+use Rattle.std.proofs.Common.{◌∙◌, sym, ap, ◌++◌}
 use Rattle.dr_merge.proofs.Works.{all_rows_more}
 use Rattle.dr_merge.proofs.inputs.rows_of_all.Goals as goal
 

@@ -1,4 +1,4 @@
-use Rattle.std.proofs.Common.{◌≡◌, ◌∙◌, sym, ap, subst, map, List}
+use Rattle.std.proofs.Common.{◌≡◌, ◌∙◌, sym, ap, subst, List}
 use Rattle.dr_base.specs.declared.row.Row.{Row}
 use Rattle.dr_agg.specs.declared.kind.Kind.{Kind}
 use Rattle.dr_agg.specs.Rollup.{rollup, all_rows, IsInOrder}

@@ -2,7 +2,6 @@ use Rattle.std.proofs.Common.{rules, subst}
 use Rattle.dr_workers.specs.Shared.{IsFoldOf}
 use Rattle.dr_scatter.specs.Folds.{AreFolds}
 use Rattle.dr_scatter.proofs.scattering.scatter.Goals as goal
-use Rattle.dr_scatter.proofs.scattering.scatter.Goals.{In_ok-merged}
 
 pub merged-requires : goal.merged-requires
 merged-requires g c =

@@ -1,6 +1,6 @@
 use Rattle.std.proofs.Common.{◌∙◌, sym, ap, ◌&&◌}
 use Rattle.dr_filter.specs.Match.{lies_within, not_before, not_after}
-use Rattle.dr_filter.proofs.Truths.{and_regroups}
+use Rattle.dr_base.proofs.Truths.{and_regroups}
 use Rattle.dr_filter.proofs.bounds.Bounds.narrow.Goals as goal
 
 pub returns : goal.returns

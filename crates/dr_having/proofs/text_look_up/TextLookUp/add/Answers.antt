@@ -1,4 +1,4 @@
-use Rattle.dr_having.proofs.Texts.{found-added}
+use Rattle.dr_dict.proofs.AddedTexts.{found-added}
 use Rattle.dr_having.proofs.text_look_up.TextLookUp.add.Goals as goal
 
 pub returns-clause-more : goal.returns-clause-more

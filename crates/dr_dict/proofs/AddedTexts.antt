@@ -1,9 +1,9 @@
--- Texts in a set, seen by their bytes.
+-- A text that was added to a set.
 use Rattle.std.proofs.Common.{◌≡◌, ◌∙◌, sym, refl, ap, Bool, true, false, not, ◌||◌, ℕ, List, [], ◌∷◌, ◌++◌, bytes_eq}
 use Rattle.std.specs.List.{list_any}
 use Rattle.std.specs.Cmp.Lexicographic.{bytes_decides}
 use Rattle.std.proofs.lemmas.List.Folds.{list_any-append}
-use Rattle.dr_having.proofs.Truths.{or_ends}
+use Rattle.dr_base.proofs.Truths.{or_ends}
 
 -- a text that is among them already lets no other through
 there_already : (texts : List (List ℕ)) (text value : List ℕ) → list_any (bytes_eq text) texts ≡ true → list_any (bytes_eq value) texts ≡ (list_any (bytes_eq value) texts || bytes_eq value text)

@@ -1,4 +1,4 @@
--- Truths that are told together.
+-- Laws of `and` and `or` of truth values.
 use Rattle.std.proofs.Common.{◌≡◌, refl, Bool, true, false, not, ◌||◌, ◌&&◌}
 
 pub or_regroups : (a b c : Bool) → (a || (b || c)) ≡ ((a || b) || c)
@@ -49,3 +49,24 @@ and_ends false b = refl
 pub neither_and : (a b c : Bool) → (not a && (not b && c)) ≡ (not (a || b) && c)
 neither_and true b c = refl
 neither_and false b c = refl
+
+pub and_true : (a : Bool) → (a && true) ≡ a
+and_true true = refl
+and_true false = refl
+
+pub or_true : (a : Bool) → (a || true) ≡ true
+or_true true = refl
+or_true false = refl
+
+pub or_false : (a : Bool) → (a || false) ≡ a
+or_false true = refl
+or_false false = refl
+
+pub or_twice : (a b : Bool) → (a || b) ≡ (a || (a || b))
+or_twice true b = refl
+or_twice false b = refl
+
+pub or_moves_out : (a b c : Bool) → ((a || b) || c) ≡ (b || (a || c))
+or_moves_out true true c = refl
+or_moves_out true false c = refl
+or_moves_out false b c = refl
