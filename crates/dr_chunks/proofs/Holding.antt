@@ -20,8 +20,7 @@ use Rattle.dr_cuts.specs.State.{Range, Tile, open_from, open_events, events_of}
 use Rattle.dr_chunks.specs.Ranges.{fragment_of}
 use Rattle.dr_merge.specs.Joined.{joined}
 use Rattle.dr_chunks.specs.Held.{range_of, ranges_of, index_of, Holds, with_one, with_open_sealed, open_fragment}
-use Rattle.dr_cuts.proofs.Each.{All-left, All-right, All-append}
-use Rattle.dr_ask.proofs.ReadSteps.{AllByRecursion-push}
+use Rattle.dr_cuts.proofs.Each.{All-push, All-left, All-right, All-append}
 use Rattle.dr_cuts.proofs.Tiles.{end_from, tile-end, tile-start, tile-more, tile-append, tile-right, tile-left, tile-some, end_from-append, joined-events, drop-push, events_of-push}
 
 -- ---- rows of events
@@ -104,7 +103,7 @@ holds-sealed schema es serial c some held =
     record {
       events = held.events;
       tiled = subst (λ (rs : List Range). Tile 0 c.events rs) (sym ranges) (tile-append 0 c.events (ranges_of c) (range_of new ∷ []) held.tiled (refl, some, le_itself c.events));
-      sealed = AllByRecursion-push (λ s. s.fragment ≡ fragment_of schema es c.start (range_of s)) c.sealed new held.sealed
+      sealed = All-push (λ s. s.fragment ≡ fragment_of schema es c.start (range_of s)) c.sealed new held.sealed
           (ap (λ (rs : List Row). record { chunk = c.start; from = from; to = c.events; rows = rs }) (ap (λ (x : OpenRows). x.rows) held.open_range ∙ ap (rolled_up schema) (sym all)));
       open_range = ap (λ (x : OpenRows). with_rows x []) held.open_range ∙ ap (λ (m : List Event). index_of schema (rolled_up schema m)) (sym (ap (λ (n : ℕ). drop n l) last ∙ none));
     }

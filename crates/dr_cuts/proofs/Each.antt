@@ -1,11 +1,14 @@
 -- What holds of each item of a list.
 use Rattle.std.proofs.Common.{ℕ, ◌<◌, List, [], ◌∷◌, ◌++◌, length, get_or, zero, suc, arith}
 use Rattle.std.specs.List.{AllByRecursion}
-use Rattle.dr_ask.proofs.ReadSteps.{AllByRecursion-push}
+
+pub All-push : {A : Type 0} (P : A → Type 0) (xs : List A) (x : A) → AllByRecursion P xs → P x → AllByRecursion P (xs ++ x ∷ [])
+All-push P [] x h p = (p, tt)
+All-push P (y ∷ ys) x h p = (h.0, All-push P ys x h.1 p)
 
 -- the same, by a name that a function can cite
 pub all_push : {A : Type 0} (P : A → Type 0) (xs : List A) (x : A) → AllByRecursion P xs → P x → AllByRecursion P (xs ++ x ∷ [])
-all_push P xs x all here = AllByRecursion-push P xs x all here
+all_push P xs x all here = All-push P xs x all here
 
 pub All-left : {A : Type 0} (P : A → Type 0) (a b : List A) → AllByRecursion P (a ++ b) → AllByRecursion P a
 All-left P [] b h = tt

@@ -23,8 +23,7 @@ use Rattle.dr_timeline.specs.Kept.{Keeps, HasTexts, IsNumbered}
 use Rattle.dr_timeline.proofs.Numbering.{numbered-chunk_at, numbered-sealed, numbered-grown}
 use Rattle.dr_cuts.proofs.Parts.{has, part-none, values_onto-push, rising-values, Covers-values_onto, int_eq-itself, is_eq-true}
 use Rattle.dr_chunks.proofs.Places.{IsFirst, chunk_at-none}
-use Rattle.dr_cuts.proofs.Each.{All-same}
-use Rattle.dr_ask.proofs.ReadSteps.{AllByRecursion-push}
+use Rattle.dr_cuts.proofs.Each.{All-push, All-same}
 use Rattle.dr_cuts.proofs.Tiles.{end_from, end_from-append, tile-end}
 use Rattle.dr_chunks.proofs.Holding.{holds-other, holds-own, holds-sealed}
 use Rattle.dr_chunks.proofs.Changes.{cuts-at_start, sealed_in-cuts, starts-at_start, starts-here, total-at_start, All-chunk_at, All-at_start}
@@ -186,8 +185,8 @@ keeps-grown schema es cs seals commits e serial kept fits texts room =
     let long : length (es ++ e ∷ []) ≡ length es + 1 = length_push es e in
     record {
       formed = kept.formed;
-      fit = AllByRecursion-push (FitsSchema schema) es e kept.fit fits;
-      texts = AllByRecursion-push HasTexts es e kept.texts texts;
+      fit = All-push (FitsSchema schema) es e kept.fit fits;
+      texts = All-push HasTexts es e kept.texts texts;
       retained = omega arith;
       starts = starts-at_start schema cs k change (λ d. if-start serial (is_full (with_one e d)) (with_one e d))
           ∙ ap (with_value k) kept.starts ∙ sym (values_onto-push (chunk schema) [] es e);

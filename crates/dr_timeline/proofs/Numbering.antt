@@ -10,8 +10,7 @@ use Rattle.dr_schema.specs.declared.schema.Schema.{Schema}
 use Rattle.dr_merge.specs.declared.purpose.Purpose.{Purpose}
 use Rattle.dr_merge.specs.declared.purpose.Purpose.TheVariants.{Merge, Publish}
 use Rattle.dr_cuts.specs.State.{Range}
-use Rattle.dr_cuts.proofs.Each.{All-left, All-right, All-append, All-same}
-use Rattle.dr_ask.proofs.ReadSteps.{AllByRecursion-push}
+use Rattle.dr_cuts.proofs.Each.{All-push, All-left, All-right, All-append, All-same}
 use Rattle.dr_chunks.specs.declared.chunk.Chunk.{Chunk}
 use Rattle.dr_chunks.specs.declared.sealed_range.SealedRange.{SealedRange}
 use Rattle.dr_chunks.specs.Held.{range_of, cut_of, no_chunk, with_one, with_open_sealed, is_full, grown, with_range, chunk_at}
@@ -38,7 +37,7 @@ numbered-chunk_at schema cs k commits all rising = (All-chunk_at schema (IsNumbe
 pub numbered-sealed : (serial commits : ℕ) (c : Chunk) → IsNumbered commits c → IsNumbered commits (with_open_sealed serial c)
 numbered-sealed serial commits c h = record {
   publications = h.publications;
-  versions = AllByRecursion-push (λ s. s.version ≤ c.publications) c.sealed _ h.versions (zero-least c.publications);
+  versions = All-push (λ s. s.version ≤ c.publications) c.sealed _ h.versions (zero-least c.publications);
 }
 
 numbered-one : (commits : ℕ) (e : Event) (c : Chunk) → IsNumbered commits c → IsNumbered commits (with_one e c)
