@@ -120,7 +120,7 @@ fn at_once<B: Books, R: Threads + Wait + Sync>(
     report.zip(second)
 }
 
-/// What a merger tells that merges or publishes two ranges while another thread uses the node.
+/// What a merger tells that merges or publishes the first of two ranges, or both, while another thread uses the node.
 fn merged<
     A: NodeLedger + Send + Sync,
     B: Ledger + Send + Sync,
@@ -133,7 +133,7 @@ fn merged<
     spec: IngestSpec,
     blanks: ((Blank, Blank), (Blank, Blank)),
     while_asked: bool,
-    purpose: Purpose,
+    named: (usize, Purpose),
     beside: Beside,
 ) -> Option<Seen>
     requires schema { spec ≡ A.schema }
@@ -144,7 +144,7 @@ fn merged<
 {
     let copy = copy_of(&spec)?;
     let (node, seats) = Node::<Two<A, B, C, D>>::new(alloc, spec, blanks).ok()?;
-    merged_by(rt, alloc, &node, &copy, seats, while_asked, purpose, beside)
+    merged_by(rt, alloc, &node, &copy, seats, while_asked, named, beside)
 }
 
 /// The same on a node that was made.
@@ -155,14 +155,14 @@ fn merged_by<B: Books, R: Threads + Wait + Sync>(
     spec: &IngestSpec,
     seats: Vec<Seat<B>>,
     while_asked: bool,
-    purpose: Purpose,
+    named: (usize, Purpose),
     beside: Beside,
 ) -> Option<Seen>
     requires { spec.now ≡ B.schema }
 {
     let (first, mut second) = pair_of(seats)?;
     two_ranges(rt, alloc, node, spec, &mut second)?;
-    let policy = Once::new(while_asked, purpose);
+    let policy = Once::new(while_asked, named);
     let (report, mut seat) = at_once(rt, alloc, node, spec, &policy, beside, first, second)?;
     let snapshot = node.pin(rt, &mut seat).ok()?;
     Some(Seen {
@@ -177,16 +177,16 @@ fn told<R: Threads + Wait + Sync>(
     rt: &R,
     alloc: Global,
     while_asked: bool,
-    purpose: Purpose,
+    named: (usize, Purpose),
     beside: Beside,
 ) -> Option<Seen> {
     let spec = new_spec(alloc)?;
-    merged::<Brand, Brand, Brand, Brand, R>(rt, alloc, spec, blanks(), while_asked, purpose, beside)
+    merged::<Brand, Brand, Brand, Brand, R>(rt, alloc, spec, blanks(), while_asked, named, beside)
 }
 
 #[test]
 fn an_event_is_accepted_while_the_policy_is_asked(rt: HostRuntime) {
-    let Some(told) = told(&rt, rt.alloc(), true, Purpose::Merge, Beside::Accepts) else {
+    let Some(told) = told(&rt, rt.alloc(), true, (2, Purpose::Merge), Beside::Accepts) else {
         panic!(rt; "no answer");
     };
     assert!(rt; !told.late);
@@ -196,7 +196,7 @@ fn an_event_is_accepted_while_the_policy_is_asked(rt: HostRuntime) {
 
 #[test]
 fn an_event_is_accepted_while_a_job_is_planned(rt: HostRuntime) {
-    let Some(told) = told(&rt, rt.alloc(), false, Purpose::Merge, Beside::Accepts) else {
+    let Some(told) = told(&rt, rt.alloc(), false, (2, Purpose::Merge), Beside::Accepts) else {
         panic!(rt; "no answer");
     };
     assert!(rt; !told.late);
@@ -205,17 +205,17 @@ fn an_event_is_accepted_while_a_job_is_planned(rt: HostRuntime) {
 }
 
 #[test]
-fn what_a_policy_publishes_has_a_version(rt: HostRuntime) {
-    let Some(told) = told(&rt, rt.alloc(), true, Purpose::Publish, Beside::Accepts) else {
+fn just_what_a_policy_publishes_has_a_version(rt: HostRuntime) {
+    let Some(told) = told(&rt, rt.alloc(), true, (1, Purpose::Publish), Beside::Accepts) else {
         panic!(rt; "no answer");
     };
     assert!(rt; told.report.commits == 1 && told.report.stale == 0);
-    assert!(rt; told.sealed == 1 && told.version == 1);
+    assert!(rt; told.sealed == 2 && told.version == 1);
 }
 
 #[test]
 fn a_job_is_stale_once_another_thread_published_its_range(rt: HostRuntime) {
-    let Some(told) = told(&rt, rt.alloc(), false, Purpose::Merge, Beside::Publishes) else {
+    let Some(told) = told(&rt, rt.alloc(), false, (2, Purpose::Merge), Beside::Publishes) else {
         panic!(rt; "no answer");
     };
     assert!(rt; !told.late);

@@ -15,14 +15,14 @@ pub fn wait_for(flag: &AtomicBool) -> bool {
     false
 }
 
-/// A policy that names the first two ranges once, to be merged or published, and stops its merger at its next turn. It is held until another thread has
-/// answered, while it is asked or once the job is planned.
+/// A policy that names the first ranges once, to be merged or published, and stops its merger at its next turn. It is held until
+/// another thread has answered, while it is asked or once the job is planned.
 #[derive(Drop)]
 pub struct Once {
     /// What its merger is stopped by.
     pub stop: Stop,
     while_asked: bool,
-    purpose: Purpose,
+    named: (usize, Purpose),
     asked: AtomicBool,
     /// Whether it is held, or was.
     pub entered: AtomicBool,
@@ -33,11 +33,12 @@ pub struct Once {
 }
 
 impl Once {
-    pub fn new(while_asked: bool, purpose: Purpose) -> Once {
+    /// A policy that names so many ranges, and for what.
+    pub fn new(while_asked: bool, named: (usize, Purpose)) -> Once {
         Once {
             stop: Stop::new(),
             while_asked,
-            purpose,
+            named,
             asked: AtomicBool::new(false),
             entered: AtomicBool::new(false),
             answered: AtomicBool::new(false),
@@ -61,7 +62,8 @@ impl Policy for Once {
         if self.while_asked {
             self.hold();
         }
-        Some((DAY, 0, 2, self.purpose))
+        let (count, purpose) = self.named;
+        Some((DAY, 0, count, purpose))
     }
 
     fn planned(&self) {
