@@ -206,7 +206,13 @@ fn an_event_is_accepted_while_a_job_is_planned(rt: HostRuntime) {
 
 #[test]
 fn just_what_a_policy_publishes_has_a_version(rt: HostRuntime) {
-    let Some(told) = told(&rt, rt.alloc(), true, (1, Purpose::Publish), Beside::Accepts) else {
+    let Some(told) = told(
+        &rt,
+        rt.alloc(),
+        true,
+        (1, Purpose::Publish),
+        Beside::Accepts,
+    ) else {
         panic!(rt; "no answer");
     };
     assert!(rt; told.report.commits == 1 && told.report.stale == 0);
@@ -215,7 +221,13 @@ fn just_what_a_policy_publishes_has_a_version(rt: HostRuntime) {
 
 #[test]
 fn a_job_is_stale_once_another_thread_published_its_range(rt: HostRuntime) {
-    let Some(told) = told(&rt, rt.alloc(), false, (2, Purpose::Merge), Beside::Publishes) else {
+    let Some(told) = told(
+        &rt,
+        rt.alloc(),
+        false,
+        (2, Purpose::Merge),
+        Beside::Publishes,
+    ) else {
         panic!(rt; "no answer");
     };
     assert!(rt; !told.late);
