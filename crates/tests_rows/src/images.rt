@@ -1,6 +1,6 @@
 use crate::rows::are_those_of_three;
 use dr_base::Row;
-use dr_fragment::Fragment;
+use dr_fragment::{Fragment, SharedFragment};
 use std::alloc::Global;
 use std::test::Fail;
 
@@ -25,5 +25,8 @@ fn a_range_of_an_image_gives_its_rows(rt: HostRuntime) -> Result<(), Fail> {
     let range = Fragment::of_image(bytes)?;
     let rows = rows_of(alloc, &range)?;
     assert!(rt; are_those_of_three(&rows));
+    assert!(rt; range.view().is_some());
+    let shared = SharedFragment::new(alloc, range)?;
+    assert!(rt; shared.view().is_some());
     Ok(())
 }
