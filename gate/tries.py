@@ -39,21 +39,29 @@ class Tries:
         return {it: "it isn't among the functions that the prover says it proved" for it in functions - said.proved}
 
     def run(self):
-        """Tries the edits: those apart from each other at once, then those of which that told nothing, at last each alone."""
+        """Tries the edits, those apart from each other at once."""
         unproved = self.unproved()
         left = [it for it in self.edits if not self.lacks_control(it, unproved)]
-        is_telling = True
-        while is_telling and (batch := apart(left)):
-            said = self.check(batch, {name for it in batch for name in it.functions})
-            told = [it for it in batch if said.refused and self.tell(it, said)]
-            left = [it for it in left if it not in told]
-            is_telling = bool(told)
-        for edit in left:
-            functions = {it for it in edit.functions if it}
-            said = self.check([edit], functions)
-            if not (said.refused and self.tell(edit, said)):
-                self.fail(edit, said)
+        while batch := apart(left):
+            self.settle(batch)
+            left = [it for it in left if it not in batch]
         return self.refused
+
+    def settle(self, batch):
+        """Tries edits in one check, then those of which that told nothing; where it told nothing of any, as where one of them doesn't
+        compile, half of them at a time."""
+        said = self.check(batch, {name for it in batch for name in it.functions})
+        left = [it for it in batch if not (said.refused and self.tell(it, said))]
+        if len(batch) == 1:
+            for it in left:
+                self.fail(it, said)
+        elif len(left) < len(batch):
+            if left:
+                self.settle(left)
+        else:
+            half = len(batch) // 2
+            self.settle(batch[:half])
+            self.settle(batch[half:])
 
     def lacks_control(self, edit, unproved):
         if None in edit.functions:
