@@ -3,4 +3,5 @@ pub mod Texts
 pub mod Patterns
 pub mod Ways
 pub mod Places
+pub mod Overs
 pub mod PieceParts

@@ -4,6 +4,7 @@ use Rattle.std.proofs.lemmas.List.{length-append}
 use Rattle.dr_like.specs.Letters.{Lacks}
 use Rattle.dr_like.specs.Like.{behind_some_run, is_empty, fits}
 use Rattle.dr_like.specs.Left.{IsBehind, IsWalked}
+use Rattle.dr_like.specs.declared.over.Over.{Over}
 use Rattle.dr_like.specs.declared.walked.Walked.{Walked}
 use Rattle.dr_like.specs.declared.walked.Walked.TheVariants.{Behind, Differs, TextEnds}
 use Rattle.dr_like.specs.Pieces.{IsNowhere, IsBehindFirst, IsSameSearch}
@@ -36,13 +37,17 @@ module _ (literal others here behind : List ℕ) (stands : here ≡ literal ++ b
   parts-later d ds lacks differs some =
       λ q. ap (behind_some_run (fits ((literal ++ others) ++ 37 ∷ q))) some ∙ later-more (fits ((literal ++ others) ++ 37 ∷ q)) d ds (sym (ap (fits ((literal ++ others) ++ 37 ∷ q)) some) ∙ parts_differ (37 ∷ q) lacks differs)
 
+  pub parts-none : Lacks 37 literal → ((more : List ℕ) → fits (others ++ more) behind ≡ false) → here ≡ [] → IsNowhere (literal ++ others) here
+  parts-none lacks differs none =
+      λ q. ap (behind_some_run (fits ((literal ++ others) ++ 37 ∷ q))) none ∙ sym (ap (fits ((literal ++ others) ++ 37 ∷ q)) none) ∙ parts_differ (37 ∷ q) lacks differs
+
 -- ---- a pattern up to its first run
 
 -- where the piece doesn't fit, no pattern that begins with it does
-pub walked-false : (piece text : List ℕ) (w : Walked) → Lacks 37 piece → IsWalked piece text w → (w ≡ Differs) ⊎ (w ≡ TextEnds) → (more : List ℕ) → fits (piece ++ more) text ≡ false
+pub walked-false : (piece text : List ℕ) (w : Walked) → Lacks 37 piece → IsWalked piece text w → ((o : Over) × (w ≡ Differs o)) ⊎ (w ≡ TextEnds) → (more : List ℕ) → fits (piece ++ more) text ≡ false
 walked-false piece text (Behind s) lacks walked (inl is) = absurd (cc)
 walked-false piece text (Behind s) lacks walked (inr is) = absurd (cc)
-walked-false piece text Differs lacks walked other = walked
+walked-false piece text (Differs o) lacks walked other = walked.0
 walked-false piece text TextEnds lacks walked other = λ more. too_short piece more text lacks walked
 
 pub walked-end : (piece text s : List ℕ) → ((more : List ℕ) → IsBehind (piece ++ more) text more s) → fits piece text ≡ is_empty s

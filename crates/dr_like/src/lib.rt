@@ -5,6 +5,7 @@
 mod laws;
 mod letters;
 mod like;
+mod over;
 mod pieces;
 mod walked;
 

@@ -21,7 +21,7 @@ pub fn fits(pattern: &str, text: &str) -> bool
     };
     match walk(piece, text) {
         Walked::Behind(rest) => fits_behind_run(more, rest),
-        Walked::Differs | Walked::TextEnds => false,
+        Walked::Differs(_) | Walked::TextEnds => false,
     }
 }
 
@@ -32,7 +32,7 @@ fn fits_whole(pattern: &str, text: &str) -> bool
 {
     match walk(pattern, text) {
         Walked::Behind(rest) => is_empty(rest),
-        Walked::Differs | Walked::TextEnds => false,
+        Walked::Differs(_) | Walked::TextEnds => false,
     }
 }
 
