@@ -1,5 +1,5 @@
 -- A letter of a piece over a character of a text that it doesn't fit.
-use Rattle.std.proofs.Common.{◌≡◌, ◌∙◌, sym, ap, refl, ℕ, zero, suc, ◌+◌, Bool, true, false, not, ◌&&◌, List, [], ◌∷◌, ◌++◌, length, drop, append_assoc, subst, arith, Option, Some, None, IfSome, IsNone, MatchOption, true≢false}
+use Rattle.std.proofs.Common.{◌≡◌, ◌∙◌, sym, ap, refl, ℕ, Bool, true, false, not, ◌&&◌, List, [], ◌∷◌, ◌++◌, length, drop, append_assoc, subst, arith, Option, Some, None, IfSome, IsNone, MatchOption, true≢false}
 use Rattle.std.proofs.lemmas.Bool.{and_right}
 use Rattle.std.proofs.lemmas.List.{drop-drop, drop_at, length-append}
 use Rattle.dr_like.specs.Letters.{Lacks}
@@ -81,11 +81,7 @@ module _ (others literal : List ℕ) where
       let there = over-later others (drop l rest) behind m.letter (chars m.ahead.now) f over later in
       subst (λ h. IsOver others behind o.letter h) (sym moved.1) (subst (λ c. IsOver others behind c (drop f (chars m.ahead.now))) (sym moved.0) there)
 
-  -- and once it is looked for one character later
-  pub over-next : (here behind later : List ℕ) (d : ℕ) (over next : Over) → here ≡ literal ++ behind → here ≡ d ∷ later → IsOver others behind over.letter (chars over.ahead.now) → next.letter ≡ over.letter → chars next.ahead.now ≡ drop 1 (chars over.ahead.now)
-      → IsOver others (drop (length literal) later) next.letter (chars next.ahead.now)
-  over-next here behind later d over next here_is first there same ahead =
-      let l = length literal in
-      let is : drop l later ≡ drop 1 behind =
-      ap (λ x. drop l (drop 1 x)) (sym first) ∙ drop-drop l 1 here ∙ ap (λ n. drop n here) (omega arith) ∙ sym (drop-drop 1 l here) ∙ ap (λ x. drop 1 (drop l x)) here_is ∙ ap (drop 1) (drop_at literal behind l refl) in
-      subst (λ h. IsOver others (drop l later) next.letter h) (sym ahead) (subst (λ c. IsOver others (drop l later) c (drop 1 (chars over.ahead.now))) (sym same) (over-later others behind (drop l later) over.letter (chars over.ahead.now) 1 there is))
+  -- and one character later
+  pub over-next : (behind : List ℕ) (over next : Over) → IsOver others behind over.letter (chars over.ahead.now) → next.letter ≡ over.letter → chars next.ahead.now ≡ drop 1 (chars over.ahead.now) → IsOver others (drop 1 behind) next.letter (chars next.ahead.now)
+  over-next behind over next there same ahead =
+      subst (λ h. IsOver others (drop 1 behind) next.letter h) (sym ahead) (subst (λ c. IsOver others (drop 1 behind) c (drop 1 (chars over.ahead.now))) (sym same) (over-later others behind (drop 1 behind) over.letter (chars over.ahead.now) 1 there refl))

@@ -126,12 +126,12 @@ literal-past pattern text [] others more s lacks so_far = so_far
 literal-past pattern text (c ∷ cs) others more s lacks so_far = literal-past pattern text cs others more s lacks.1 (behind-more pattern text c c ((cs ++ others) ++ more) (cs ++ s) so_far lacks.0 (same_letter c))
 
 -- a text that fits begins with them
-pub literal-first : (l others more t : List ℕ) → Lacks 37 l → Lacks 95 l → fits ((l ++ others) ++ more) t ≡ true → (s : List ℕ) × (t ≡ l ++ s)
-literal-first [] others more t runs gaps is = (t, refl)
-literal-first (c ∷ cs) others more [] runs gaps is = let none : false ≡ true = sym (one_letter c ((cs ++ others) ++ more) runs.0 []) ∙ is in absurd (cc)
-literal-first (c ∷ cs) others more (d ∷ ds) runs gaps is =
-    let both = and_parts (letter_fits c d) (fits ((cs ++ others) ++ more) ds) (sym (one_letter c ((cs ++ others) ++ more) runs.0 (d ∷ ds)) ∙ is) in
-    let rest = literal-first cs others more ds runs.1 gaps.1 both.1 in
+pub literal-first : (l more t : List ℕ) → Lacks 37 l → Lacks 95 l → fits (l ++ more) t ≡ true → (s : List ℕ) × (t ≡ l ++ s)
+literal-first [] more t runs gaps is = (t, refl)
+literal-first (c ∷ cs) more [] runs gaps is = let none : false ≡ true = sym (one_letter c (cs ++ more) runs.0 []) ∙ is in absurd (cc)
+literal-first (c ∷ cs) more (d ∷ ds) runs gaps is =
+    let both = and_parts (letter_fits c d) (fits (cs ++ more) ds) (sym (one_letter c (cs ++ more) runs.0 (d ∷ ds)) ∙ is) in
+    let rest = literal-first cs more ds runs.1 gaps.1 both.1 in
     let same : c ≡ d = eqb-true c d (sym (ap (λ b. b || (c == d)) gaps.0) ∙ both.0) in
     (rest.0, ap (λ l. d ∷ l) rest.1 ∙ ap (λ x. x ∷ (cs ++ rest.0)) (sym same))
 

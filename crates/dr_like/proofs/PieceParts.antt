@@ -1,5 +1,6 @@
 -- A piece of a pattern, as its literal characters at the start and what follows them, at a place of a text.
-use Rattle.std.proofs.Common.{◌≡◌, ◌∙◌, sym, ap, subst, arith, ℕ, ◌<◌, false, List, [], ◌∷◌, ◌++◌, length, append-nil, ◌⊎◌, inl, inr}
+use Rattle.std.proofs.Common.{◌≡◌, ◌∙◌, sym, ap, refl, subst, arith, ℕ, ◌<◌, ◌==◌, ◌||◌, ◌&&◌, false, List, [], ◌∷◌, ◌++◌, length, append-nil, ◌⊎◌, inl, inr}
+use Rattle.std.proofs.lemmas.Bool.Decides.{nat_tests}
 use Rattle.std.proofs.lemmas.List.{length-append}
 use Rattle.dr_like.specs.Letters.{Lacks}
 use Rattle.dr_like.specs.Like.{behind_some_run, is_empty, fits}
@@ -8,7 +9,7 @@ use Rattle.dr_like.specs.declared.over.Over.{Over}
 use Rattle.dr_like.specs.declared.walked.Walked.{Walked}
 use Rattle.dr_like.specs.declared.walked.Walked.TheVariants.{Behind, Differs, TextEnds}
 use Rattle.dr_like.specs.Pieces.{IsNowhere, IsBehindFirst, IsSameSearch}
-use Rattle.dr_like.proofs.Patterns.{behind-start, behind-then, behind-still, later-more, literal-past, too_short, too_short-later, gap-none, gap-one}
+use Rattle.dr_like.proofs.Patterns.{one_letter, behind-start, behind-then, behind-still, later-more, literal-past, too_short, too_short-later, gap-none, gap-one}
 
 -- `_` at the start
 pub gap-nowhere : (piece text p t : List ℕ) (c : ℕ) (ps : List ℕ) → IsSameSearch piece text p t → p ≡ c ∷ ps → c ≡ 95 → t ≡ [] → IsNowhere piece text
@@ -37,9 +38,26 @@ module _ (literal others here behind : List ℕ) (stands : here ≡ literal ++ b
   parts-later d ds lacks differs some =
       λ q. ap (behind_some_run (fits ((literal ++ others) ++ 37 ∷ q))) some ∙ later-more (fits ((literal ++ others) ++ 37 ∷ q)) d ds (sym (ap (fits ((literal ++ others) ++ 37 ∷ q)) some) ∙ parts_differ (37 ∷ q) lacks differs)
 
-  pub parts-none : Lacks 37 literal → ((more : List ℕ) → fits (others ++ more) behind ≡ false) → here ≡ [] → IsNowhere (literal ++ others) here
-  parts-none lacks differs none =
-      λ q. ap (behind_some_run (fits ((literal ++ others) ++ 37 ∷ q))) none ∙ sym (ap (fits ((literal ++ others) ++ 37 ∷ q)) none) ∙ parts_differ (37 ∷ q) lacks differs
+-- ---- the first letter of a piece, which is no `_`
+
+module _ (letter : ℕ) (others : List ℕ) (runs : Lacks 37 (letter ∷ others)) (gap : (letter == 95) ≡ false) where
+  other_letter : (q : List ℕ) (d : ℕ) (ds : List ℕ) → (d == letter) ≡ false → fits ((letter ∷ others) ++ 37 ∷ q) (d ∷ ds) ≡ false
+  other_letter q d ds other =
+      let differs : (letter == d) ≡ false = grind (arith, nat_tests) in
+      one_letter letter (others ++ 37 ∷ q) runs.0 (d ∷ ds) ∙ ap (λ b. (b || (letter == d)) && fits (others ++ 37 ∷ q) ds) gap ∙ ap (λ b. b && fits (others ++ 37 ∷ q) ds) differs
+
+  -- the piece isn't found where the letter doesn't stand
+  pub letter-skips : (front here : List ℕ) → Lacks letter front → IsSameSearch (letter ∷ others) (front ++ here) (letter ∷ others) here
+  letter-skips [] here lacks = λ q. refl
+  letter-skips (d ∷ ds) here lacks = λ q. later-more (fits ((letter ∷ others) ++ 37 ∷ q)) d (ds ++ here) (other_letter q d (ds ++ here) lacks.0) ∙ letter-skips ds here lacks.1 q
+
+  pub letter-nowhere : (text : List ℕ) → Lacks letter text → IsNowhere (letter ∷ others) text
+  letter-nowhere [] lacks = λ q. one_letter letter (others ++ 37 ∷ q) runs.0 []
+  letter-nowhere (d ∷ ds) lacks = λ q. later-more (fits ((letter ∷ others) ++ 37 ∷ q)) d ds (other_letter q d ds lacks.0) ∙ letter-nowhere ds lacks.1 q
+
+-- a piece of no letters
+pub none-fits : (text : List ℕ) → IsBehindFirst [] text text
+none-fits text = λ q. behind-still (37 ∷ q) text q text (behind-start (37 ∷ q) text)
 
 -- ---- a pattern up to its first run
 

@@ -24,9 +24,9 @@ module _ (n : List ℕ) (f : List ℕ → Bool) (fails : (x : List ℕ) → Lack
       later-more f c (cs ++ here) (fails (c ∷ (cs ++ here)) (lacks 0 (omega (arith, some, parts))))
       ∙ skips cs here (λ k less. behind_one c (cs ++ here) k (lacks (length (encode c) + k) (omega (arith, less, parts))))
 
-module _ (n : List ℕ) (utf8 : IsUtf8 n) (runs : Lacks 37 (chars n)) (gaps : Lacks 95 (chars n)) (others more : List ℕ) where
+module _ (n : List ℕ) (utf8 : IsUtf8 n) (runs : Lacks 37 (chars n)) (gaps : Lacks 95 (chars n)) (more : List ℕ) where
   abbrev f : List ℕ → Bool
-  f = fits ((chars n ++ others) ++ more)
+  f = fits (chars n ++ more)
 
   fails : (x : List ℕ) → LacksTextAt n (encodes x) 0 → f x ≡ false
   fails x lacks = at (f x) refl
@@ -34,7 +34,7 @@ module _ (n : List ℕ) (utf8 : IsUtf8 n) (runs : Lacks 37 (chars n)) (gaps : La
       at : (b : Bool) → f x ≡ b → f x ≡ false
       at false is = is
       at true is =
-          let first = literal-first (chars n) others more x runs gaps is in
+          let first = literal-first (chars n) more x runs gaps is in
           absurd (lacks (encodes first.0) (ap encodes first.1 ∙ encodes-append (chars n) first.0 ∙ ap (λ l. l ++ encodes first.0) (encodes-chars n utf8)))
 
   pub place-found : (s : List ℕ) (i : ℕ) → IsUtf8 s → IsCharBoundary s i → ((k : ℕ) → k < i → LacksTextAt n s k) → behind_some_run f (chars s) ≡ behind_some_run f (chars (drop i s))

@@ -10,9 +10,9 @@ use crate::walked::Walked;
 /// Whether the whole text fits a pattern (Apache Druid documentation, query filters: like): `%` is any run of characters,
 /// `_` is one Unicode scalar value, every other character is itself.
 ///
-/// It takes no memory, and time by the bytes of the pattern and those of the text together. What costs more is a piece
-/// between two `%` that has a `_` behind one of its other characters and another character behind that `_`: it is tried at
-/// each place where the characters before that `_` stand, so at worst it takes its own bytes times those of the text.
+/// It takes no memory, and time by the bytes of the pattern and those of the text together. What can cost more is a piece
+/// between two `%` that has a `_` behind its first other character: it is tried at each place where that character stands, the
+/// letter first that didn't fit at the place before, so at worst it takes its own bytes times those of the text.
 pub fn fits(pattern: &str, text: &str) -> bool
     ensures { result ≡ fits_of (chars pattern.now) (chars text.now) }
 {

@@ -1,12 +1,12 @@
-ghost use Rattle.std.specs.Prelude.{◌≡◌, ℕ, List, ◌++◌, IsNone, drop, length, MatchOption, IfSome};
+ghost use Rattle.std.specs.Prelude.{◌≡◌, ◌==◌, false, ◌∷◌, IsNone, drop, length, MatchOption, IfSome};
 ghost use Rattle.std.specs.Str.{chars};
 ghost use Rattle.dr_like.specs.Like.{letter_fits as letter_fits_of};
-ghost use Rattle.dr_like.specs.Letters.{Lacks};
+ghost use Rattle.dr_like.specs.Letters.{is_first, Lacks};
 ghost use Rattle.dr_like.specs.Left.{IsWalked};
 ghost use Rattle.dr_like.specs.Over.{IsOver};
 ghost use Rattle.dr_like.specs.Pieces.{IsNowhere, IsBehindFirst, IsSameSearch};
 
-use crate::letters::{split_before, split_first};
+use crate::letters::{is_empty, split_at_letter, split_before, split_first};
 use crate::over::Over;
 use crate::walked::Walked;
 
@@ -19,8 +19,14 @@ pub fn behind_piece<'t>(piece: &str, text: &'t str) -> Option<&'t str>
     let Some((begun, from)) = past_gaps(piece, text) else {
         return None;
     };
-    let (literal, others) = split_before(begun, '_');
-    behind_parts(literal, others, from)
+    let (literal, gap) = split_before(begun, '_');
+    if is_empty(gap) {
+        return behind_literal(literal, from);
+    }
+    let Some((letter, others)) = split_first(begun) else {
+        return Some(from);
+    };
+    behind_gapped(letter, others, from)
 }
 
 /// The piece without the `_` that it begins with, and the text without as many characters; none where it has fewer.
@@ -28,6 +34,7 @@ fn past_gaps<'p, 't>(piece: &'p str, text: &'t str) -> Option<(&'p str, &'t str)
     requires { Lacks 37 (chars piece.now) }
     ensures search { MatchOption result (IsNowhere (chars piece.now) (chars text.now)) (λ p. IsSameSearch (chars piece.now) (chars text.now) (chars p.0.now) (chars p.1.now)) }
     ensures lacks { IfSome result (λ p. Lacks 37 (chars p.0.now)) }
+    ensures first { IfSome result (λ p. is_first 95 (chars p.0.now) ≡ false) }
 {
     let mut left = piece;
     let mut rest = text;
@@ -44,46 +51,41 @@ fn past_gaps<'p, 't>(piece: &'p str, text: &'t str) -> Option<(&'p str, &'t str)
     Some((left, rest))
 }
 
-/// The same as `behind_piece`, of a piece in two parts: its characters before its first `_`, and the others. It is tried
-/// where the first part stands alone, and no longer once the text is too short for it. Where there are no others, the first
-/// such place is the answer. At each place the letter comes first that missed at the place before.
-fn behind_parts<'t>(literal: &str, others: &str, text: &'t str) -> Option<&'t str>
-    requires run { Lacks 37 (chars literal.now ++ chars others.now) }
+/// The same as `behind_piece`, of a piece without `_`.
+fn behind_literal<'t>(literal: &str, text: &'t str) -> Option<&'t str>
+    requires run { Lacks 37 (chars literal.now) }
     requires gap { Lacks 95 (chars literal.now) }
-    ensures { MatchOption result (IsNowhere (chars literal.now ++ chars others.now) (chars text.now)) (λ r. IsBehindFirst (chars literal.now ++ chars others.now) (chars text.now) (chars r.now)) }
+    ensures { MatchOption result (IsNowhere (chars literal.now) (chars text.now)) (λ r. IsBehindFirst (chars literal.now) (chars text.now) (chars r.now)) }
+{
+    let Some(at) = text.find(literal) else {
+        return None;
+    };
+    let (_, here) = text.split_at(at);
+    let (_, behind) = here.split_at(literal.len());
+    Some(behind)
+}
+
+/// The same as `behind_piece`, of a piece in two parts: its first letter, which is no `_`, and the others. It is tried where the
+/// first letter stands, and no longer once the text is too short for it. At each place the letter comes first that missed at the
+/// place before.
+fn behind_gapped<'t>(letter: char, others: &str, text: &'t str) -> Option<&'t str>
+    requires run { Lacks 37 (letter ∷ chars others.now) }
+    requires gap { (letter == 95) ≡ false }
+    ensures { MatchOption result (IsNowhere (letter ∷ chars others.now) (chars text.now)) (λ r. IsBehindFirst (letter ∷ chars others.now) (chars text.now) (chars r.now)) }
 {
     let mut rest = text;
     let mut missed: Option<Over<'t>> = None;
-    while let Some((front, here, behind)) = first_place(literal, rest) {
+    while let Some((front, behind)) = split_at_letter(rest, letter) {
         match compare(others, behind, past(missed, front)) {
             Walked::Behind(end) => return Some(end),
             Walked::TextEnds => return None,
             Walked::Differs(over) => {
-                let Some((_, later)) = split_first(here) else {
-                    return None;
-                };
-                rest = later;
+                rest = behind;
                 missed = Some(over.next());
             }
         }
     }
     None
-}
-
-/// What stands before the first place of a text at which these characters stand, the text from there on, and what follows them
-/// there.
-fn first_place<'t>(literal: &str, text: &'t str) -> Option<(&'t str, &'t str, &'t str)>
-    requires run { Lacks 37 (chars literal.now) }
-    requires gap { Lacks 95 (chars literal.now) }
-    ensures parts { IfSome result (λ p. (chars text.now ≡ chars p.0.now ++ chars p.1.now) × (chars p.1.now ≡ chars literal.now ++ chars p.2.now)) }
-    ensures search { MatchOption result ((others : List ℕ) → IsNowhere (chars literal.now ++ others) (chars text.now)) (λ p. (others : List ℕ) → IsSameSearch (chars literal.now ++ others) (chars text.now) (chars literal.now ++ others) (chars p.1.now)) }
-{
-    let Some(at) = text.find(literal) else {
-        return None;
-    };
-    let (front, here) = text.split_at(at);
-    let (_, behind) = here.split_at(literal.len());
-    Some((front, here, behind))
 }
 
 /// The letter that missed, once its piece stands behind all characters of a text.

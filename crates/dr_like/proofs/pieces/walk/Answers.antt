@@ -3,7 +3,7 @@ use Rattle.std.specs.Str.{chars}
 use Rattle.dr_like.specs.Letters.{Lacks}
 use Rattle.dr_like.specs.Left.{IsBehind}
 use Rattle.dr_like.proofs.Patterns.{behind-more, behind-differs}
-use Rattle.dr_like.proofs.Overs.{gone-start, gone-more, gone-over}
+use Rattle.dr_like.proofs.Overs.{gone-more, gone-over}
 use Rattle.dr_like.proofs.pieces.walk.Goals as goal
 
 pub returns-then-not-letter_fits : goal.returns-then-not-letter_fits
