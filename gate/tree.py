@@ -137,12 +137,14 @@ def without_comments(text):
 
 
 def without_bodies(text):
-    """Code as `rt fmt` lays it out, without the bodies of its functions, and without the private functions of a module."""
+    """Code as `rt fmt` lays it out, without the bodies of its functions, and without the private functions and modules of a module."""
     kept, ends, is_kept = [], None, True
     for line in text.split("\n"):
         if ends is not None:
             if line == ends:
                 ends, is_kept = None, True
+            continue
+        if re.match(r"mod \w+;$", line):
             continue
         if re.match(r"(?:pub\(\w+\) )?(?:const )?fn ", line):
             is_kept = False

@@ -1,10 +1,10 @@
 ghost use Rattle.std.specs.Prelude.{◌≡◌, ◌==◌, false, ◌∷◌, IsNone, drop, length, MatchOption, IfSome};
 ghost use Rattle.std.specs.Str.{chars};
 ghost use Rattle.dr_like.specs.Like.{letter_fits as letter_fits_of};
-ghost use Rattle.dr_like.specs.Letters.{is_first, Lacks};
+ghost use Rattle.dr_like.specs.Letters.{Lacks};
 ghost use Rattle.dr_like.specs.Left.{IsWalked};
 ghost use Rattle.dr_like.specs.Over.{IsOver};
-ghost use Rattle.dr_like.specs.Pieces.{IsNowhere, IsBehindFirst, IsSameSearch};
+ghost use Rattle.dr_like.specs.Pieces.{is_first, IsNowhere, IsBehindFirst, IsSameSearch};
 
 use crate::letters::{is_empty, split_at_letter, split_before, split_first};
 use crate::over::Over;
