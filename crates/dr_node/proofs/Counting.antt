@@ -111,12 +111,3 @@ counted-all n es i xs past so_far =
     let f = λ (k : ℕ). length (marked k es) in
     same_number_lists xs (counts_of n es) (so_far.long ∙ sym (length-map-range_with_len f 0 n))
     (λ k lt. let long = so_far.long in let within : k < n = omega arith in so_far.each k within ∙ ap (λ l. length (marked k l)) (take_all i es past) ∙ sym (get_or-map-range_with_len f 0 n k k 0 within (zero-add k)))
-
--- ---- what a count shows of a list
-
-pub none-marked : (k : ℕ) (es own : List Event) → length (marked k es) ≡ 0 → length own ≡ 0 → marked k es ≡ own
-none-marked k es own unmarked unowned = empty (marked k es) unmarked ∙ sym (empty own unowned)
-  where
-    empty : (l : List Event) → length l ≡ 0 → l ≡ []
-    empty [] is = refl
-    empty (e ∷ l) is = absurd (omega arith)

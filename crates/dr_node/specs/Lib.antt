@@ -3,3 +3,4 @@ pub mod Kept
 pub mod Refusal
 pub mod Acting
 pub mod Closing
+pub mod Places

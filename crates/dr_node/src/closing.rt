@@ -1,9 +1,10 @@
-ghost use Rattle.std.specs.Prelude.{◌≡◌, ◌⊎◌, ◌==◌, ◌<◌, ◌↔◌, Err, IfOk, IfErr, IsTrue, All, length, map};
+ghost use Rattle.std.specs.Prelude.{◌≡◌, ◌⊎◌, ◌==◌, ◌<◌, ◌↔◌, Err, IfOk, IfErr, IfSome, IsTrue, All, get_or, length, map};
 ghost use Rattle.std.specs.List.{count_by, range_with_len};
 ghost use Rattle.dr_timeline.specs.declared.timeline_error.TimelineError.TheVariants.{NoMemory};
 ghost use Rattle.dr_node.specs.declared.node_error.NodeError.TheVariants as error;
 ghost use Rattle.dr_node.specs.Seats.{marked};
 ghost use Rattle.dr_node.specs.Closing.{AreAllSeats, IsClosed};
+ghost use Rattle.dr_node.specs.Places.{ArePlaces, IsPlace};
 
 use crate::closed::Closed;
 use crate::node::Node;
@@ -17,7 +18,7 @@ impl<B: Books> Node<B> {
     /// Closes the node, and gives its last snapshot and how many events each seat accepted: the events of the stream with the mark
     /// of a seat are those that the seat accepted, in its order. Refusals: 94 `HistoryMismatch` where the seats aren't all seats
     /// of the node, each once, or the events of a seat aren't those of the stream with its mark. It takes time by the events
-    /// once, and once more for each seat that accepted some, and copies none; memory for what `Timeline::pin` takes.
+    /// and by the square of the number of seats, and copies no event; memory for what `Timeline::pin` takes.
     pub fn close(self, seats: Vec<Seat<B>>) -> Result<Closed, NodeError>
         ensures closed { IfOk result (λ closed. IsClosed B.seats seats.items closed.snapshot.stream closed.mine.items) }
         ensures schema { IfOk result (λ closed. closed.snapshot.schema ≡ B.schema) }
@@ -34,10 +35,10 @@ impl<B: Books> Node<B> {
             return Err(NodeError::HistoryMismatch);
         }
         let snapshot = kept.into_inner().last()?;
-        let mine = counts(alloc, count, &snapshot)?;
-        if !own_theirs(&seats, &snapshot, mine.as_slice()) {
+        let places = places(alloc, count, &seats)?;
+        let Some(mine) = own_counts(alloc, &seats, places.as_slice(), &snapshot)? else {
             return Err(NodeError::HistoryMismatch);
-        }
+        };
         Ok(Closed { snapshot, mine })
     }
 }
@@ -70,29 +71,75 @@ fn times<B: Books>(number: usize, seats: &[Seat<B>]) -> usize
     times
 }
 
-// Whether the events of the stream with the mark of each seat, of which there are so many, are its own.
-fn own_theirs<B: Books>(seats: &[Seat<B>], snapshot: &Snapshot, counts: &[u64]) -> bool
-    requires { counts.now ≡ map (λ k. length (marked k snapshot.now.stream)) (range_with_len 0 B.seats) }
-    ensures own { IsTrue result ↔ All (λ s. marked s.number snapshot.now.stream ≡ s.own) seats.now }
+// The place among the seats, which are all of so many, of the seat of each number.
+fn places<B: Books>(
+    alloc: Global,
+    count: usize,
+    seats: &[Seat<B>],
+) -> Result<Vec<usize>, AllocError>
+    requires { AreAllSeats count seats.now }
+    ensures { IfOk result (λ places. ArePlaces count seats.now places.items) }
+{
+    let mut places = Vec::new(alloc);
+    for number in 0..count {
+        places.push(place(number, seats))?;
+    }
+    Ok(places)
+}
+
+// The place of the seat of that number among the seats, where it is there.
+fn place<B: Books>(number: usize, seats: &[Seat<B>]) -> usize
+    requires { count_by (λ s. s.number == number) seats.now ≡ 1 }
+    ensures { IsPlace seats.now number result }
+{
+    let mut place = 0;
+    while usize::from(seats[place].number()) != number {
+        place += 1;
+    }
+    place
+}
+
+// How many events of the stream have the mark of each seat, where they are those that the seat accepted, in its order; none where
+// they aren't. The events are read once: each is compared with the next one of its seat.
+fn own_counts<B: Books>(
+    alloc: Global,
+    seats: &[Seat<B>],
+    places: &[usize],
+    snapshot: &Snapshot,
+) -> Result<Option<Vec<u64>>, AllocError>
+    requires all { AreAllSeats B.seats seats.now }
+    requires places { ArePlaces B.seats seats.now places.now }
+    requires marks { All (λ e. e.seat < B.seats) snapshot.now.stream }
+    ensures counts { IfOk result (λ found. IfSome found (λ counts. counts.items ≡ map (λ k. length (marked k snapshot.now.stream)) (range_with_len 0 B.seats))) }
+    ensures own { IfOk result (λ found. IfSome found (λ counts. All (λ s. marked s.number snapshot.now.stream ≡ s.own) seats.now)) }
+    ensures seats { IfOk result (λ found. IfSome found (λ counts. All (λ s. (s.mine ≡ length s.own) × (s.number < B.seats)) seats.now)) }
+{
+    let mut counts = vec![in alloc; 0u64; places.len()]?;
+    for number in 0..snapshot.event_count() {
+        let event = event_at(snapshot, number);
+        let mark = usize::from(event.seat);
+        if !seats[places[mark]].has_at(event, counts[mark]) {
+            return Ok(None);
+        }
+        counts[mark] += 1;
+    }
+    Ok(if have_no_more(seats, counts.as_slice()) {
+        Some(counts)
+    } else {
+        None
+    })
+}
+
+// Whether each seat accepted as many events as are counted at its number.
+fn have_no_more<B: Books>(seats: &[Seat<B>], counts: &[u64]) -> bool
+    requires { length counts.now ≡ B.seats }
+    ensures counts { IsTrue result → All (λ s. get_or counts.now s.number 0 ≡ length s.own) seats.now }
     ensures seats { IsTrue result → All (λ s. (s.mine ≡ length s.own) × (s.number < B.seats)) seats.now }
 {
     for seat in seats {
-        if !seat.owns(snapshot, counts) {
+        if !seat.has_accepted(counts) {
             return false;
         }
     }
     true
-}
-
-// How many events of the stream have the mark of each of so many seats.
-fn counts(alloc: Global, seats: usize, snapshot: &Snapshot) -> Result<Vec<u64>, AllocError>
-    requires { All (λ e. e.seat < seats) snapshot.now.stream }
-    ensures { IfOk result (λ counts. counts.items ≡ map (λ k. length (marked k snapshot.now.stream)) (range_with_len 0 seats)) }
-{
-    let mut counts = vec![in alloc; 0u64; seats]?;
-    for number in 0..snapshot.event_count() {
-        let mark = usize::from(event_at(snapshot, number).seat);
-        counts[mark] += 1;
-    }
-    Ok(counts)
 }

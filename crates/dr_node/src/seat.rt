@@ -1,6 +1,4 @@
-ghost use Rattle.std.specs.Prelude.{◌≡◌, ◌<◌, ◌↔◌, IsTrue, Some, length, map, slice_get};
-ghost use Rattle.std.specs.List.{range_with_len};
-ghost use Rattle.dr_node.specs.Seats.{marked};
+ghost use Rattle.std.specs.Prelude.{◌≡◌, ◌<◌, ◌↔◌, IsTrue, Some, get_or, length, slice_get};
 
 use dr_base::Event;
 use dr_books::Books;
@@ -53,54 +51,24 @@ impl<B: Books> Seat<B> {
         self.floor
     }
 
-    /// Whether the events of a snapshot with the seat's mark are those that the seat accepted, in its order, where there are so many of
-    /// each mark.
-    pub(crate) fn owns(&self, snapshot: &Snapshot, counts: &[u64]) -> bool
-        requires { counts.now ≡ map (λ k. length (marked k snapshot.now.stream)) (range_with_len 0 B.seats) }
-        ensures own { IsTrue result ↔ (marked self.now.number snapshot.now.stream ≡ self.now.own) }
+    /// Whether the event is the one that the seat accepted behind so many others.
+    pub(crate) fn has_at(&self, event: &Event, place: u64) -> bool
+        ensures { IsTrue result ↔ (slice_get self.now.own place ≡ Some event.now) }
+    {
+        match self.own.as_slice().get(place as usize) {
+            Some(mine) => event.equals(mine.event()),
+            None => false,
+        }
+    }
+
+    /// Whether the seat accepted as many events as are counted at its number.
+    pub(crate) fn has_accepted(&self, counts: &[u64]) -> bool
+        requires { length counts.now ≡ B.seats }
+        ensures count { IsTrue result ↔ (get_or counts.now self.now.number 0 ≡ length self.now.own) }
         ensures mine { self.now.mine ≡ length self.now.own }
         ensures number { self.now.number < B.seats }
     {
-        let count = counts[usize::from(self.number)];
-        are_counted(self.number, count, snapshot, self.own.as_slice())
-    }
-}
-
-// Whether these are the events of the snapshot with that mark, of which there are so many, in order.
-fn are_counted(mark: u8, count: u64, snapshot: &Snapshot, own: &[SharedEvent]) -> bool
-    requires { count ≡ length (marked mark snapshot.now.stream) }
-    ensures { IsTrue result ↔ (marked mark snapshot.now.stream ≡ own.now) }
-{
-    if own.len() as u64 != count {
-        return false;
-    }
-    count == 0 || are_marked(mark, snapshot, own)
-}
-
-// Whether these are the events of the snapshot with that mark, in order.
-fn are_marked(mark: u8, snapshot: &Snapshot, own: &[SharedEvent]) -> bool
-    ensures { IsTrue result ↔ (marked mark snapshot.now.stream ≡ own.now) }
-{
-    let mut place = 0;
-    for number in 0..snapshot.event_count() {
-        let event = event_at(snapshot, number);
-        if event.seat == mark {
-            if !is_at(event, own, place) {
-                return false;
-            }
-            place += 1;
-        }
-    }
-    place == own.len()
-}
-
-// Whether the event is the one at a place.
-fn is_at(event: &Event, own: &[SharedEvent], place: usize) -> bool
-    ensures { IsTrue result ↔ (slice_get own.now place ≡ Some event.now) }
-{
-    match own.get(place) {
-        Some(mine) => event.equals(mine.event()),
-        None => false,
+        self.own.len() as u64 == counts[usize::from(self.number)]
     }
 }
 
