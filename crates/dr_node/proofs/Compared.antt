@@ -1,13 +1,14 @@
 -- The events of a stream, each compared with the next one of its seat.
-use Rattle.std.proofs.Common.{◌≡◌, ◌∙◌, sym, ap, refl, ℕ, zero, suc, ◌+◌, ◌<◌, ◌≤◌, List, [], ◌∷◌, ◌++◌, length, take, drop, get_or, Some, Bool, true, false, cond, arith, All, append-nil, ◌⊎◌, inl, inr}
+use Rattle.std.proofs.Common.{◌≡◌, ◌∙◌, sym, ap, refl, ℕ, zero, suc, ◌+◌, ◌<◌, ◌≤◌, List, [], ◌∷◌, ◌++◌, length, take, get_or, Some, Bool, true, false, cond, arith, subst, append-nil, ◌⊎◌, inl, inr}
 use Rattle.std.specs.Prelude.{nat_eq, slice_get, ◌==◌}
 use Rattle.std.proofs.lemmas.Bool.{cases_eq}
 use Rattle.std.proofs.lemmas.Bool.Decides.{nat_tests}
-use Rattle.std.proofs.lemmas.List.{get_or_default, get_or-set_same, get_or-set_other, take_all, take_more, drop_more}
+use Rattle.std.proofs.lemmas.List.{get_or_default, get_or_append_left, get_or_push, length-append, get_or-set_same, get_or-set_other, take_all, take_more}
 use Rattle.std.proofs.lemmas.List.Elements.{filter_more}
 use Rattle.std.proofs.lemmas.List.Sums.{sum_by-cons}
 use Rattle.std.proofs.lemmas.Option.{get_or_from_slice_get, slice_get_within}
 use Rattle.std.proofs.Math.ListN.{set}
+use Rattle.std.proofs.Math.Nat.{eq-or-lt_of_le}
 use Rattle.dr_base.specs.declared.event.Event.{Event}
 use Rattle.dr_node.specs.Places.{IsPlace, ArePlaces}
 use Rattle.dr_node.specs.Seats.{SeatView, marked, new_seat}
@@ -59,6 +60,15 @@ module _ (n : ℕ) (seats : List SeatView) (places : List ℕ) (es : List Event)
           one_more k ∙ ap (λ (b : Bool). marked k (take i es) ++ cond b (e ∷ []) []) left ∙ append-nil (marked k (take i es)) ∙ so_far.same k lk
           ∙ ap (λ m. take m (own_of seats places k)) (sym (get_or-set_other xs e.seat k x 0 other))
 
+-- the next event of the seat with a mark, as it is read
+pub own-next : (seats : List SeatView) (places xs : List ℕ) (k m c : ℕ) (s : SeatView) (e : Event) → IsPlace seats k (get_or places k 0) → k < length xs → m ≡ k → s ≡ get_or seats (get_or places m 0) s → c ≡ get_or xs m c → slice_get s.own c ≡ Some e
+    → slice_get (own_of seats places k) (get_or xs k 0) ≡ Some e
+own-next seats places xs k m c s e at inside m_is s_is c_is found =
+    let p = get_or places k 0 in
+    let seat : get_or seats p (new_seat k) ≡ s = get_or_default seats p (new_seat k) s at.0 ∙ ap (λ j. get_or seats (get_or places j 0) s) (sym m_is) ∙ sym s_is in
+    let count : get_or xs k 0 ≡ c = get_or_default xs k 0 c inside ∙ ap (λ j. get_or xs j c) (sym m_is) ∙ sym c_is in
+    (λ t. slice_get (seat t).own (count t)) ∙ found
+
 -- ---- the place of a seat
 
 one : (k : ℕ) (s : SeatView) (seats : List SeatView) → times k (s ∷ seats) ≡ cond (s.number == k) 1 0 + times k seats
@@ -86,19 +96,13 @@ one_place k (s ∷ seats) (suc i) (suc j) d once li lj is also =
     let left : times k seats ≡ 1 = omega (arith, once, more, one k s seats) in
     ap suc (one_place k seats i j d left (omega (arith, li)) (omega (arith, lj)) is also)
 
--- ---- looking for the seat of a number that is there once
-
-pub still_there : (k : ℕ) (seats : List SeatView) (i : ℕ) → times k (drop i seats) ≡ 1 → i < length seats
-still_there k [] zero once = absurd (omega (arith, once))
-still_there k [] (suc i) once = absurd (omega (arith, once))
-still_there k (s ∷ seats) zero once = omega arith
-still_there k (s ∷ seats) (suc i) once = let more = still_there k seats i once in omega (arith, more)
-
-pub not_here : (k : ℕ) (seats : List SeatView) (i : ℕ) (s : SeatView) → i < length seats → get_or seats i s ≡ s → (s.number == k) ≡ false → times k (drop i seats) ≡ 1 → times k (drop (i + 1) seats) ≡ 1
-not_here k seats i s lt is no once =
-    let rest = drop (i + 1) seats in
-    let here : times k (drop i seats) ≡ cond (s.number == k) 1 0 + times k rest = ap (times k) (drop_more seats i s lt) ∙ one k (get_or seats i s) rest ∙ ap (λ (x : SeatView). cond (x.number == k) 1 0 + times k rest) is in
-    omega (arith, once, here ∙ ap (λ (b : Bool). cond b 1 0 + times k rest) no)
+-- the places below a number, and that of the number
+pub places-more : (seats : List SeatView) (ps new : List ℕ) (n p : ℕ) → length ps ≡ n → ((k : ℕ) → k < n → IsPlace seats k (get_or ps k 0)) → IsPlace seats n p → new ≡ ps ++ p ∷ [] → (length new ≡ n + 1) × ((k : ℕ) → k < n + 1 → IsPlace seats k (get_or new k 0))
+places-more seats ps new n p long each here is = (ap length is ∙ length-append ps (p ∷ []) ∙ omega (arith, long), λ k lt. subst (IsPlace seats k) (sym (ap (λ l. get_or l k 0) is)) (at k (eq-or-lt_of_le (omega arith))))
+  where
+    at : (k : ℕ) → (k ≡ n) ⊎ (k < n) → IsPlace seats k (get_or (ps ++ p ∷ []) k 0)
+    at k (inl same) = subst (λ j. IsPlace seats j (get_or (ps ++ p ∷ []) j 0)) (long ∙ sym same) (subst (λ q. IsPlace seats (length ps) q) (sym (get_or_push ps p 0 (length ps) refl)) (subst (λ j. IsPlace seats j p) (sym long) here))
+    at k (inr below) = subst (IsPlace seats k) (sym (get_or_append_left ps (p ∷ []) 0 k (omega (arith, below, long)))) (each k below)
 
 -- ---- what the comparison shows of each seat
 

@@ -123,11 +123,10 @@ fn own_counts<B: Books>(
         }
         counts[mark] += 1;
     }
-    Ok(if have_no_more(seats, counts.as_slice()) {
-        Some(counts)
-    } else {
-        None
-    })
+    if !have_no_more(seats, counts.as_slice()) {
+        return Ok(None);
+    }
+    Ok(Some(counts))
 }
 
 // Whether each seat accepted as many events as are counted at its number.
