@@ -68,7 +68,7 @@ impl<B: Books> Seat<B> {
         ensures mine { self.now.mine ≡ length self.now.own }
         ensures number { self.now.number < B.seats }
     {
-        self.own.len() as u64 == counts[usize::from(self.number)]
+        counts[usize::from(self.number)] == self.own.len() as u64
     }
 }
 
