@@ -1,4 +1,4 @@
-use Rattle.std.proofs.Common.{◌≡◌, refl, subst, ◌<◌, length, All, get_or}
+use Rattle.std.proofs.Common.{◌≡◌, subst, ◌<◌, length, All, get_or}
 use Rattle.std.proofs.lemmas.List.{take_all}
 use Rattle.std.proofs.lemmas.List.Elements.{All-more}
 use Rattle.dr_node.specs.Seats.{SeatView}

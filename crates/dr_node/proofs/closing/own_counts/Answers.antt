@@ -1,10 +1,9 @@
-use Rattle.std.proofs.Common.{◌≡◌, ◌∙◌, sym, ap, subst, ◌+◌, ◌<◌, ◌≤◌, length, get_or, arith, All, Some}
+use Rattle.std.proofs.Common.{◌≡◌, ◌∙◌, sym, ap, subst, ◌+◌, ◌<◌, ◌≤◌, length, get_or, arith, Some}
 use Rattle.std.specs.Prelude.{slice_get}
 use Rattle.std.proofs.Math.ListN.{set}
 use Rattle.std.proofs.lemmas.Grind.{get_or_default_zero}
 use Rattle.std.proofs.lemmas.Option.{get_or_from_slice_get}
 use Rattle.dr_base.specs.declared.event.Event.{Event}
-use Rattle.dr_node.specs.Seats.{SeatView}
 use Rattle.dr_node.proofs.Counting.{counted-few, counted-all}
 use Rattle.dr_node.proofs.Compared.{AreCompared, own_of, compared-more, own-next, own_shown}
 use Rattle.dr_node.proofs.closing.own_counts.Goals as goal

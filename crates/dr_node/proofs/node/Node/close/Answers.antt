@@ -1,6 +1,5 @@
-use Rattle.std.proofs.Common.{◌≡◌, ◌<◌, ◌∙◌, subst, List, All, IfSome, length, map}
-use Rattle.std.specs.List.{range_with_len}
-use Rattle.dr_node.specs.Seats.{SeatView, marked}
+use Rattle.std.proofs.Common.{subst, List}
+use Rattle.dr_node.specs.Seats.{SeatView}
 use Rattle.dr_node.specs.Closing.{AreAllSeats}
 use Rattle.dr_node.proofs.Closings.{shows-closed}
 use Rattle.dr_node.proofs.node.Node.close.Goals as goal
