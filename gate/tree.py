@@ -23,7 +23,7 @@ class Tree:
 
     def __init__(self, top=TOP):
         self.top = top
-        self.uses, self._cited = {}, None
+        self.uses, self._cited, self._words = {}, None, {}
         with open(f"{top}/crates.txt", encoding="utf-8") as file:
             for line in file:
                 name, colon, words = line.partition("#")[0].partition(":")
@@ -68,20 +68,37 @@ class Tree:
         """A digest of all that a crate's own proof reads, but for its comments."""
         return digest_of((it, without_comments(self.text(crate, it))) for it in self.files(crate, "src", "specs", "proofs"))
 
-    def contracts(self, crate):
-        """A digest of what the crates above may use of a crate: what its modules show without bodies, and of its definitions those
-        that these name, or another crate does, and so on."""
-        shown, texts = self.shown(crate), {}
+    def contracts(self, crate, above):
+        """A digest of what a crate above may use of a crate: what its modules show without bodies, what its other modules say of the
+        types that it shows, and of its definitions those that these name, or another crate does, and so on."""
+        shown, texts, words = self.shown(crate), {}, self.words(above)
         for file in self.files(crate, "src"):
             if shown is None or file.split("/")[1].removesuffix(".rt") in shown:
                 texts[file] = self.interface(crate, file)
+            else:
+                texts[file] = said_of(self.interface(crate, file), self.types(crate), words)
         names = self.cited()[crate].union(*(self.names_in(it, crate) for it in texts.values()))
         while names:
             file = self.file_of(crate, names.pop())
-            if file not in texts:
-                texts[file] = self.interface(crate, file)
-                names |= self.names_in(texts[file], crate)
-        return digest_of(sorted(texts.items()))
+            text = self.interface(crate, file)
+            if texts.get(file) != text:
+                texts[file] = text
+                names |= self.names_in(text, crate)
+        return digest_of(sorted((file, text) for file, text in texts.items() if text))
+
+    def words(self, crate):
+        """The words of a crate's code."""
+        if crate not in self._words:
+            self._words[crate] = {word for file in self.files(crate, "src") for word in re.findall(r"\w+", without_comments(self.text(crate, file)))}
+        return self._words[crate]
+
+    def types(self, crate):
+        """The names that a crate's root shows."""
+        try:
+            root = self.text(crate, "src/lib.rt")
+        except FileNotFoundError:
+            return set()
+        return {word for names in re.findall(r"^pub use [\w:]*::(\w+|\{[^}]*\});", root, re.M) for word in re.findall(r"\w+", names)}
 
     def interface(self, crate, file):
         """What a file says to who can't see bodies."""
@@ -157,6 +174,34 @@ def without_bodies(text):
         elif not is_kept and line.endswith(("{}", ";")):
             is_kept = True
     return "\n".join(kept)
+
+
+def said_of(text, types, words):
+    """Of code without bodies what a module says of some types: the traits that they have, and their functions of these names."""
+    kept, block = [], None
+    for line in text.split("\n"):
+        if head := re.match(r"impl(?:<[^{]*?>)? (.* for )?(\w+)", line):
+            block = (head[1], []) if head[2] in types else None
+        if block is not None:
+            block[1].append(line)
+        if line == "}" and block is not None:
+            if block[0]:
+                kept += block[1]
+            else:
+                kept += functions_of(block[1], words)
+            block = None
+    return "\n".join(kept)
+
+
+def functions_of(lines, words):
+    """The lines of the functions of these names in a block, each up to the next one."""
+    kept, is_kept = [], False
+    for line in lines:
+        if name := re.match(r"    (?:pub(?:\(\w+\))? )?(?:const )?fn (\w+)", line):
+            is_kept = name[1] in words
+        if is_kept:
+            kept.append(line)
+    return kept
 
 
 def copy_to(folder, *left_out):
