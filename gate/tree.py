@@ -18,6 +18,10 @@ MUST_FAIL, FURTHER = "must-fail", "further-edits"
 CITED = re.compile(r"Rattle\.(\w+)\.specs\.([\w.+-]+)")
 
 
+# A line that imports names, for code or for contracts.
+IMPORT = re.compile(r"(\s*(?:ghost )?use (?:[\w.]+\.|(?:\w+::)+))(\{[^{}]*\}|\w+);$")
+
+
 class Tree:
     """A folder with crates.txt and crates/."""
 
@@ -103,7 +107,7 @@ class Tree:
     def interface(self, crate, file):
         """What a file says to who can't see bodies."""
         text = without_comments(self.text(crate, file))
-        return without_bodies(text) if file.endswith(".rt") else text
+        return without_unused(without_bodies(text)) if file.endswith(".rt") else text
 
     def names_in(self, text, crate):
         """The definitions of a crate that a text names."""
@@ -163,7 +167,7 @@ def without_bodies(text):
             continue
         if re.match(r"mod \w+;$", line):
             continue
-        if re.match(r"(?:pub\(\w+\) )?(?:const )?fn ", line):
+        if re.match(r"(?: {4})?pub\(\w+\) (?:const )?fn |(?:const )?fn ", line):
             is_kept = False
         if is_kept:
             kept.append(line)
@@ -173,6 +177,30 @@ def without_bodies(text):
             ends = opens[1] + "}"
         elif not is_kept and line.endswith(("{}", ";")):
             is_kept = True
+    return "\n".join(kept)
+
+
+def without_unused(text):
+    """Code without the names that it imports and doesn't use, as those that its bodies alone use."""
+    lines = [it for it in text.split("\n") if it.strip()]
+    code = "\n".join(it for it in lines if not IMPORT.match(it))
+    words = set(re.findall(r"\w+", code))
+
+    def is_used(name):
+        """Whether a name stands in the code, or each part of an operator."""
+        if "◌" in name:
+            return all(part in code for part in name.split(" as ")[-1].split("◌"))
+        return name.split(" as ")[-1].strip() in words
+
+    kept = []
+    for line in lines:
+        if found := IMPORT.match(line):
+            names = [it.strip() for it in (found[2][1:-1].split(",") if found[2].startswith("{") else [found[2]])]
+            used = ", ".join(it for it in names if is_used(it))
+            if used:
+                kept.append(f"{found[1]}{{{used}}};")
+        else:
+            kept.append(line)
     return "\n".join(kept)
 
 
