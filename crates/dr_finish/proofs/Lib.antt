@@ -2,3 +2,4 @@ pub mod ResultOrder
 pub mod AnyOrder
 pub mod Numbered
 pub mod Printing
+pub mod Kept

@@ -7,4 +7,5 @@ pub mod LookUps
 pub mod Condition
 pub mod Places
 pub mod LeafOf
+pub mod Placed
 pub mod HavingOf

@@ -109,10 +109,7 @@ fn selector_in(condition: &Having) -> Result<Option<DimensionValue>, AllocError>
     ensures { IfOk result (λ found. IfSome found (λ c. condition_in condition.now ≡ dimension c)) }
 {
     match condition {
-        Having::Dimension(selector) => Ok(Some(DimensionValue {
-            place: selector.place,
-            value: selector.value.copy()?,
-        })),
+        Having::Dimension(selector) => Ok(Some(selector.copy()?)),
         _ => Ok(None),
     }
 }

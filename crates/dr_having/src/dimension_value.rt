@@ -1,8 +1,9 @@
-ghost use Rattle.std.specs.Prelude.{◌≡◌};
+ghost use Rattle.std.specs.Prelude.{◌≡◌, IfOk};
 ghost use Rattle.dr_having.specs.Meeting.{meets_dimension};
 
 use crate::output_texts::OutputTexts;
 use dr_base::Text;
+use std::alloc::AllocError;
 
 /// A condition on the value of a dimension: its place among the dimensions of the query, from 0, and the text that it is.
 #[derive(Debug, Drop)]
@@ -17,5 +18,15 @@ impl DimensionValue {
         ensures { result ≡ meets_dimension self.now dims.now }
     {
         dims.at(self.place) == self.value.as_str()
+    }
+
+    // The same condition, in memory of its own.
+    pub(crate) fn copy(&self) -> Result<DimensionValue, AllocError>
+        ensures { IfOk result (λ c. c ≡ self.now) }
+    {
+        Ok(DimensionValue {
+            place: self.place,
+            value: self.value.copy()?,
+        })
     }
 }

@@ -1,10 +1,12 @@
 ghost use Rattle.std.specs.Prelude.{◌≡◌, ◌&&◌, ℤ, List, IfOk, IfSome, OnOk};
 ghost use Rattle.dr_having.specs.Compared.{every_holds, lie_in_all, AreEvery, IsEveryOf};
 ghost use Rattle.dr_having.specs.Meeting.{meets_value};
+ghost use Rattle.dr_having.specs.Placed.{members_placed};
 
 use crate::every_bound::EveryBound;
 use crate::group_value::GroupValue;
 use crate::output_numbers::OutputNumbers;
+use crate::placed_members::placed_members;
 use indexmap::IndexMap;
 use std::alloc::{AllocError, Global};
 use std::marker::Model;
@@ -39,6 +41,20 @@ impl EveryComparison {
     {
         let bounds = bounds_of(alloc, members.as_slice())?;
         Ok(EveryComparison { members, bounds })
+    }
+
+    // The same comparisons of outputs at other places.
+    pub(crate) fn placed(
+        &self,
+        alloc: Global,
+        places: &[usize],
+    ) -> Result<EveryComparison, AllocError>
+        ensures { IfOk result (λ c. c ≡ members_placed places.now self.now) }
+    {
+        EveryComparison::of(
+            alloc,
+            placed_members(alloc, self.members.as_slice(), places)?,
+        )
     }
 
     /// Whether a group with these values meets all the comparisons. It takes no memory, and time by the aggregations that

@@ -1,5 +1,6 @@
 ghost use Rattle.std.specs.Prelude.{◌≡◌};
 ghost use Rattle.dr_having.specs.Meeting.{meets_value};
+ghost use Rattle.dr_having.specs.Placed.{place_in as place_in_of, value_placed};
 
 use crate::comparison::Comparison;
 use crate::output_numbers::OutputNumbers;
@@ -19,5 +20,26 @@ impl GroupValue {
         ensures { result ≡ meets_value self.now values.now }
     {
         self.comparison.holds(values.at(self.place), self.value)
+    }
+
+    // The same condition on the output at another place.
+    pub(crate) fn placed(&self, places: &[usize]) -> GroupValue
+        ensures { result ≡ value_placed places.now self.now }
+    {
+        GroupValue {
+            place: place_in(places, self.place),
+            comparison: self.comparison,
+            value: self.value,
+        }
+    }
+}
+
+// The place that an output is asked at.
+fn place_in(places: &[usize], place: usize) -> usize
+    ensures { result ≡ place_in_of places.now place }
+{
+    match places.get(place) {
+        Some(other) => *other,
+        None => place,
     }
 }

@@ -3,6 +3,7 @@
 #![tactic(auto)]
 
 mod arranging;
+mod asking;
 mod comparison;
 mod dimension_value;
 mod every_bound;
@@ -16,6 +17,7 @@ mod number_set;
 mod output_names;
 mod output_numbers;
 mod output_texts;
+mod placed_members;
 mod reading;
 mod selectors;
 mod some_bound;

@@ -42,12 +42,41 @@ impl Selectors {
         Ok(Selectors { members, look_ups })
     }
 
+    // The same conditions, in memory of their own.
+    pub(crate) fn copy(&self, alloc: Global) -> Result<Selectors, AllocError>
+        ensures { IfOk result (λ s. s ≡ self.now) }
+    {
+        Selectors::of(alloc, copied(alloc, self.members.as_slice())?)
+    }
+
     /// Whether a group with these dimension values meets one of the conditions. It takes no memory, and expected time by the
     /// bytes of the values of the dimensions that the conditions name, however many conditions there are.
     pub fn hold_of(&self, dims: &OutputTexts<'_>) -> bool
         ensures { result ≡ some_selected dims.now self.now }
     {
         some_finds(self.look_ups.as_slice(), dims)
+    }
+}
+
+fn copied(
+    alloc: Global,
+    members: &[Option<DimensionValue>],
+) -> Result<Vec<Option<DimensionValue>>, AllocError>
+    ensures { IfOk result (λ ms. ms.items ≡ members.now) }
+{
+    let mut copies = Vec::with_capacity(alloc, members.len())?;
+    for member in members {
+        copies.push(copied_member(member)?)?;
+    }
+    Ok(copies)
+}
+
+fn copied_member(member: &Option<DimensionValue>) -> Result<Option<DimensionValue>, AllocError>
+    ensures { IfOk result (λ m. m ≡ member.now) }
+{
+    match member {
+        Some(condition) => Ok(Some(condition.copy()?)),
+        None => Ok(None),
     }
 }
 

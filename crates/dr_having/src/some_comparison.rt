@@ -1,9 +1,11 @@
 ghost use Rattle.std.specs.Prelude.{◌≡◌, ◌||◌, ℤ, List, IfOk, IfSome, OnOk};
 ghost use Rattle.dr_having.specs.Compared.{some_holds, reach_some, AreSome, IsSomeOf};
 ghost use Rattle.dr_having.specs.Meeting.{meets_value};
+ghost use Rattle.dr_having.specs.Placed.{members_placed};
 
 use crate::group_value::GroupValue;
 use crate::output_numbers::OutputNumbers;
+use crate::placed_members::placed_members;
 use crate::some_bound::SomeBound;
 use indexmap::IndexMap;
 use std::alloc::{AllocError, Global};
@@ -39,6 +41,20 @@ impl SomeComparison {
     {
         let bounds = bounds_of(alloc, members.as_slice())?;
         Ok(SomeComparison { members, bounds })
+    }
+
+    // The same comparisons of outputs at other places.
+    pub(crate) fn placed(
+        &self,
+        alloc: Global,
+        places: &[usize],
+    ) -> Result<SomeComparison, AllocError>
+        ensures { IfOk result (λ c. c ≡ members_placed places.now self.now) }
+    {
+        SomeComparison::of(
+            alloc,
+            placed_members(alloc, self.members.as_slice(), places)?,
+        )
     }
 
     /// Whether a group with these values meets one of the comparisons. It takes no memory, and expected time by the

@@ -1,23 +1,21 @@
-use Rattle.std.proofs.Common.{◌≡◌, ◌∙◌, sym, ap, [], ◌∷◌, ◌++◌, length, filter, append_assoc, arith, Bool}
+use Rattle.std.proofs.Common.{◌≡◌, ◌∙◌, sym, ap, filter, Some}
 use Rattle.std.specs.Prelude.{option_map}
-use Rattle.std.specs.Vec.Iter.{into_iter_items}
-use Rattle.std.proofs.lemmas.List.Elements.{filter-append}
-use Rattle.dr_base.specs.declared.row.Row.{Row}
 use Rattle.dr_having.specs.Condition.{condition_in}
 use Rattle.dr_answers.specs.Given.{is_kept}
 use Rattle.dr_finish.specs.RowOrder.{spread_row}
+use Rattle.dr_finish.proofs.Kept.{all-kept, together-kept, kept-same}
 use Rattle.dr_finish.proofs.keeping.kept.Goals as goal
 
-pub loop-group-preserved : goal.loop-group-preserved
-loop-group-preserved c =
-    let at = c.loop-group in
+pub returns-in-None : goal.returns-in-None
+returns-in-None c =
     let by = c.args.by.now in
-    let test : Row → Bool = λ g. is_kept (option_map condition_in by.having) (spread_row by.dimensions c.args.aggregations.now g) in
-    let steps : into_iter_items at.group-iterator ≡ c.in-Some.group ∷ into_iter_items c.next.new.self = c.in-Some.ensures.steps.0 in (
-      append_assoc at.yielded (c.in-Some.group ∷ []) _ ∙ rw (← steps) at.invariant.0,
-      c.in_ok-put_kept.ensures ∙ ap (λ l. l ++ filter test (c.in-Some.group ∷ [])) at.invariant.1 ∙ sym (filter-append test at.yielded (c.in-Some.group ∷ [])),
-      let was = at.invariant.2 in
-          let gone = c.in-Some.ensures.steps.1 in
-          let short = ap length steps in
-          omega arith,
-    )
+    all-kept by.dimensions c.args.aggregations.now c.args.groups.items ∙ ap (λ h. filter (λ g. is_kept (option_map condition_in h) (spread_row by.dimensions c.args.aggregations.now g)) c.args.groups.items) (sym c.in-None.is)
+
+pub returns-in_ok-together-in-Some : goal.returns-in_ok-together-in-Some
+returns-in_ok-together-in-Some c =
+    let by = c.args.by.now in
+    let aggregations = c.args.aggregations.now in
+    kept-same (λ v. v.items) c.kept_by.result _ _
+    (together-kept by.dimensions aggregations (condition_in c.in_ok-together-in-Some.together) (condition_in c.in-Some.having) c.numbers.result.now c.args.groups.items c.numbers.ensures c.in_ok-together-in-Some.ensures
+    ∙ ap (λ h. filter (λ g. is_kept (option_map condition_in h) (spread_row by.dimensions aggregations g)) c.args.groups.items) (sym c.in-Some.is))
+    c.kept_by.ensures
