@@ -205,9 +205,12 @@ def without_unused(text):
 
 
 def said_of(text, types, words):
-    """Of code without bodies what a module says of some types: the traits that they have, and their functions of these names."""
+    """Of code without bodies what a module says of some types: the traits that they have, their functions of these names, and what
+    these import."""
     kept, block = [], None
     for line in text.split("\n"):
+        if IMPORT.match(line) and block is None:
+            kept.append(line)
         if head := re.match(r"impl(?:<[^{]*?>)? (.* for )?(\w+)", line):
             block = (head[1], []) if head[2] in types else None
         if block is not None:
@@ -218,7 +221,7 @@ def said_of(text, types, words):
             else:
                 kept += functions_of(block[1], words)
             block = None
-    return "\n".join(kept)
+    return without_unused("\n".join(kept))
 
 
 def functions_of(lines, words):
