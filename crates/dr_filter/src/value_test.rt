@@ -26,8 +26,8 @@ pub enum ValueTest {
 impl ValueTest {
     /// Whether a value passes. It takes no memory, and expected time by the bytes of the value; the number of texts of an `in`
     /// doesn't count, and the number of ranges that are asked together counts by its logarithm. For a pattern it takes time by
-    /// the bytes of the pattern and of the value together, but for a piece between two `%` that has a `_` with other characters
-    /// on both sides of it: at worst such a piece takes its own bytes times those of the value.
+    /// the bytes of the pattern and of the value together, but for a piece between two `%` that has a `_` behind its first other
+    /// character: at worst such a piece takes its own bytes times those of the value.
     pub fn passes(&self, value: &str) -> bool
         ensures { result ≡ passes_of self.now value.now }
     {
