@@ -2,6 +2,7 @@
 //! order in which they come, a sorted one in the order of their bytes; a set of texts only tells which are new.
 #![tactic(auto)]
 
+mod adding;
 mod dict_error;
 mod growing_dict;
 mod sorted_dict;

@@ -1,4 +1,4 @@
-ghost use Rattle.std.specs.Prelude.{◌≡◌, ◌∷◌, ◌++◌, ◌||◌, [], ℕ, List, true, false, not, map, string_bytes, IfOk, OnErr, OnOk, bytes_eq};
+ghost use Rattle.std.specs.Prelude.{◌≡◌, ◌∷◌, ◌++◌, [], true, false, not, map, string_bytes, IfOk, OnErr, bytes_eq};
 ghost use Rattle.std.specs.List.{list_any};
 
 use dr_base::Text;
@@ -37,26 +37,8 @@ impl TextSet {
         self.add_str(text.as_str())
     }
 
-    /// Adds the texts of another set, where they are new. The only error is that memory ran out, and some of them may have been
-    /// added then. It takes expected time by the bytes of the other texts.
-    pub fn add_all(&mut self, others: &TextSet) -> Result<(), AllocError>
-        ensures { OnOk result ((text : List ℕ) → list_any (bytes_eq text) self.new ≡ (list_any (bytes_eq text) self.old || list_any (bytes_eq text) others.now)) }
-    {
-        self.add_each(others.0.as_slice())
-    }
-
-    // Adds some texts, where they are new.
-    fn add_each(&mut self, texts: &[String]) -> Result<(), AllocError>
-        ensures { OnOk result ((text : List ℕ) → list_any (bytes_eq text) self.new ≡ (list_any (bytes_eq text) self.old || list_any (bytes_eq text) (map string_bytes texts.now))) }
-    {
-        for text in texts {
-            self.add_str(text.as_str())?;
-        }
-        Ok(())
-    }
-
     // Adds a text, as `add` does.
-    fn add_str(&mut self, text: &str) -> Result<bool, AllocError>
+    pub(crate) fn add_str(&mut self, text: &str) -> Result<bool, AllocError>
         ensures is_new { IfOk result (λ is_new. is_new ≡ not (list_any (bytes_eq text.now) self.old)) }
         ensures added { IfOk result (λ is_new. is_new ≡ true → self.new ≡ self.old ++ text.now ∷ []) }
         ensures same { IfOk result (λ is_new. is_new ≡ false → self.new ≡ self.old) }
@@ -64,6 +46,13 @@ impl TextSet {
     {
         let copy = String::from_str(*self.0.allocator(), text)?;
         Ok(self.0.insert(copy)?)
+    }
+
+    // The texts, one for each place.
+    pub(crate) fn texts(&self) -> &[String]
+        ensures { map string_bytes result.now ≡ self.now }
+    {
+        self.0.as_slice()
     }
 
     /// Whether the text is among them. It takes no memory, and expected time by the bytes of the text, however many there are.

@@ -6,10 +6,9 @@ use Rattle.std.proofs.lemmas.List.Folds.{list_any-append, list_all-append}
 use Rattle.dr_filter.specs.declared.bound.Bound.{Bound}
 use Rattle.dr_filter.specs.declared.dimension_test.DimensionTest.{DimensionTest}
 use Rattle.dr_filter.specs.declared.filter.Filter.{Filter}
-use Rattle.dr_filter.specs.declared.selector.Selector.{Selector}
 use Rattle.dr_filter.specs.declared.value_test.ValueTest.{ValueTest}
 use Rattle.dr_filter.specs.Condition.{Condition, condition_in, conditions_of, matches, every_matches, some_matches, members_of, selects, ranges}
-use Rattle.dr_filter.specs.LookUps.{as_test, as_range, tests_in, some_holds, every_holds, AreLookedUp, IsTestOf}
+use Rattle.dr_filter.specs.LookUps.{as_range, tests_in, some_holds, every_holds, AreLookedUp, IsTestOf}
 use Rattle.dr_filter.specs.Members.{others_in, PutsBehind}
 use Rattle.dr_filter.specs.Match.{lies_within, passes, value_at, holds_of}
 use Rattle.dr_base.proofs.Truths.{or_regroups, or_swaps, or_moves, or_ends, and_regroups, and_swaps, and_moves, and_ends, neither_and}
@@ -29,14 +28,14 @@ module _ (f : DimensionTest → Bool) (t new : DimensionTest) (b : Bool) where
   list_all-set (x ∷ xs) zero lt is h = ap (λ a. a && list_all f xs) (h ∙ ap (λ z. f z && b) is) ∙ and_swaps (f x) b (list_all f xs)
   list_all-set (x ∷ xs) (suc i) lt is h = ap (λ a. f x && a) (list_all-set xs i (omega (arith, lt)) is h) ∙ and_regroups (f x) (list_all f xs) b
 
-pub added-there : (tests : List DimensionTest) (i : ℕ) (t : DimensionTest) (new : ValueTest) (s : Selector) → IsTestOf tests i s.place → t ≡ get_or tests i t
-    → ((value : List ℕ) → passes new value ≡ (passes t.test value || bytes_eq value s.text)) → (dims : List (List ℕ)) → some_holds dims (set tests i (record { place = t.place; test = new })) ≡ (some_holds dims tests || holds_of (as_test s) dims)
+pub added-there : (tests : List DimensionTest) (i : ℕ) (t : DimensionTest) (new : ValueTest) (s : DimensionTest) → IsTestOf tests i s.place → t ≡ get_or tests i t
+    → ((value : List ℕ) → passes new value ≡ (passes t.test value || passes s.test value)) → (dims : List (List ℕ)) → some_holds dims (set tests i (record { place = t.place; test = new })) ≡ (some_holds dims tests || holds_of s dims)
 added-there tests i t new s at is adds dims =
     let here : t.place ≡ s.place = ap (λ (x : DimensionTest). x.place) is ∙ at.1 t in
-    list_any-set (λ x. holds_of x dims) t (record { place = t.place; test = new }) (holds_of (as_test s) dims) tests i at.0 is
-    (adds (value_at t.place dims) ∙ ap (λ p. holds_of t dims || bytes_eq (value_at p dims) s.text) here)
+    list_any-set (λ x. holds_of x dims) t (record { place = t.place; test = new }) (holds_of s dims) tests i at.0 is
+    (adds (value_at t.place dims) ∙ ap (λ p. holds_of t dims || passes s.test (value_at p dims)) here)
 
-pub added-behind : (tests : List DimensionTest) (t : DimensionTest) (s : Selector) (dims : List (List ℕ)) → holds_of t dims ≡ holds_of (as_test s) dims → some_holds dims (tests ++ t ∷ []) ≡ (some_holds dims tests || holds_of (as_test s) dims)
+pub added-behind : (tests : List DimensionTest) (t : DimensionTest) (s : DimensionTest) (dims : List (List ℕ)) → holds_of t dims ≡ holds_of s dims → some_holds dims (tests ++ t ∷ []) ≡ (some_holds dims tests || holds_of s dims)
 added-behind tests t s dims is =
     list_any-append (λ x. holds_of x dims) tests (t ∷ []) ∙ or_ends (some_holds dims tests) (holds_of t dims) ∙ ap (λ b. some_holds dims tests || b) is
 
@@ -53,21 +52,21 @@ narrowed-behind tests t dims =
 
 -- ---- members
 
-tests_in-selector : (ms : List (Option Selector)) (s : Selector) → tests_in as_test (ms ++ Some s ∷ []) ≡ tests_in as_test ms ++ as_test s ∷ []
+tests_in-selector : (ms : List (Option DimensionTest)) (s : DimensionTest) → tests_in (λ t. t) (ms ++ Some s ∷ []) ≡ tests_in (λ t. t) ms ++ s ∷ []
 tests_in-selector [] s = refl
-tests_in-selector (Some m ∷ ms) s = ap (λ ts. as_test m ∷ ts) (tests_in-selector ms s)
+tests_in-selector (Some m ∷ ms) s = ap (λ ts. m ∷ ts) (tests_in-selector ms s)
 tests_in-selector (None ∷ ms) s = tests_in-selector ms s
 
-tests_in-other : (ms : List (Option Selector)) → tests_in as_test (ms ++ None ∷ []) ≡ tests_in as_test ms
+tests_in-other : (ms : List (Option DimensionTest)) → tests_in (λ t. t) (ms ++ None ∷ []) ≡ tests_in (λ t. t) ms
 tests_in-other [] = refl
-tests_in-other (Some m ∷ ms) = ap (λ ts. as_test m ∷ ts) (tests_in-other ms)
+tests_in-other (Some m ∷ ms) = ap (λ ts. m ∷ ts) (tests_in-other ms)
 tests_in-other (None ∷ ms) = tests_in-other ms
 
-pub looked_up-selector : (old new : List DimensionTest) (ms : List (Option Selector)) (s : Selector) → AreLookedUp old ms → ((dims : List (List ℕ)) → some_holds dims new ≡ (some_holds dims old || holds_of (as_test s) dims)) → AreLookedUp new (ms ++ Some s ∷ [])
+pub looked_up-selector : (old new : List DimensionTest) (ms : List (Option DimensionTest)) (s : DimensionTest) → AreLookedUp old ms → ((dims : List (List ℕ)) → some_holds dims new ≡ (some_holds dims old || holds_of s dims)) → AreLookedUp new (ms ++ Some s ∷ [])
 looked_up-selector old new ms s were added = λ dims.
-    added dims ∙ ap (λ b. b || holds_of (as_test s) dims) (were dims) ∙ sym (ap (some_holds dims) (tests_in-selector ms s) ∙ added-behind (tests_in as_test ms) (as_test s) s dims refl)
+    added dims ∙ ap (λ b. b || holds_of s dims) (were dims) ∙ sym (ap (some_holds dims) (tests_in-selector ms s) ∙ added-behind (tests_in (λ t. t) ms) s s dims refl)
 
-pub looked_up-other : (tests : List DimensionTest) (ms : List (Option Selector)) → AreLookedUp tests ms → AreLookedUp tests (ms ++ None ∷ [])
+pub looked_up-other : (tests : List DimensionTest) (ms : List (Option DimensionTest)) → AreLookedUp tests ms → AreLookedUp tests (ms ++ None ∷ [])
 looked_up-other tests ms were = λ dims. were dims ∙ sym (ap (some_holds dims) (tests_in-other ms))
 
 module _ {A : Type 0} where
@@ -99,24 +98,24 @@ module _ {A : Type 0} where
 -- ---- rows
 
 -- some member matches where one of the selectors holds, or one of the others matches
-pub some_matches-members : (time : ℤ) (dims : List (List ℕ)) (ms : List (Option Selector)) (cs : List Condition)
-    → some_matches time dims (conditions_of (members_of (selects true) ms cs)) ≡ (some_holds dims (tests_in as_test ms) || some_matches time dims (conditions_of cs))
+pub some_matches-members : (time : ℤ) (dims : List (List ℕ)) (ms : List (Option DimensionTest)) (cs : List Condition)
+    → some_matches time dims (conditions_of (members_of (selects true) ms cs)) ≡ (some_holds dims (tests_in (λ t. t) ms) || some_matches time dims (conditions_of cs))
 some_matches-members time dims [] cs = refl
 some_matches-members time dims (Some s ∷ ms) cs =
-    ap (λ b. holds_of (as_test s) dims || b) (some_matches-members time dims ms cs) ∙ or_regroups (holds_of (as_test s) dims) (some_holds dims (tests_in as_test ms)) (some_matches time dims (conditions_of cs))
+    ap (λ b. holds_of s dims || b) (some_matches-members time dims ms cs) ∙ or_regroups (holds_of s dims) (some_holds dims (tests_in (λ t. t) ms)) (some_matches time dims (conditions_of cs))
 some_matches-members time dims (None ∷ ms) [] = some_matches-members time dims ms []
 some_matches-members time dims (None ∷ ms) (c ∷ cs) =
-    ap (λ b. matches time dims c || b) (some_matches-members time dims ms cs) ∙ or_moves (matches time dims c) (some_holds dims (tests_in as_test ms)) (some_matches time dims (conditions_of cs))
+    ap (λ b. matches time dims c || b) (some_matches-members time dims ms cs) ∙ or_moves (matches time dims c) (some_holds dims (tests_in (λ t. t) ms)) (some_matches time dims (conditions_of cs))
 
 -- every member matches where none of the denied selectors holds, and all the others match
-pub every_matches-denied : (time : ℤ) (dims : List (List ℕ)) (ms : List (Option Selector)) (cs : List Condition)
-    → every_matches time dims (conditions_of (members_of (selects false) ms cs)) ≡ (not (some_holds dims (tests_in as_test ms)) && every_matches time dims (conditions_of cs))
+pub every_matches-denied : (time : ℤ) (dims : List (List ℕ)) (ms : List (Option DimensionTest)) (cs : List Condition)
+    → every_matches time dims (conditions_of (members_of (selects false) ms cs)) ≡ (not (some_holds dims (tests_in (λ t. t) ms)) && every_matches time dims (conditions_of cs))
 every_matches-denied time dims [] cs = refl
 every_matches-denied time dims (Some s ∷ ms) cs =
-    ap (λ b. not (holds_of (as_test s) dims) && b) (every_matches-denied time dims ms cs) ∙ neither_and (holds_of (as_test s) dims) (some_holds dims (tests_in as_test ms)) (every_matches time dims (conditions_of cs))
+    ap (λ b. not (holds_of s dims) && b) (every_matches-denied time dims ms cs) ∙ neither_and (holds_of s dims) (some_holds dims (tests_in (λ t. t) ms)) (every_matches time dims (conditions_of cs))
 every_matches-denied time dims (None ∷ ms) [] = every_matches-denied time dims ms []
 every_matches-denied time dims (None ∷ ms) (c ∷ cs) =
-    ap (λ b. matches time dims c && b) (every_matches-denied time dims ms cs) ∙ and_moves (matches time dims c) (not (some_holds dims (tests_in as_test ms))) (every_matches time dims (conditions_of cs))
+    ap (λ b. matches time dims c && b) (every_matches-denied time dims ms cs) ∙ and_moves (matches time dims c) (not (some_holds dims (tests_in (λ t. t) ms))) (every_matches time dims (conditions_of cs))
 
 -- every member matches where all the bounds hold, and all the others match
 pub every_matches-ranges : (time : ℤ) (dims : List (List ℕ)) (ms : List (Option Bound)) (cs : List Condition)
@@ -138,17 +137,17 @@ some_matches-ranges time dims (None ∷ ms) [] = some_matches-ranges time dims m
 some_matches-ranges time dims (None ∷ ms) (c ∷ cs) =
     ap (λ a. matches time dims c || a) (some_matches-ranges time dims ms cs) ∙ or_moves (matches time dims c) (some_holds dims (tests_in as_range ms)) (some_matches time dims (conditions_of cs))
 
-module _ (time : ℤ) (dims : List (List ℕ)) (ms : List (Option Selector)) (cs : List Condition) where
-  pub matches-selectors : some_holds dims (tests_in as_test ms) ≡ true → some_matches time dims (conditions_of (members_of (selects true) ms cs)) ≡ true
+module _ (time : ℤ) (dims : List (List ℕ)) (ms : List (Option DimensionTest)) (cs : List Condition) where
+  pub matches-selectors : some_holds dims (tests_in (λ t. t) ms) ≡ true → some_matches time dims (conditions_of (members_of (selects true) ms cs)) ≡ true
   matches-selectors holds = some_matches-members time dims ms cs ∙ ap (λ b. b || some_matches time dims (conditions_of cs)) holds
 
-  pub matches-others : some_holds dims (tests_in as_test ms) ≡ false → some_matches time dims (conditions_of (members_of (selects true) ms cs)) ≡ some_matches time dims (conditions_of cs)
+  pub matches-others : some_holds dims (tests_in (λ t. t) ms) ≡ false → some_matches time dims (conditions_of (members_of (selects true) ms cs)) ≡ some_matches time dims (conditions_of cs)
   matches-others none = some_matches-members time dims ms cs ∙ ap (λ b. b || some_matches time dims (conditions_of cs)) none
 
-  pub matches-denied : some_holds dims (tests_in as_test ms) ≡ true → every_matches time dims (conditions_of (members_of (selects false) ms cs)) ≡ false
+  pub matches-denied : some_holds dims (tests_in (λ t. t) ms) ≡ true → every_matches time dims (conditions_of (members_of (selects false) ms cs)) ≡ false
   matches-denied holds = every_matches-denied time dims ms cs ∙ ap (λ b. not b && every_matches time dims (conditions_of cs)) holds
 
-  pub matches-allowed : some_holds dims (tests_in as_test ms) ≡ false → every_matches time dims (conditions_of (members_of (selects false) ms cs)) ≡ every_matches time dims (conditions_of cs)
+  pub matches-allowed : some_holds dims (tests_in (λ t. t) ms) ≡ false → every_matches time dims (conditions_of (members_of (selects false) ms cs)) ≡ every_matches time dims (conditions_of cs)
   matches-allowed none = every_matches-denied time dims ms cs ∙ ap (λ b. not b && every_matches time dims (conditions_of cs)) none
 
 module _ (time : ℤ) (dims : List (List ℕ)) (ms : List (Option Bound)) (cs : List Condition) where

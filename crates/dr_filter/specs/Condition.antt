@@ -6,8 +6,7 @@ use Rattle.dr_filter.specs.declared.bound.Bound.{Bound}
 use Rattle.dr_filter.specs.declared.dimension_test.DimensionTest.{DimensionTest}
 use Rattle.dr_filter.specs.declared.filter.Filter.{Filter, fold-Filter}
 use Rattle.dr_filter.specs.declared.filter.Filter.TheOpen.{Filter-F}
-use Rattle.dr_filter.specs.declared.selector.Selector.{Selector}
-use Rattle.dr_filter.specs.LookUps.{as_test, as_range}
+use Rattle.dr_filter.specs.LookUps.{as_range}
 use Rattle.dr_filter.specs.Match.{holds_of}
 
 mutual
@@ -45,9 +44,9 @@ abbrev mutual
   some_matches time dims (condition c cs) = matches time dims c || some_matches time dims cs
 
 -- what a selector stands for: that it holds, or that it doesn't
-abbrev pub selects : Bool → Selector → Condition
-selects true s = dimension (as_test s)
-selects false s = opposite (dimension (as_test s))
+abbrev pub selects : Bool → DimensionTest → Condition
+selects true t = dimension t
+selects false t = opposite (dimension t)
 
 -- what a bound stands for
 abbrev pub ranges : Bound → Condition

@@ -1,15 +1,19 @@
 -- The members of an `and` or an `or` that are asked together.
-use Rattle.std.specs.Prelude.{◌≡◌, ℕ, ◌<◌, Bool, List, [], ◌∷◌, Option, Some, None, length, get_or}
+use Rattle.std.specs.Prelude.{◌≡◌, ℕ, ◌<◌, Bool, true, false, List, [], ◌∷◌, Option, Some, None, length, get_or}
 use Rattle.std.specs.List.{list_any, list_all}
 use Rattle.dr_filter.specs.declared.bound.Bound.{Bound}
 use Rattle.dr_filter.specs.declared.dimension_test.DimensionTest.{DimensionTest}
-use Rattle.dr_filter.specs.declared.selector.Selector.{Selector}
-use Rattle.dr_filter.specs.declared.value_test.ValueTest.TheVariants.{Equals, Within}
+use Rattle.dr_filter.specs.declared.value_test.ValueTest.{ValueTest}
+use Rattle.dr_filter.specs.declared.value_test.ValueTest.TheVariants.{Equals, Among, Within, WithinOne, Like}
 use Rattle.dr_filter.specs.Match.{holds_of}
 
--- a selector is a test of its dimension
-abbrev pub as_test : Selector → DimensionTest
-as_test s = record { place = s.place; test = Equals s.text }
+-- a value passes where it is one of some texts
+abbrev pub is_texts : ValueTest → Bool
+is_texts (Equals text) = true
+is_texts (Among texts) = true
+is_texts (Within bounds) = false
+is_texts (WithinOne ranges) = false
+is_texts (Like pattern) = false
 
 -- a bound is a test of its dimension
 abbrev pub as_range : Bound → DimensionTest
@@ -29,9 +33,9 @@ some_holds dims tests = list_any (λ t. holds_of t dims) tests
 abbrev pub every_holds : List (List ℕ) → List DimensionTest → Bool
 every_holds dims tests = list_all (λ t. holds_of t dims) tests
 
--- some tests tell of all dimension values what the selectors tell, of which one is to hold
-abbrev pub AreLookedUp : List DimensionTest → List (Option Selector) → Type 0
-AreLookedUp tests ms = (dims : List (List ℕ)) → some_holds dims tests ≡ some_holds dims (tests_in as_test ms)
+-- some tests tell of all dimension values what others tell, of which one is to hold
+abbrev pub AreLookedUp : List DimensionTest → List (Option DimensionTest) → Type 0
+AreLookedUp tests ms = (dims : List (List ℕ)) → some_holds dims tests ≡ some_holds dims (tests_in (λ t. t) ms)
 
 -- some tests tell of all dimension values what the bounds tell, which are all to hold
 abbrev pub AreEvery : List DimensionTest → List (Option Bound) → Type 0

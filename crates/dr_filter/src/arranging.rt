@@ -1,12 +1,12 @@
-ghost use Rattle.std.specs.Prelude.{◌≡◌, map, IfOk, IfSome, OnOk};
+ghost use Rattle.std.specs.Prelude.{◌≡◌, true, map, IfOk, IfSome, MatchResult, OnOk};
 ghost use Rattle.dr_filter.specs.Condition.{condition_in, conditions_of, members_of, every, some, dimension, opposite, selects, ranges};
-ghost use Rattle.dr_filter.specs.LookUps.{as_test, as_range};
+ghost use Rattle.dr_filter.specs.LookUps.{as_range, is_texts};
 ghost use Rattle.dr_filter.specs.Members.{PutsBehind};
 
 use crate::bound::Bound;
+use crate::dimension_test::DimensionTest;
 use crate::every_bound::EveryBound;
 use crate::filter::Filter;
-use crate::selector::Selector;
 use crate::selectors::Selectors;
 use crate::some_bound::SomeBound;
 use crate::value_test::ValueTest;
@@ -48,7 +48,7 @@ fn selectors_apart(
     Ok((selectors, others))
 }
 
-// Some members and a filter behind them, as a selector, or as one that stands apart.
+// Some members and a filter behind them, as one that is looked up, or as one that stands apart.
 fn with_selector(
     alloc: Global,
     selectors: Selectors,
@@ -58,10 +58,10 @@ fn with_selector(
 ) -> Result<Selectors, AllocError>
     ensures { IfOk result (λ more. PutsBehind (selects holds) selectors (map condition_in others.old.items) (condition_in filter) more (map condition_in others.new.items)) }
 {
-    match selector_in(&filter, holds)? {
-        Some(selector) => selectors.and_selector(alloc, selector),
-        None => {
-            others.push(filter)?;
+    match taken(alloc, filter, holds)? {
+        Ok(test) => selectors.and_texts(alloc, test),
+        Err(other) => {
+            others.push(other)?;
             selectors.and_other()
         }
     }
@@ -100,39 +100,46 @@ fn put_bound(
     Ok(())
 }
 
-// The selector that a filter is, or of which it is the `not`, where it is that.
-fn selector_in(filter: &Filter, holds: bool) -> Result<Option<Selector>, AllocError>
-    ensures { IfOk result (λ found. IfSome found (λ s. condition_in filter.now ≡ selects holds s)) }
+// The test of a dimension for some texts that a filter is, or of which it is the `not`; else the filter.
+fn taken(
+    alloc: Global,
+    filter: Filter,
+    holds: bool,
+) -> Result<Result<DimensionTest, Filter>, AllocError>
+    ensures { IfOk result (λ r. MatchResult r (λ t. (condition_in filter ≡ selects holds t) × (is_texts t.test ≡ true)) (λ f. condition_in f ≡ condition_in filter)) }
 {
     if holds {
-        held_in(filter)
+        Ok(held_in(filter))
     } else {
-        denied_in(filter)
+        denied_in(alloc, filter)
     }
 }
 
-fn denied_in(filter: &Filter) -> Result<Option<Selector>, AllocError>
-    ensures { IfOk result (λ found. IfSome found (λ s. condition_in filter.now ≡ opposite (dimension (as_test s)))) }
+fn denied_in(alloc: Global, filter: Filter) -> Result<Result<DimensionTest, Filter>, AllocError>
+    ensures { IfOk result (λ r. MatchResult r (λ t. (condition_in filter ≡ opposite (dimension t)) × (is_texts t.test ≡ true)) (λ f. condition_in f ≡ condition_in filter)) }
 {
     match filter {
-        Filter::Not(denied) => held_in(denied),
-        _ => Ok(None),
+        Filter::Not(denied) => match held_in(Box::into_inner(denied)) {
+            Ok(test) => Ok(Ok(test)),
+            Err(other) => Ok(Err(Filter::Not(Box::new(alloc, other)?))),
+        },
+        other => Ok(Err(other)),
     }
 }
 
-fn held_in(filter: &Filter) -> Result<Option<Selector>, AllocError>
-    ensures { IfOk result (λ found. IfSome found (λ s. condition_in filter.now ≡ dimension (as_test s))) }
+fn held_in(filter: Filter) -> Result<DimensionTest, Filter>
+    ensures { MatchResult result (λ t. (condition_in filter ≡ dimension t) × (is_texts t.test ≡ true)) (λ f. condition_in f ≡ condition_in filter) }
 {
-    let Filter::Dimension(test) = filter else {
-        return Ok(None);
-    };
-    let ValueTest::Equals(text) = &test.test else {
-        return Ok(None);
-    };
-    Ok(Some(Selector {
-        place: test.place,
-        text: text.copy()?,
-    }))
+    match filter {
+        Filter::Dimension(test) => {
+            if test.test.is_texts() {
+                Ok(test)
+            } else {
+                Err(Filter::Dimension(test))
+            }
+        }
+        other => Err(other),
+    }
 }
 
 // The bound that a filter is, where it is one.

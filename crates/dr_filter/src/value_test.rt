@@ -1,4 +1,6 @@
 ghost use Rattle.std.specs.Prelude.{◌≡◌, ◌||◌, ◌&&◌, ℕ, List, true, false, IfOk, bytes_eq};
+ghost use Rattle.std.specs.List.{list_any};
+ghost use Rattle.dr_filter.specs.LookUps.{is_texts as is_texts_of};
 ghost use Rattle.dr_filter.specs.Match.{lies_within, passes as passes_of};
 
 use crate::bounds::Bounds;
@@ -40,16 +42,23 @@ impl ValueTest {
         }
     }
 
-    // Adds a text to those of an `in`, and tells whether it is one.
-    pub(crate) fn add(&mut self, text: &Text) -> Result<bool, AllocError>
-        ensures added { IfOk result (λ added. added ≡ true → (value : List ℕ) → passes_of self.new value ≡ (passes_of self.old value || bytes_eq value text.now)) }
+    // Whether it asks for one of some texts.
+    pub(crate) fn is_texts(&self) -> bool
+        ensures { result ≡ is_texts_of self.now }
+    {
+        match self {
+            ValueTest::Equals(_) | ValueTest::Among(_) => true,
+            _ => false,
+        }
+    }
+
+    // Lets those texts of an `in` pass that another test lets pass too, and tells whether both ask for texts.
+    pub(crate) fn add(&mut self, other: &ValueTest) -> Result<bool, AllocError>
+        ensures added { IfOk result (λ added. added ≡ true → (value : List ℕ) → passes_of self.new value ≡ (passes_of self.old value || passes_of other.now value)) }
         ensures same { IfOk result (λ added. added ≡ false → self.new ≡ self.old) }
     {
         match self {
-            ValueTest::Among(texts) => {
-                texts.add(text)?;
-                Ok(true)
-            }
+            ValueTest::Among(texts) => add_texts(texts, other),
             _ => Ok(false),
         }
     }
@@ -66,5 +75,24 @@ impl ValueTest {
             }
             _ => Ok(false),
         }
+    }
+}
+
+// Adds the texts that a test asks for, and tells whether it asks for texts.
+pub fn add_texts(texts: &mut TextSet, test: &ValueTest) -> Result<bool, AllocError>
+    ensures is { IfOk result (λ added. added ≡ is_texts_of test.now) }
+    ensures added { IfOk result (λ added. added ≡ true → (value : List ℕ) → list_any (bytes_eq value) texts.new ≡ (list_any (bytes_eq value) texts.old || passes_of test.now value)) }
+    ensures same { IfOk result (λ added. added ≡ false → texts.new ≡ texts.old) }
+{
+    match test {
+        ValueTest::Equals(text) => {
+            texts.add(text)?;
+            Ok(true)
+        }
+        ValueTest::Among(others) => {
+            texts.add_all(others)?;
+            Ok(true)
+        }
+        _ => Ok(false),
     }
 }

@@ -3,14 +3,14 @@ use Rattle.std.specs.List.{list_any}
 use Rattle.std.proofs.lemmas.List.{drop_more}
 use Rattle.dr_base.proofs.Truths.{or_regroups}
 use Rattle.dr_dict.proofs.AddedTexts.{found-added}
-use Rattle.dr_dict.proofs.text_set.TextSet.add_each.Goals as goal
+use Rattle.dr_dict.proofs.adding.add_each.Goals as goal
 
 pub loop-text-preserved : goal.loop-text-preserved
 loop-text-preserved c = λ other.
     let texts = c.args.texts.now in
     let i = c.loop-text.text-index in
     let text = c.text-item.result in
-    let old = c.loop-text.self in
+    let old = c.loop-text.set in
     let told = c.in_ok-add_str.ensures in
     let rest = drop (i + 1) texts in
     let split : drop i texts ≡ text ∷ rest = drop_more texts i text c.loop-text-test.true ∙ ap (λ t. t ∷ rest) (sym c.text-item.is) in
