@@ -13,7 +13,7 @@ use Rattle.dr_ask.specs.declared.scan_column.ScanColumn.{ScanColumn}
 use Rattle.dr_ask.specs.declared.query_error.QueryError.{QueryError}
 use Rattle.dr_ask.specs.declared.query_error.QueryError.TheVariants.{Base, DuplicateOutput}
 use Rattle.dr_ask.specs.AggregationsOf.{column_of}
-use Rattle.dr_ask.specs.DimensionsOf.{place_of}
+use Rattle.dr_schema.specs.Names.{dimension_place}
 
 -- ---- the column of a name
 
@@ -29,7 +29,7 @@ dimension_or_metric (Some place) column = Dimension place
 abbrev pub source_named : Schema → List ℕ → ColumnSource
 source_named schema name =
     if bytes_eq name (codes "__time") then Time
-    else dimension_or_metric (place_of schema name) (column_of schema.metrics name)
+    else dimension_or_metric (dimension_place schema name) (column_of schema.metrics name)
 
 abbrev pub column_named : Schema → List ℕ → ScanColumn
 column_named schema name = record { name = name; source = source_named schema name }

@@ -1,33 +1,25 @@
 -- The dimensions that a groupBy groups by (Apache Druid documentation, native queries, dimension specs).
-use Rattle.std.specs.Prelude.{ℕ, Bool, ◌||◌, List, [], ◌∷◌, Option, Some, None, Result, Ok, Err, if◌then◌else◌, bytes_eq, codes}
-use Rattle.std.specs.List.{list_any, position}
+use Rattle.std.specs.Prelude.{ℕ, List, [], ◌∷◌, Option, Some, None, Result, Ok, Err, if◌then◌else◌, codes}
 use Rattle.serde_json.specs.Data.{Data, null, boolean, number, string, array, object, Members}
 use Rattle.dr_base.specs.declared.base_error.BaseError.TheVariants.{WrongKind}
 use Rattle.dr_base.specs.Each.{each}
 use Rattle.dr_base.specs.Fields.{field, as_text, as_list, text_field}
 use Rattle.dr_base.specs.Reading.{◌>>=◌, passed}
 use Rattle.dr_schema.specs.declared.schema.Schema.{Schema}
+use Rattle.dr_schema.specs.Names.{dimension_place, is_no_dimension}
 use Rattle.dr_ask.specs.declared.dimension.Dimension.{Dimension}
 use Rattle.dr_ask.specs.declared.query_error.QueryError.{QueryError}
 use Rattle.dr_ask.specs.declared.query_error.QueryError.TheVariants.{Base, DimensionIsMetric}
 use Rattle.dr_ask.specs.Fields.{only_text, no_unlisted}
 
--- `__time`, or the name of a metric
-abbrev pub is_no_dimension : Schema → List ℕ → Bool
-is_no_dimension schema name = bytes_eq name (codes "__time") || list_any (λ m. bytes_eq name m.name) schema.metrics
-
 abbrev pub only_dimension : Schema → List ℕ → Result (Unit {0}) QueryError
 only_dimension schema name = if is_no_dimension schema name then Err (DimensionIsMetric name) else Ok tt
-
--- the place of the dimension of that name, from 0; none where there is no such column
-abbrev pub place_of : Schema → List ℕ → Option ℕ
-place_of schema name = position (bytes_eq name) schema.dimensions
 
 -- a name alone is that of the output too
 unfoldable pub dimension_named : Schema → List ℕ → Result Dimension QueryError
 dimension_named schema name = do
   metric ← only_dimension schema name
-  Ok (record { name = name; place = place_of schema name })
+  Ok (record { name = name; place = dimension_place schema name })
 
 -- `outputName`: the name of the dimension where it is absent
 abbrev pub output_name_of : List ℕ → Option Data → Result (List ℕ) QueryError
@@ -51,7 +43,7 @@ dimension_object schema d ms = do
   output ← output_name_of name (field (codes "outputName") d)
   text ← string_or_absent (field (codes "outputType") d)
   unlisted ← no_unlisted (codes "type" ∷ codes "dimension" ∷ codes "outputName" ∷ codes "outputType" ∷ []) ms
-  Ok (record { name = output; place = place_of schema name })
+  Ok (record { name = output; place = dimension_place schema name })
 
 -- a member of the list
 abbrev pub dimension_of : Schema → Data → Result Dimension QueryError

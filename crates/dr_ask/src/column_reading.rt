@@ -5,7 +5,6 @@ ghost use Rattle.dr_ask.specs.Refusal.{Gives};
 
 use crate::aggregation_reading::column;
 use crate::column_source::ColumnSource;
-use crate::dimension_reading::place;
 use crate::query_error::QueryError;
 use crate::scan_column::ScanColumn;
 use crate::scan_columns::ScanColumns;
@@ -126,7 +125,7 @@ fn source_named(schema: &Schema, name: &str) -> ColumnSource
     if name == "__time" {
         return ColumnSource::Time;
     }
-    match place(schema.dimensions().as_slice(), name) {
+    match schema.dimension_place(name) {
         Some(place) => ColumnSource::Dimension(place),
         None => match column(schema.metrics(), name) {
             Some(column) => ColumnSource::Metric(column.place),

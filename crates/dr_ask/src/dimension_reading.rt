@@ -1,8 +1,7 @@
-ghost use Rattle.std.specs.Prelude.{◌≡◌, ◌||◌, option_map, bytes_eq};
-ghost use Rattle.std.specs.List.{list_any, position};
+ghost use Rattle.std.specs.Prelude.{option_map};
 ghost use Rattle.serde_json.specs.View.{view, items_view, members_view};
 ghost use Rattle.dr_base.specs.Each.{each};
-ghost use Rattle.dr_ask.specs.DimensionsOf.{is_no_dimension, only_dimension, dimension_named, output_name_of, string_or_absent, dimension_object, dimension_of, dimensions_of};
+ghost use Rattle.dr_ask.specs.DimensionsOf.{only_dimension, dimension_named, output_name_of, string_or_absent, dimension_object, dimension_of, dimensions_of};
 ghost use Rattle.dr_ask.specs.Refusal.{Gives};
 
 use crate::dimension::Dimension;
@@ -10,7 +9,7 @@ use crate::dimensions::Dimensions;
 use crate::fields::{no_unlisted, only_text};
 use crate::query_error::QueryError;
 use dr_base::{Text, field, list_value, text_field, text_value, wrong_kind};
-use dr_schema::{Metrics, Schema};
+use dr_schema::Schema;
 use serde_json::{Map, Value};
 use std::alloc::Global;
 
@@ -58,7 +57,7 @@ fn dimension_named(alloc: Global, name: &str, schema: &Schema) -> Result<Dimensi
     only_dimension(alloc, name, schema)?;
     Ok(Dimension {
         name: Text::from_str(alloc, name)?,
-        place: place(schema.dimensions().as_slice(), name),
+        place: schema.dimension_place(name),
     })
 }
 
@@ -81,7 +80,7 @@ fn dimension_object(
     no_unlisted(alloc, members, &keys)?;
     Ok(Dimension {
         name: Text::from_str(alloc, output)?,
-        place: place(schema.dimensions().as_slice(), name),
+        place: schema.dimension_place(name),
     })
 }
 
@@ -89,33 +88,11 @@ fn dimension_object(
 fn only_dimension(alloc: Global, name: &str, schema: &Schema) -> Result<(), QueryError>
     ensures { Gives (λ u. u) result (only_dimension schema.now name.now) }
 {
-    if is_no_dimension(schema, name) {
+    if schema.is_no_dimension(name) {
         Err(QueryError::DimensionIsMetric(Text::from_str(alloc, name)?))
     } else {
         Ok(())
     }
-}
-
-fn is_no_dimension(schema: &Schema, name: &str) -> bool
-    ensures { result ≡ is_no_dimension schema.now name.now }
-{
-    name == "__time" || is_metric(schema.metrics(), name)
-}
-
-fn is_metric(metrics: &Metrics, name: &str) -> bool
-    ensures { result ≡ list_any (λ m. bytes_eq name.now m.name) metrics.now }
-{
-    metrics
-        .as_slice()
-        .iter()
-        .any(|metric| name == metric.name.as_str())
-}
-
-/// The place of a name, from 0; none where it isn't there.
-pub fn place(names: &[Text], name: &str) -> Option<usize>
-    ensures { result ≡ position (bytes_eq name.now) names.now }
-{
-    names.iter().position(|other| name == other.as_str())
 }
 
 /// The name of an output, that of the dimension where it is absent. Refusals: 3 `WrongKind` of `outputName`.

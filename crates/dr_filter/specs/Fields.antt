@@ -1,31 +1,23 @@
 -- The fields that the filters of a dimension share (Apache Druid documentation, query filters).
-use Rattle.std.specs.Prelude.{ℕ, Bool, false, ◌||◌, List, [], ◌∷◌, Option, Some, None, Result, Ok, Err, if◌then◌else◌, bytes_eq, codes}
-use Rattle.std.specs.List.{list_any, position}
+use Rattle.std.specs.Prelude.{ℕ, Bool, false, List, [], ◌∷◌, Option, Some, None, Result, Ok, Err, if◌then◌else◌, bytes_eq, codes}
 use Rattle.serde_json.specs.Data.{Data, null, boolean, number, string, array, object, Members}
 use Rattle.dr_base.specs.Fields.{as_bool, as_object, text_field}
 use Rattle.dr_base.specs.Reading.{◌>>=◌, passed}
 use Rattle.dr_base.specs.Unlisted.{unlisted}
 use Rattle.dr_schema.specs.declared.schema.Schema.{Schema}
+use Rattle.dr_schema.specs.Names.{dimension_place, is_no_dimension}
 use Rattle.dr_filter.specs.declared.filter_error.FilterError.{FilterError}
 use Rattle.dr_filter.specs.declared.filter_error.FilterError.TheVariants.{Base, UnknownFilter, FilterOnMetric}
 
--- `__time`, or the name of a metric
-abbrev pub is_no_dimension : Schema → List ℕ → Bool
-is_no_dimension schema name = bytes_eq name (codes "__time") || list_any (λ m. bytes_eq name m.name) schema.metrics
-
 abbrev pub only_dimension : Schema → List ℕ → Result (Unit {0}) FilterError
 only_dimension schema name = if is_no_dimension schema name then Err (FilterOnMetric name) else Ok tt
-
--- the place of the dimension of that name, from 0; none where there is no such column
-abbrev pub place_of : Schema → List ℕ → Option ℕ
-place_of schema name = position (bytes_eq name) schema.dimensions
 
 -- `dimension`
 unfoldable pub dimension_of : Schema → Data → Result (Option ℕ) FilterError
 dimension_of schema d = do
   name ← passed Base (text_field (codes "dimension") d)
   metric ← only_dimension schema name
-  Ok (place_of schema name)
+  Ok (dimension_place schema name)
 
 -- `lowerStrict`, `upperStrict`: false where it is absent
 abbrev pub strict_or_not : List ℕ → Option Data → Result Bool FilterError

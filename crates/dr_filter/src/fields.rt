@@ -1,12 +1,11 @@
-ghost use Rattle.std.specs.Prelude.{◌≡◌, map, option_map, bytes_eq, ◌||◌};
-ghost use Rattle.std.specs.List.{list_any, position};
+ghost use Rattle.std.specs.Prelude.{◌≡◌, map, option_map};
 ghost use Rattle.serde_json.specs.View.{view, members_view};
 ghost use Rattle.dr_filter.specs.Refusal.{Gives};
-ghost use Rattle.dr_filter.specs.Fields.{is_no_dimension, dimension_of, strict_or_not, no_unlisted, only_lexicographic, ordering_object, ordering_of};
+ghost use Rattle.dr_filter.specs.Fields.{dimension_of, strict_or_not, no_unlisted, only_lexicographic, ordering_object, ordering_of};
 
 use crate::filter_error::FilterError;
 use dr_base::{Text, bool_value, first_unlisted, object, text_field};
-use dr_schema::{Metrics, Schema};
+use dr_schema::Schema;
 use serde_json::{Map, Value};
 use std::alloc::Global;
 
@@ -21,31 +20,10 @@ pub fn dimension(
     ensures { Gives (λ p. p) result (dimension_of schema.now (view value.now)) }
 {
     let name = text_field(alloc, value, "dimension")?;
-    if is_no_dimension(schema, name) {
+    if schema.is_no_dimension(name) {
         return Err(FilterError::FilterOnMetric(Text::from_str(alloc, name)?));
     }
-    Ok(place(schema.dimensions().as_slice(), name))
-}
-
-fn is_no_dimension(schema: &Schema, name: &str) -> bool
-    ensures { result ≡ is_no_dimension schema.now name.now }
-{
-    name == "__time" || is_metric(schema.metrics(), name)
-}
-
-fn is_metric(metrics: &Metrics, name: &str) -> bool
-    ensures { result ≡ list_any (λ m. bytes_eq name.now m.name) metrics.now }
-{
-    metrics
-        .as_slice()
-        .iter()
-        .any(|metric| name == metric.name.as_str())
-}
-
-fn place(names: &[Text], name: &str) -> Option<usize>
-    ensures { result ≡ position (bytes_eq name.now) names.now }
-{
-    names.iter().position(|other| name == other.as_str())
+    Ok(schema.dimension_place(name))
 }
 
 /// Whether a bound is strict: a truth value that may be absent, and is false then. Refusals: 3 `WrongKind` of the field.

@@ -1,4 +1,4 @@
-ghost use Rattle.std.specs.Prelude.{◌≡◌, drop, length, MatchOption};
+ghost use Rattle.std.specs.Prelude.{◌≡◌, drop, length};
 ghost use Rattle.std.specs.Str.{chars};
 ghost use Rattle.dr_like.specs.Over.{is_missed};
 

@@ -1,3 +1,4 @@
 pub mod Columns
 pub mod WellFormed
 pub mod Fits
+pub mod Names

@@ -5,6 +5,7 @@
 mod limits;
 mod metric;
 mod metrics;
+mod names;
 mod schema;
 mod schema_fields;
 mod time_format;
