@@ -24,9 +24,8 @@ class Record:
 
     def digest(self, edit):
         if edit.crate not in self._digests:
-            below = [(it, self.tree.contracts(it, edit.crate)) for it in self.tree.below(edit.crate)]
-            uses = " ".join(self.tree.uses[edit.crate])
-            self._digests[edit.crate] = digest_of([(edit.crate, self.tree.digest(edit.crate)), *below, ("", uses + " " + self.logic)])
+            below, uses = self.tree.contracts(edit.crate), " ".join(self.tree.uses[edit.crate])
+            self._digests[edit.crate] = digest_of([(edit.crate, self.tree.digest(edit.crate)), ("", f"{below} {uses} {self.logic}")])
         return digest_of([(edit.label, edit.text), ("", self._digests[edit.crate])])
 
     def covers(self, edit):

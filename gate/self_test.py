@@ -9,6 +9,8 @@ import sys
 import tempfile
 from concurrent.futures import ThreadPoolExecutor
 
+from tree import Tree
+
 HERE = os.path.dirname(os.path.realpath(__file__))
 
 RT = """#!/usr/bin/env python3
@@ -118,6 +120,59 @@ FAULTS = [
     ("", {"crates/low/must-fail/gone.edit": "file: src/lib.rt\nold: left\nnew: wrong\n"}, ["low/must-fail/gone.edit"]),
 ]
 
+# A crate of which another names a type and one of its functions, whose contract names a definition, and that another one.
+USED = {
+    "crates.txt": "low:\ntop: low\n",
+    "crates/low/src/lib.rt": "mod inner;\n\npub use inner::Shown;\n",
+    "crates/low/src/inner.rt": """ghost use Rattle.low.specs.Told.{is_told};
+use std::mem::swap;
+
+pub struct Shown(u64);
+
+impl Shown {
+    pub fn named(&self) -> u64
+        ensures { is_told result }
+    {
+        self.inside()
+    }
+
+    pub fn unnamed(&self) -> u64
+        ensures { result ≡ 2 }
+    {
+        2
+    }
+
+    fn inside(&self) -> u64 {
+        1
+    }
+}
+
+impl Drop for Shown {
+    fn drop(&mut self) {}
+}
+""",
+    "crates/low/specs/Told.antt": "use Rattle.low.specs.Deeper.{deeper}\n",
+    "crates/low/specs/Deeper.antt": "-- a remark\ndeeper = 1\n",
+    "crates/low/specs/Apart.antt": "apart = 1\n",
+    "crates/top/src/lib.rt": "use low::Shown;\n\npub fn top(it: Shown) -> u64 {\n    it.named()\n}\n",
+}
+
+# A text there, what it is changed to, and whether what the crate above may use is another then.
+CHANGES = [
+    ("low/src/inner.rt", "is_told result", "result ≡ 1", True),
+    ("low/src/inner.rt", "self.inside()", "1", False),
+    ("low/src/inner.rt", "result ≡ 2", "result ≡ 3", False),
+    ("low/src/inner.rt", "fn inside(&self)", "fn inside(&self, by: u64)", False),
+    ("low/src/inner.rt", "std::mem::swap", "std::mem::take", False),
+    ("low/src/inner.rt", "Shown(u64)", "Shown(u32)", True),
+    ("low/src/inner.rt", "fn drop(&mut self)", "fn drop(self)", True),
+    ("low/src/lib.rt", "mod inner;", "mod inner;\nmod more;", False),
+    ("low/specs/Told.antt", "{deeper}", "{deeper, deepest}", True),
+    ("low/specs/Deeper.antt", "deeper = 1", "deeper = 2", True),
+    ("low/specs/Deeper.antt", "-- a remark", "-- another", False),
+    ("low/specs/Apart.antt", "apart = 1", "apart = 2", False),
+]
+
 
 def write(path, text, mode=0o644):
     os.makedirs(os.path.dirname(path), exist_ok=True)
@@ -194,11 +249,26 @@ def first_runs_wait():
     return None
 
 
+def counts_what_is_used():
+    """What a digest of what a crate may use tells otherwise than is wanted."""
+    with tempfile.TemporaryDirectory(prefix="used-") as top:
+        for name, text in USED.items():
+            write(f"{top}/{name}", text)
+        before = Tree(top).contracts("top")
+        for name, old, new, wanted in CHANGES:
+            text = USED[f"crates/{name}"]
+            write(f"{top}/crates/{name}", text.replace(old, new))
+            if (Tree(top).contracts("top") != before) != wanted:
+                return f"{name}, where {new!r} stands for {old!r}: {'the same' if wanted else 'another'}"
+            write(f"{top}/crates/{name}", text)
+    return None
+
+
 def main():
     with ThreadPoolExecutor(4) as pool:
         told = pool.map(lambda it: gate_tells(*it), FAULTS)
         faults = [(f"the gate with the fault {fault!r} and {list(more)}", why) for (fault, more, _), why in zip(FAULTS, told)]
-    faults += [("druid-node", program_is_never_stale()), ("two first runs", first_runs_wait())]
+    faults += [("druid-node", program_is_never_stale()), ("two first runs", first_runs_wait()), ("what a crate may use", counts_what_is_used())]
     for name, why in faults:
         if why:
             print(f"{name}: {why}")

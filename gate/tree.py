@@ -18,8 +18,10 @@ MUST_FAIL, FURTHER = "must-fail", "further-edits"
 CITED = re.compile(r"Rattle\.(\w+)\.specs\.([\w.+-]+)")
 
 
-# A line that imports names, for code or for contracts.
-IMPORT = re.compile(r"(\s*(?:ghost )?use (?:[\w.]+\.|(?:\w+::)+))(\{[^{}]*\}|\w+);$")
+# A line that imports names, for code or for contracts, and an item that is a function, or what a type has.
+IMPORT = re.compile(r"( *(?:ghost )?use (?:[\w.]+\.|(?:\w+::)+))(\{[^{}]*\}|\w+);$", re.M)
+FUNCTION = re.compile(r"(?: *#.*\n)* *(pub(?:\(\w+\))? |)(?:const )?fn (\w+)")
+IMPL = re.compile(r"impl(?:<[^{]*?>)? (.* for )?(\w+)")
 
 
 class Tree:
@@ -27,7 +29,7 @@ class Tree:
 
     def __init__(self, top=TOP):
         self.top = top
-        self.uses, self._cited, self._words = {}, None, {}
+        self.uses, self._words, self._interfaces = {}, {}, {}
         with open(f"{top}/crates.txt", encoding="utf-8") as file:
             for line in file:
                 name, colon, words = line.partition("#")[0].partition(":")
@@ -72,28 +74,33 @@ class Tree:
         """A digest of all that a crate's own proof reads, but for its comments."""
         return digest_of((it, without_comments(self.text(crate, it))) for it in self.files(crate, "src", "specs", "proofs"))
 
-    def contracts(self, crate, above):
-        """A digest of what a crate above may use of a crate: what its modules show without bodies, what its other modules say of the
-        types that it shows, and of its definitions those that these name, or another crate does, and so on."""
-        shown, texts, words = self.shown(crate), {}, self.words(above)
+    def contracts(self, above):
+        """A digest of what a crate may use of those below it: of their functions those that it names, without bodies, and of their
+        definitions those that it names, or what counts already, and so on."""
+        names = {it for file in self.files(above, "src", "specs", "proofs") for it in CITED.findall(self.text(above, file))}
+        while True:
+            words = self.words(above) | {word for _, name in names for word in name.split(".")}
+            texts = {(crate, file): text for crate in self.below(above) for file, text in self.said_by(crate, names, words)}
+            found = names.union(*(CITED.findall(it) for it in texts.values()))
+            if found == names:
+                return digest_of((f"{crate}/{file}", text) for (crate, file), text in sorted(texts.items()) if text)
+            names = found
+
+    def said_by(self, crate, names, words):
+        """What the modules of a crate say, by functions of these words, and its files of the definitions of these names."""
+        shown, types = self.shown(crate), self.types(crate)
         for file in self.files(crate, "src"):
-            if shown is None or file.split("/")[1].removesuffix(".rt") in shown:
-                texts[file] = self.interface(crate, file)
-            else:
-                texts[file] = said_of(self.interface(crate, file), self.types(crate), words)
-        names = self.cited()[crate].union(*(self.names_in(it, crate) for it in texts.values()))
-        while names:
-            file = self.file_of(crate, names.pop())
+            is_shown = shown is None or file.split("/")[1].removesuffix(".rt") in shown
+            yield file, said_of(self.interface(crate, file), words, None if is_shown else types)
+        for file in sorted({self.file_of(crate, name) for of, name in names if of == crate}):
             text = self.interface(crate, file)
-            if texts.get(file) != text:
-                texts[file] = text
-                names |= self.names_in(text, crate)
-        return digest_of(sorted((file, text) for file, text in texts.items() if text))
+            yield file, said_of(text, words) if file.endswith(".rt") else text
 
     def words(self, crate):
-        """The words of a crate's code."""
+        """The words of a crate's code, definitions and proofs."""
         if crate not in self._words:
-            self._words[crate] = {word for file in self.files(crate, "src") for word in re.findall(r"\w+", without_comments(self.text(crate, file)))}
+            texts = (self.text(crate, it) for it in self.files(crate, "src", "specs", "proofs"))
+            self._words[crate] = {word for it in texts for word in re.findall(r"\w+", without_comments(it))}
         return self._words[crate]
 
     def types(self, crate):
@@ -106,23 +113,10 @@ class Tree:
 
     def interface(self, crate, file):
         """What a file says to who can't see bodies."""
-        text = without_comments(self.text(crate, file))
-        return without_unused(without_bodies(text)) if file.endswith(".rt") else text
-
-    def names_in(self, text, crate):
-        """The definitions of a crate that a text names."""
-        return {name for of, name in CITED.findall(text) if of == crate}
-
-    def cited(self):
-        """Of each crate the definitions that the others name."""
-        if self._cited is None:
-            self._cited = {it: set() for it in self.uses}
-            for crate in self.uses:
-                for file in self.files(crate, "src", "specs", "proofs"):
-                    for of, name in CITED.findall(self.text(crate, file)):
-                        if of != crate and of in self._cited:
-                            self._cited[of].add(name)
-        return self._cited
+        if (crate, file) not in self._interfaces:
+            text = without_comments(self.text(crate, file))
+            self._interfaces[crate, file] = without_bodies(text) if file.endswith(".rt") else text
+        return self._interfaces[crate, file]
 
     def file_of(self, crate, name):
         """The file of a crate that has a definition: of `specs`, or of `src` where it is made of a type or a function."""
@@ -158,81 +152,81 @@ def without_comments(text):
 
 
 def without_bodies(text):
-    """Code as `rt fmt` lays it out, without the bodies of its functions, and without the private functions and modules of a module."""
-    kept, ends, is_kept = [], None, True
+    """Code as `rt fmt` lays it out, without the bodies of its functions."""
+    kept, ends = [], None
     for line in text.split("\n"):
         if ends is not None:
             if line == ends:
-                ends, is_kept = None, True
+                ends = None
             continue
-        if re.match(r"mod \w+;$", line):
-            continue
-        if re.match(r"(?: {4})?pub\(\w+\) (?:const )?fn |(?:const )?fn ", line):
-            is_kept = False
-        if is_kept:
-            kept.append(line)
         # the brace of a body stands alone behind clauses, and at the end of the line where there are none
-        opens = re.fullmatch(r"(\s*)\{", line) or re.match(r"(\s*)(?:pub(?:\(\w+\))? )?(?:const )?fn .*[^{]\{$", line)
+        alone = re.fullmatch(r"(\s*)\{", line)
+        opens = alone or re.match(r"(\s*)(?:pub(?:\(\w+\))? )?(?:const )?fn .*[^{]\{$", line)
         if opens and not line.rstrip().endswith("ensures {"):
             ends = opens[1] + "}"
-        elif not is_kept and line.endswith(("{}", ";")):
-            is_kept = True
+        if not alone:
+            kept.append(line)
     return "\n".join(kept)
 
 
-def without_unused(text):
-    """Code without the names that it imports and doesn't use, as those that its bodies alone use."""
-    lines = [it for it in text.split("\n") if it.strip()]
-    code = "\n".join(it for it in lines if not IMPORT.match(it))
-    words = set(re.findall(r"\w+", code))
+def items_of(lines, indent=""):
+    """The items of code without bodies that stand at an indentation, each with its attributes and with the lines that go on with it."""
+    items, goes_on = [], False
+    for line in lines:
+        if goes_on or not re.match(indent + r"[^\s)}]", line):
+            if items:
+                items[-1].append(line)
+        else:
+            items.append([line])
+        goes_on = line.startswith(indent + "#")
+    return ["\n".join(it).rstrip() for it in items]
 
-    def is_used(name):
-        """Whether a name stands in the code, or each part of an operator."""
-        if "◌" in name:
-            return all(part in code for part in name.split(" as ")[-1].split("◌"))
-        return name.split(" as ")[-1].strip() in words
+
+def said_of(text, words, types=None):
+    """What code without bodies says by functions of these words. Where it stands in a module that a root doesn't show, it speaks of
+    the types alone that the root does. A function of a trait counts with the trait."""
+
+    def is_said(item):
+        function = FUNCTION.match(item)
+        return not function or function[1] == "pub " and function[2] in words
 
     kept = []
-    for line in lines:
-        if found := IMPORT.match(line):
-            names = [it.strip() for it in (found[2][1:-1].split(",") if found[2].startswith("{") else [found[2]])]
-            used = ", ".join(it for it in names if is_used(it))
-            if used:
-                kept.append(f"{found[1]}{{{used}}};")
-        else:
-            kept.append(line)
+    for item in items_of(text.split("\n")):
+        head = IMPL.match(item)
+        if head and not head[1]:
+            first, *inside = item.split("\n")
+            inside = [it for it in items_of(inside, "    ") if is_said(it)]
+            item = "\n".join([first, *inside]) if inside else ""
+        if types is not None and not IMPORT.match(item) and not (head and head[2] in types):
+            continue
+        if item and is_said(item) and not re.match(r"mod \w+;", item):
+            kept.append(item)
+    return without_unused(kept)
+
+
+def without_unused(items):
+    """Items without the names that they import and don't use, as those that bodies alone use."""
+    code = [it for it in items if not IMPORT.match(it)]
+    # what a block imports itself is no use of what the file imports
+    words = {word for it in code for word in set(re.findall(r"\w+", it)) - {name for _, names in IMPORT.findall(it) for name in names_in(names)}}
+    text = "\n".join(code)
+
+    def is_used(name):
+        return name in words if re.fullmatch(r"\w+", name) else all(part in text for part in name.split("◌"))
+
+    kept = []
+    for item in items:
+        if found := IMPORT.match(item):
+            names = ", ".join(sorted(it for it in names_in(found[2]) if is_used(it.split(" as ")[-1])))
+            item = f"{found[1]}{{{names}}};" if names else ""
+        if item:
+            kept.append(item)
     return "\n".join(kept)
 
 
-def said_of(text, types, words):
-    """Of code without bodies what a module says of some types: the traits that they have, their functions of these names, and what
-    these import."""
-    kept, block = [], None
-    for line in text.split("\n"):
-        if IMPORT.match(line) and block is None:
-            kept.append(line)
-        if head := re.match(r"impl(?:<[^{]*?>)? (.* for )?(\w+)", line):
-            block = (head[1], []) if head[2] in types else None
-        if block is not None:
-            block[1].append(line)
-        if line == "}" and block is not None:
-            if block[0]:
-                kept += block[1]
-            else:
-                kept += functions_of(block[1], words)
-            block = None
-    return without_unused("\n".join(kept))
-
-
-def functions_of(lines, words):
-    """The lines of the functions of these names in a block, each up to the next one."""
-    kept, is_kept = [], False
-    for line in lines:
-        if name := re.match(r"    (?:pub(?:\(\w+\))? )?(?:const )?fn (\w+)", line):
-            is_kept = name[1] in words
-        if is_kept:
-            kept.append(line)
-    return kept
+def names_in(text):
+    """The names between braces, or the one name."""
+    return [it.strip() for it in text.strip("{}").split(",")]
 
 
 def copy_to(folder, *left_out):
