@@ -155,6 +155,7 @@ def no_selector(it):
 
 
 LONG_OR_OF_BOUNDS = groups(filter={"type": "or", "fields": [bound(it) for it in range(14000)]})
+LONG_OR_OF_INS = groups(filter={"type": "or", "fields": [{"type": "in", "dimension": "page", "values": [f"x{it}"]} for it in range(15000)]})
 LONG_AND_OF_NOTS = groups(filter={"type": "and", "fields": [no_selector(it) for it in range(12000)]}, limitSpec={"type": "default", "limit": 1})
 LONG_HAVING_OF_TEXTS = groups(having={"type": "or", "havingSpecs": [{"type": "dimSelector", "dimension": "page", "value": f"x{it}"} for it in range(17000)]})
 MANY_SUMS = series(aggregations=[{"type": "longSum", "name": f"v{it}", "fieldName": "v"} for it in range(19000)])
@@ -274,6 +275,7 @@ INPUTS = {
     "a query of open rows in one chunk": (query_of_open_rows, 1000000),
     "like, of so many characters and half as many in the pattern": (like_long, 100000),
     "rows under an or of 17,000 selectors": (long_or, 100000),
+    "rows under an or of 15,000 ins of one value": (asked_of_texts(LONG_OR_OF_INS), 100000),
     "rows under an or of 14,000 bounds": (asked_of_texts(LONG_OR_OF_BOUNDS), 100000),
     "rows under an and of 12,000 selectors that don't hold": (asked_of_texts(LONG_AND_OF_NOTS), 100000),
     "groups under a having of 14,000 comparisons": (long_having, 100000),
