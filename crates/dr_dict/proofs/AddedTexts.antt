@@ -1,7 +1,8 @@
--- A text that was added to a set.
-use Rattle.std.proofs.Common.{◌≡◌, ◌∙◌, sym, refl, ap, Bool, true, false, not, ◌||◌, ℕ, List, [], ◌∷◌, ◌++◌, bytes_eq}
+-- A text that was added to a set: what is found then, and what stays.
+use Rattle.std.proofs.Common.{◌≡◌, ◌∙◌, sym, refl, ap, Bool, true, false, not, ◌||◌, ◌≤◌, ℕ, List, [], ◌∷◌, ◌++◌, length, take, bytes_eq, arith}
 use Rattle.std.specs.List.{list_any}
 use Rattle.std.specs.Cmp.Lexicographic.{bytes_decides}
+use Rattle.std.proofs.lemmas.List.{length-append, take-append-le}
 use Rattle.std.proofs.lemmas.List.Folds.{list_any-append}
 use Rattle.dr_base.proofs.Truths.{or_ends}
 
@@ -29,3 +30,13 @@ found-added old new text value false is added same = ap (list_any (bytes_eq valu
     there : (b : Bool) → false ≡ not b → b ≡ true
     there true h = refl
     there false h = h
+
+-- the first texts stay where they are
+pub stays-first : (base old new : List (List ℕ)) (text : List ℕ) (is_new : Bool) → (is_new ≡ true → new ≡ old ++ text ∷ []) → (is_new ≡ false → new ≡ old) → length base ≤ length old → take (length base) old ≡ base
+    → (length base ≤ length new) × (take (length base) new ≡ base)
+stays-first base old new text true added same within first =
+    let more = ap length (added refl) ∙ length-append old (text ∷ []) in
+    ((omega (arith, within, more)), ap (take (length base)) (added refl) ∙ take-append-le (length base) old (text ∷ []) within ∙ first)
+stays-first base old new text false added same within first =
+    let as_before = ap length (same refl) in
+    ((omega (arith, within, as_before)), ap (take (length base)) (same refl) ∙ first)

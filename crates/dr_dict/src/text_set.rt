@@ -1,4 +1,4 @@
-ghost use Rattle.std.specs.Prelude.{◌≡◌, ◌∷◌, ◌++◌, [], true, false, not, map, string_bytes, IfOk, OnErr, bytes_eq};
+ghost use Rattle.std.specs.Prelude.{◌≡◌, ◌∷◌, ◌++◌, [], true, false, not, length, map, string_bytes, take, IfOk, OnErr, bytes_eq};
 ghost use Rattle.std.specs.List.{list_any};
 
 use dr_base::Text;
@@ -46,6 +46,20 @@ impl TextSet {
     {
         let copy = String::from_str(*self.0.allocator(), text)?;
         Ok(self.0.insert(copy)?)
+    }
+
+    // How many texts there are.
+    pub(crate) fn count(&self) -> usize
+        ensures { result ≡ length self.now }
+    {
+        self.0.len()
+    }
+
+    // Lets all texts behind the first so many go.
+    pub(crate) fn keep(&mut self, count: usize)
+        ensures { self.new ≡ take count self.old }
+    {
+        self.0.truncate(count);
     }
 
     // The texts, one for each place.

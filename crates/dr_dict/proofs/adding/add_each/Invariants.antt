@@ -1,6 +1,9 @@
-use Rattle.std.proofs.Common.{◌≡◌, ◌||◌, ℕ, List, bytes_eq, map, string_bytes, drop}
+use Rattle.std.proofs.Common.{◌≡◌, ◌≤◌, ◌||◌, ℕ, List, length, take, bytes_eq, map, string_bytes, drop}
 use Rattle.std.specs.List.{list_any}
 use Rattle.dr_dict.proofs.adding.add_each.Given as goal
 
 abbrev pub invariant-loop-text : goal.invariant-loop-text
-invariant-loop-text l = (other : List ℕ) → (list_any (bytes_eq other) l.set || list_any (bytes_eq other) (map string_bytes (drop l.text-index l.texts))) ≡ (list_any (bytes_eq other) l.initial.set || list_any (bytes_eq other) (map string_bytes l.texts))
+invariant-loop-text l =
+    ((other : List ℕ) → (list_any (bytes_eq other) l.set || list_any (bytes_eq other) (map string_bytes (drop l.text-index l.texts))) ≡ (list_any (bytes_eq other) l.initial.set || list_any (bytes_eq other) (map string_bytes l.texts)))
+    × (length l.initial.set ≤ length l.set)
+    × (take (length l.initial.set) l.set ≡ l.initial.set)
