@@ -1,6 +1,6 @@
-ghost use Rattle.std.specs.Prelude.{◌≡◌, true, map, IfOk, IfSome, MatchResult, OnOk};
+ghost use Rattle.std.specs.Prelude.{◌≡◌, true, map, IfOk, MatchResult, OnOk};
 ghost use Rattle.dr_filter.specs.Condition.{condition_in, conditions_of, members_of, every, some, dimension, opposite, selects, ranges};
-ghost use Rattle.dr_filter.specs.LookUps.{as_range, is_texts};
+ghost use Rattle.dr_filter.specs.LookUps.{is_texts};
 ghost use Rattle.dr_filter.specs.Members.{PutsBehind};
 
 use crate::bound::Bound;
@@ -90,11 +90,11 @@ fn put_bound(
 ) -> Result<(), AllocError>
     ensures { OnOk result (PutsBehind ranges members.old.items (map condition_in others.old.items) (condition_in filter) members.new.items (map condition_in others.new.items)) }
 {
-    match bound_in(&filter)? {
-        Some(bound) => members.push(Some(bound))?,
-        None => {
+    match bound_in(filter) {
+        Ok(bound) => members.push(Some(bound))?,
+        Err(other) => {
             members.push(None)?;
-            others.push(filter)?;
+            others.push(other)?;
         }
     }
     Ok(())
@@ -142,18 +142,18 @@ fn held_in(filter: Filter) -> Result<DimensionTest, Filter>
     }
 }
 
-// The bound that a filter is, where it is one.
-fn bound_in(filter: &Filter) -> Result<Option<Bound>, AllocError>
-    ensures { IfOk result (λ found. IfSome found (λ b. condition_in filter.now ≡ dimension (as_range b))) }
+// The bound that a filter is; else the filter.
+fn bound_in(filter: Filter) -> Result<Bound, Filter>
+    ensures { MatchResult result (λ b. condition_in filter ≡ ranges b) (λ f. condition_in f ≡ condition_in filter) }
 {
-    let Filter::Dimension(test) = filter else {
-        return Ok(None);
-    };
-    let ValueTest::Within(bounds) = &test.test else {
-        return Ok(None);
-    };
-    Ok(Some(Bound {
-        place: test.place,
-        bounds: bounds.copy()?,
-    }))
+    match filter {
+        Filter::Dimension(test) => {
+            let DimensionTest { place, test } = test;
+            match test {
+                ValueTest::Within(bounds) => Ok(Bound { place, bounds }),
+                other => Err(Filter::Dimension(DimensionTest { place, test: other })),
+            }
+        }
+        other => Err(other),
+    }
 }

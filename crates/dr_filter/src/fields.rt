@@ -1,4 +1,4 @@
-ghost use Rattle.std.specs.Prelude.{◌≡◌, map, option_map};
+ghost use Rattle.std.specs.Prelude.{map, option_map};
 ghost use Rattle.serde_json.specs.View.{view, members_view};
 ghost use Rattle.dr_filter.specs.Refusal.{Gives};
 ghost use Rattle.dr_filter.specs.Fields.{dimension_of, strict_or_not, no_unlisted, only_lexicographic, ordering_object, ordering_of};

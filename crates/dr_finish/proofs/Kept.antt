@@ -1,6 +1,5 @@
 -- Which groups a `having` keeps, and the same condition with its comparisons asked together.
-use Rattle.std.proofs.Common.{◌≡◌, ◌∙◌, sym, refl, ap, ℕ, ℤ, Bool, true, cond, List, [], ◌∷◌, filter, Some, None, Result, Ok, Err, IfOk}
-use Rattle.std.specs.Prelude.{option_map}
+use Rattle.std.proofs.Common.{◌≡◌, ◌∙◌, sym, refl, ap, ℕ, ℤ, Bool, cond, List, [], ◌∷◌, filter, Some, None, Result, Ok, Err, IfOk}
 use Rattle.dr_base.specs.declared.row.Row.{Row}
 use Rattle.dr_ask.specs.declared.aggregation.Aggregation.{Aggregation}
 use Rattle.dr_ask.specs.declared.dimension.Dimension.{Dimension}

@@ -1,10 +1,10 @@
 -- Conditions that are asked of outputs at other places with the same values.
-use Rattle.std.proofs.Common.{◌≡◌, ◌∙◌, sym, refl, ap, ap₂, ℕ, ℤ, pos, zero, suc, Bool, not, ◌||◌, ◌&&◌, List, [], ◌∷◌, map, slice_get, unwrap_or, option_map, Option, Some, None, length, length-append, ◌++◌, ◌+◌, ◌⊎◌, inl, inr, arith, Result, Ok, Err, IfOk}
+use Rattle.std.proofs.Common.{◌≡◌, ◌∙◌, sym, refl, ap, ap₂, ℕ, ℤ, pos, zero, suc, not, ◌||◌, ◌&&◌, List, [], ◌∷◌, map, slice_get, unwrap_or, option_map, Option, Some, None, length, length-append, ◌++◌, ◌+◌, ◌⊎◌, inl, inr, arith, Result, Ok, Err, IfOk}
 use Rattle.dr_having.specs.declared.dimension_value.DimensionValue.{DimensionValue}
 use Rattle.dr_having.specs.declared.group_value.GroupValue.{GroupValue}
 use Rattle.dr_having.specs.declared.having.Having.{Having}
 use Rattle.dr_having.specs.Condition.{condition_in, Condition, Conditions, aggregation, dimension, every, some, opposite, no_conditions, condition, conditions_of, members_of, members_of_every, members_of_some, excluded, meets, meets_every, meets_some}
-use Rattle.dr_having.specs.Meeting.{compares, number_at, meets_value}
+use Rattle.dr_having.specs.Meeting.{compares, number_at}
 use Rattle.dr_having.specs.Numbered.{numbers_by}
 use Rattle.dr_having.specs.Placed.{place_in, value_placed, members_placed, placed, all_placed, HaveNumbers}
 

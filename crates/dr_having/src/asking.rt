@@ -1,7 +1,7 @@
 ghost use Rattle.std.specs.Prelude.{◌≡◌, ℕ, ℤ, List, map, slice_get, IfOk};
 ghost use Rattle.dr_having.specs.Condition.{condition_in, meets};
 ghost use Rattle.dr_having.specs.Numbered.{numbers_by};
-ghost use Rattle.dr_having.specs.Placed.{place_in, placed, HaveNumbers};
+ghost use Rattle.dr_having.specs.Placed.{placed, HaveNumbers};
 
 use crate::having::Having;
 use indexmap::IndexMap;

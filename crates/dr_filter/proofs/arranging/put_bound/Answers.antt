@@ -1,14 +1,16 @@
-use Rattle.std.proofs.Common.{◌≡◌, map}
+use Rattle.std.proofs.Common.{◌≡◌, map, subst}
 use Rattle.dr_filter.specs.Condition.{condition_in, ranges}
+use Rattle.dr_filter.specs.Members.{PutsBehind}
 use Rattle.dr_filter.proofs.LookedUp.{puts-found, puts-other}
 use Rattle.dr_filter.proofs.arranging.put_bound.Goals as goal
 
-pub returns-in_ok-push-in-Some : goal.returns-in_ok-push-in-Some
-returns-in_ok-push-in-Some c =
-    let b = c.in-Some.bound in
-    let is : condition_in c.args.filter ≡ ranges b = rw c.in-Some.is at c.in_ok-bound.ensures in
-    puts-found ranges c.args.members.now.items (map condition_in c.args.others.now.items) (condition_in c.args.filter) b _ is c.in_ok-push-in-Some.ensures.items
+pub returns-in_ok-push-in-Ok : goal.returns-in_ok-push-in-Ok
+returns-in_ok-push-in-Ok c =
+    let told : condition_in c.args.filter ≡ ranges c.in-Ok.bound = rw c.in-Ok.is at c.bound_in.ensures in
+    puts-found ranges c.args.members.now.items (map condition_in c.args.others.now.items) (condition_in c.args.filter) c.in-Ok.bound _ told c.in_ok-push-in-Ok.ensures.items
 
-pub returns-in_ok-push-in-None-2 : goal.returns-in_ok-push-in-None-2
-returns-in_ok-push-in-None-2 c =
-    puts-other ranges c.args.members.now.items c.args.others.now.items _ c.args.filter _ c.in_ok-push-in-None.ensures.items c.in_ok-push-in-None-2.ensures.items
+pub returns-in_ok-push-in-Err-2 : goal.returns-in_ok-push-in-Err-2
+returns-in_ok-push-in-Err-2 c =
+    let told : condition_in c.in-Err.other ≡ condition_in c.args.filter = rw c.in-Err.is at c.bound_in.ensures in
+    subst (λ x. PutsBehind ranges c.args.members.now.items (map condition_in c.args.others.now.items) x c.push-in-Err.new.self.items (map condition_in c.push-in-Err-2.new.self.items)) told
+    (puts-other ranges c.args.members.now.items c.args.others.now.items _ c.in-Err.other _ c.in_ok-push-in-Err.ensures.items c.in_ok-push-in-Err-2.ensures.items)

@@ -1,4 +1,4 @@
-use Rattle.std.proofs.Common.{◌≡◌, ◌||◌, true, List, ℕ, bytes_eq, set}
+use Rattle.std.proofs.Common.{◌≡◌, ◌||◌, true, List, ℕ, set}
 use Rattle.std.proofs.lemmas.Result.{IfOk-weaker}
 use Rattle.dr_filter.specs.LookUps.{some_holds, IsTestOf}
 use Rattle.dr_filter.specs.Match.{passes, holds_of}

@@ -1,4 +1,4 @@
-use Rattle.std.proofs.Common.{◌≡◌, ◌∙◌, sym, ap, filter, Some}
+use Rattle.std.proofs.Common.{◌∙◌, sym, ap, filter}
 use Rattle.std.specs.Prelude.{option_map}
 use Rattle.dr_having.specs.Condition.{condition_in}
 use Rattle.dr_answers.specs.Given.{is_kept}
