@@ -17,7 +17,7 @@ n=0
 seen=set()
 for src in sources:
     if os.path.isfile(src):
-        seen|={m[1] for m in re.finditer(r'^(\w+/(?:must-fail|further-edits)/\S+\.edit): refused at',open(src).read(),re.M)}
+        seen|={m[1] for m in re.finditer(r'^(?:\[ *[\d.]+\] )?(\w+/(?:must-fail|further-edits)/\S+\.edit): refused at',open(src).read(),re.M)}
 for k,e in edits.items():
     if not r.covers(e) and (r.digest(e) in known.get(k,()) or k in seen): r.passed[k]=r.digest(e); n+=1
 open('gate/refused.txt','w').write("# Written by ./edits: which wrong bodies were refused, each with a digest of what that rests on.\n"+''.join(f"{k} {r.passed[k]}\n" for k in sorted(r.passed) if k in edits))

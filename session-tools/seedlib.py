@@ -1,6 +1,6 @@
 """A store of what was proved, by text: seed a clone from it, and put into it what a clone has built."""
 import hashlib, os, shutil, subprocess, fcntl
-STORE='/work/wt/store'
+STORE=os.environ.get('STORE','/work/wt/store')
 def needs_of(top):
     needs={}
     for line in open(f'{top}/crates.txt'):
