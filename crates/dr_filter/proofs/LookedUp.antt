@@ -6,10 +6,12 @@ use Rattle.std.proofs.lemmas.List.Folds.{list_any-append, list_all-append}
 use Rattle.dr_filter.specs.declared.bound.Bound.{Bound}
 use Rattle.dr_filter.specs.declared.dimension_test.DimensionTest.{DimensionTest}
 use Rattle.dr_filter.specs.declared.filter.Filter.{Filter}
+use Rattle.dr_filter.specs.declared.together.Together.{Together}
 use Rattle.dr_filter.specs.declared.value_test.ValueTest.{ValueTest}
-use Rattle.dr_filter.specs.Condition.{Condition, condition_in, conditions_of, matches, every_matches, some_matches, members_of, selects, ranges}
+use Rattle.dr_filter.specs.Condition.{Condition, condition_in, conditions_of, matches, every_matches, some_matches, members_of, members_in, selects, ranges}
 use Rattle.dr_filter.specs.LookUps.{as_range, tests_in, some_holds, every_holds, AreLookedUp, IsTestOf}
 use Rattle.dr_filter.specs.Members.{others_in, PutsBehind}
+use Rattle.dr_filter.specs.Together.{one_holds, all_hold}
 use Rattle.dr_filter.specs.Match.{lies_within, passes, value_at, holds_of}
 use Rattle.dr_base.proofs.Truths.{or_regroups, or_swaps, or_moves, or_ends, and_regroups, and_swaps, and_moves, and_ends, neither_and}
 
@@ -97,71 +99,79 @@ module _ {A : Type 0} where
 
 -- ---- rows
 
--- some member matches where one of the selectors holds, or one of the others matches
-pub some_matches-members : (time : ℤ) (dims : List (List ℕ)) (ms : List (Option DimensionTest)) (cs : List Condition)
-    → some_matches time dims (conditions_of (members_of (selects true) ms cs)) ≡ (some_holds dims (tests_in (λ t. t) ms) || some_matches time dims (conditions_of cs))
-some_matches-members time dims [] cs = refl
-some_matches-members time dims (Some s ∷ ms) cs =
-    ap (λ b. holds_of s dims || b) (some_matches-members time dims ms cs) ∙ or_regroups (holds_of s dims) (some_holds dims (tests_in (λ t. t) ms)) (some_matches time dims (conditions_of cs))
-some_matches-members time dims (None ∷ ms) [] = some_matches-members time dims ms []
-some_matches-members time dims (None ∷ ms) (c ∷ cs) =
-    ap (λ b. matches time dims c || b) (some_matches-members time dims ms cs) ∙ or_moves (matches time dims c) (some_holds dims (tests_in (λ t. t) ms)) (some_matches time dims (conditions_of cs))
+-- not both of two, or a third
+either_not : (a b c : Bool) → (not a || (not b || c)) ≡ (not (a && b) || c)
+either_not true b c = refl
+either_not false b c = refl
 
--- every member matches where none of the denied selectors holds, and all the others match
-pub every_matches-denied : (time : ℤ) (dims : List (List ℕ)) (ms : List (Option DimensionTest)) (cs : List Condition)
-    → every_matches time dims (conditions_of (members_of (selects false) ms cs)) ≡ (not (some_holds dims (tests_in (λ t. t) ms)) && every_matches time dims (conditions_of cs))
-every_matches-denied time dims [] cs = refl
-every_matches-denied time dims (Some s ∷ ms) cs =
-    ap (λ b. not (holds_of s dims) && b) (every_matches-denied time dims ms cs) ∙ neither_and (holds_of s dims) (some_holds dims (tests_in (λ t. t) ms)) (every_matches time dims (conditions_of cs))
-every_matches-denied time dims (None ∷ ms) [] = every_matches-denied time dims ms []
-every_matches-denied time dims (None ∷ ms) (c ∷ cs) =
-    ap (λ b. matches time dims c && b) (every_matches-denied time dims ms cs) ∙ and_moves (matches time dims c) (not (some_holds dims (tests_in (λ t. t) ms))) (every_matches time dims (conditions_of cs))
+-- members that mean tests, and what matches of them and the others
+module _ (time : ℤ) (dims : List (List ℕ)) {A : Type 0} (test : A → DimensionTest) where
+  some_matches-tests : (ms : List (Option A)) (cs : List Condition) → some_matches time dims (conditions_of (members_of (λ m. selects true (test m)) ms cs)) ≡ (some_holds dims (tests_in test ms) || some_matches time dims (conditions_of cs))
+  some_matches-tests [] cs = refl
+  some_matches-tests (Some m ∷ ms) cs =
+      ap (λ b. holds_of (test m) dims || b) (some_matches-tests ms cs) ∙ or_regroups (holds_of (test m) dims) (some_holds dims (tests_in test ms)) (some_matches time dims (conditions_of cs))
+  some_matches-tests (None ∷ ms) [] = some_matches-tests ms []
+  some_matches-tests (None ∷ ms) (c ∷ cs) =
+      ap (λ b. matches time dims c || b) (some_matches-tests ms cs) ∙ or_moves (matches time dims c) (some_holds dims (tests_in test ms)) (some_matches time dims (conditions_of cs))
 
--- every member matches where all the bounds hold, and all the others match
-pub every_matches-ranges : (time : ℤ) (dims : List (List ℕ)) (ms : List (Option Bound)) (cs : List Condition)
-    → every_matches time dims (conditions_of (members_of ranges ms cs)) ≡ (every_holds dims (tests_in as_range ms) && every_matches time dims (conditions_of cs))
-every_matches-ranges time dims [] cs = refl
-every_matches-ranges time dims (Some b ∷ ms) cs =
-    ap (λ a. holds_of (as_range b) dims && a) (every_matches-ranges time dims ms cs) ∙ and_regroups (holds_of (as_range b) dims) (every_holds dims (tests_in as_range ms)) (every_matches time dims (conditions_of cs))
-every_matches-ranges time dims (None ∷ ms) [] = every_matches-ranges time dims ms []
-every_matches-ranges time dims (None ∷ ms) (c ∷ cs) =
-    ap (λ a. matches time dims c && a) (every_matches-ranges time dims ms cs) ∙ and_moves (matches time dims c) (every_holds dims (tests_in as_range ms)) (every_matches time dims (conditions_of cs))
+  some_matches-denied : (ms : List (Option A)) (cs : List Condition) → some_matches time dims (conditions_of (members_of (λ m. selects false (test m)) ms cs)) ≡ (not (every_holds dims (tests_in test ms)) || some_matches time dims (conditions_of cs))
+  some_matches-denied [] cs = refl
+  some_matches-denied (Some m ∷ ms) cs =
+      ap (λ b. not (holds_of (test m) dims) || b) (some_matches-denied ms cs) ∙ either_not (holds_of (test m) dims) (every_holds dims (tests_in test ms)) (some_matches time dims (conditions_of cs))
+  some_matches-denied (None ∷ ms) [] = some_matches-denied ms []
+  some_matches-denied (None ∷ ms) (c ∷ cs) =
+      ap (λ b. matches time dims c || b) (some_matches-denied ms cs) ∙ or_moves (matches time dims c) (not (every_holds dims (tests_in test ms))) (some_matches time dims (conditions_of cs))
 
--- some member matches where one of the bounds holds, or one of the others matches
-pub some_matches-ranges : (time : ℤ) (dims : List (List ℕ)) (ms : List (Option Bound)) (cs : List Condition)
-    → some_matches time dims (conditions_of (members_of ranges ms cs)) ≡ (some_holds dims (tests_in as_range ms) || some_matches time dims (conditions_of cs))
-some_matches-ranges time dims [] cs = refl
-some_matches-ranges time dims (Some b ∷ ms) cs =
-    ap (λ a. holds_of (as_range b) dims || a) (some_matches-ranges time dims ms cs) ∙ or_regroups (holds_of (as_range b) dims) (some_holds dims (tests_in as_range ms)) (some_matches time dims (conditions_of cs))
-some_matches-ranges time dims (None ∷ ms) [] = some_matches-ranges time dims ms []
-some_matches-ranges time dims (None ∷ ms) (c ∷ cs) =
-    ap (λ a. matches time dims c || a) (some_matches-ranges time dims ms cs) ∙ or_moves (matches time dims c) (some_holds dims (tests_in as_range ms)) (some_matches time dims (conditions_of cs))
+  every_matches-tests : (ms : List (Option A)) (cs : List Condition) → every_matches time dims (conditions_of (members_of (λ m. selects true (test m)) ms cs)) ≡ (every_holds dims (tests_in test ms) && every_matches time dims (conditions_of cs))
+  every_matches-tests [] cs = refl
+  every_matches-tests (Some m ∷ ms) cs =
+      ap (λ b. holds_of (test m) dims && b) (every_matches-tests ms cs) ∙ and_regroups (holds_of (test m) dims) (every_holds dims (tests_in test ms)) (every_matches time dims (conditions_of cs))
+  every_matches-tests (None ∷ ms) [] = every_matches-tests ms []
+  every_matches-tests (None ∷ ms) (c ∷ cs) =
+      ap (λ b. matches time dims c && b) (every_matches-tests ms cs) ∙ and_moves (matches time dims c) (every_holds dims (tests_in test ms)) (every_matches time dims (conditions_of cs))
 
-module _ (time : ℤ) (dims : List (List ℕ)) (ms : List (Option DimensionTest)) (cs : List Condition) where
-  pub matches-selectors : some_holds dims (tests_in (λ t. t) ms) ≡ true → some_matches time dims (conditions_of (members_of (selects true) ms cs)) ≡ true
-  matches-selectors holds = some_matches-members time dims ms cs ∙ ap (λ b. b || some_matches time dims (conditions_of cs)) holds
+  every_matches-denied : (ms : List (Option A)) (cs : List Condition) → every_matches time dims (conditions_of (members_of (λ m. selects false (test m)) ms cs)) ≡ (not (some_holds dims (tests_in test ms)) && every_matches time dims (conditions_of cs))
+  every_matches-denied [] cs = refl
+  every_matches-denied (Some m ∷ ms) cs =
+      ap (λ b. not (holds_of (test m) dims) && b) (every_matches-denied ms cs) ∙ neither_and (holds_of (test m) dims) (some_holds dims (tests_in test ms)) (every_matches time dims (conditions_of cs))
+  every_matches-denied (None ∷ ms) [] = every_matches-denied ms []
+  every_matches-denied (None ∷ ms) (c ∷ cs) =
+      ap (λ b. matches time dims c && b) (every_matches-denied ms cs) ∙ and_moves (matches time dims c) (not (some_holds dims (tests_in test ms))) (every_matches time dims (conditions_of cs))
 
-  pub matches-others : some_holds dims (tests_in (λ t. t) ms) ≡ false → some_matches time dims (conditions_of (members_of (selects true) ms cs)) ≡ some_matches time dims (conditions_of cs)
-  matches-others none = some_matches-members time dims ms cs ∙ ap (λ b. b || some_matches time dims (conditions_of cs)) none
+module _ (time : ℤ) (dims : List (List ℕ)) (t : Together) (cs : List Condition) where
+  -- some member of an `or` matches where one of those asked together holds, or not all that are denied together, or one of the others matches
+  pub some_matches-members : some_matches time dims (conditions_of (members_in true t cs)) ≡ (one_holds dims t || (not (all_hold dims t) || some_matches time dims (conditions_of cs)))
+  some_matches-members =
+      let denied = members_of (ranges false) t.every cs in
+      some_matches-tests time dims (λ x. x) t.texts (members_of (ranges true) t.some denied)
+      ∙ ap (λ b. some_holds dims (tests_in (λ x. x) t.texts) || b) (some_matches-tests time dims as_range t.some denied ∙ ap (λ b. some_holds dims (tests_in as_range t.some) || b) (some_matches-denied time dims as_range t.every cs))
+      ∙ or_regroups (some_holds dims (tests_in (λ x. x) t.texts)) (some_holds dims (tests_in as_range t.some)) (not (all_hold dims t) || some_matches time dims (conditions_of cs))
 
-  pub matches-denied : some_holds dims (tests_in (λ t. t) ms) ≡ true → every_matches time dims (conditions_of (members_of (selects false) ms cs)) ≡ false
-  matches-denied holds = every_matches-denied time dims ms cs ∙ ap (λ b. not b && every_matches time dims (conditions_of cs)) holds
+  -- every member of an `and` matches where none of those denied together holds, all that are asked together, and all the others match
+  pub every_matches-members : every_matches time dims (conditions_of (members_in false t cs)) ≡ (not (one_holds dims t) && (all_hold dims t && every_matches time dims (conditions_of cs)))
+  every_matches-members =
+      let asked = members_of (ranges true) t.every cs in
+      every_matches-denied time dims (λ x. x) t.texts (members_of (ranges false) t.some asked)
+      ∙ ap (λ b. not (some_holds dims (tests_in (λ x. x) t.texts)) && b) (every_matches-denied time dims as_range t.some asked ∙ ap (λ b. not (some_holds dims (tests_in as_range t.some)) && b) (every_matches-tests time dims as_range t.every cs))
+      ∙ neither_and (some_holds dims (tests_in (λ x. x) t.texts)) (some_holds dims (tests_in as_range t.some)) (all_hold dims t && every_matches time dims (conditions_of cs))
 
-  pub matches-allowed : some_holds dims (tests_in (λ t. t) ms) ≡ false → every_matches time dims (conditions_of (members_of (selects false) ms cs)) ≡ every_matches time dims (conditions_of cs)
-  matches-allowed none = every_matches-denied time dims ms cs ∙ ap (λ b. not b && every_matches time dims (conditions_of cs)) none
+  pub some-one : one_holds dims t ≡ true → some_matches time dims (conditions_of (members_in true t cs)) ≡ true
+  some-one one = some_matches-members ∙ ap (λ b. b || (not (all_hold dims t) || some_matches time dims (conditions_of cs))) one
 
-module _ (time : ℤ) (dims : List (List ℕ)) (ms : List (Option Bound)) (cs : List Condition) where
-  pub matches-outside : every_holds dims (tests_in as_range ms) ≡ false → every_matches time dims (conditions_of (members_of ranges ms cs)) ≡ false
-  matches-outside outside = every_matches-ranges time dims ms cs ∙ ap (λ b. b && every_matches time dims (conditions_of cs)) outside
+  pub some-not_all : one_holds dims t ≡ false → all_hold dims t ≡ false → some_matches time dims (conditions_of (members_in true t cs)) ≡ true
+  some-not_all one all = some_matches-members ∙ ap (λ b. b || (not (all_hold dims t) || some_matches time dims (conditions_of cs))) one ∙ ap (λ b. not b || some_matches time dims (conditions_of cs)) all
 
-  pub matches-range : some_holds dims (tests_in as_range ms) ≡ true → some_matches time dims (conditions_of (members_of ranges ms cs)) ≡ true
-  matches-range holds = some_matches-ranges time dims ms cs ∙ ap (λ b. b || some_matches time dims (conditions_of cs)) holds
+  pub some-others : one_holds dims t ≡ false → all_hold dims t ≡ true → some_matches time dims (conditions_of (members_in true t cs)) ≡ some_matches time dims (conditions_of cs)
+  some-others one all = some_matches-members ∙ ap (λ b. b || (not (all_hold dims t) || some_matches time dims (conditions_of cs))) one ∙ ap (λ b. not b || some_matches time dims (conditions_of cs)) all
 
-  pub matches-no_range : some_holds dims (tests_in as_range ms) ≡ false → some_matches time dims (conditions_of (members_of ranges ms cs)) ≡ some_matches time dims (conditions_of cs)
-  matches-no_range none = some_matches-ranges time dims ms cs ∙ ap (λ b. b || some_matches time dims (conditions_of cs)) none
+  pub every-one : one_holds dims t ≡ true → every_matches time dims (conditions_of (members_in false t cs)) ≡ false
+  every-one one = every_matches-members ∙ ap (λ b. not b && (all_hold dims t && every_matches time dims (conditions_of cs))) one
 
-  pub matches-inside : every_holds dims (tests_in as_range ms) ≡ true → every_matches time dims (conditions_of (members_of ranges ms cs)) ≡ every_matches time dims (conditions_of cs)
-  matches-inside inside = every_matches-ranges time dims ms cs ∙ ap (λ b. b && every_matches time dims (conditions_of cs)) inside
+  pub every-not_all : one_holds dims t ≡ false → all_hold dims t ≡ false → every_matches time dims (conditions_of (members_in false t cs)) ≡ false
+  every-not_all one all = every_matches-members ∙ ap (λ b. not b && (all_hold dims t && every_matches time dims (conditions_of cs))) one ∙ ap (λ b. b && every_matches time dims (conditions_of cs)) all
+
+  pub every-others : one_holds dims t ≡ false → all_hold dims t ≡ true → every_matches time dims (conditions_of (members_in false t cs)) ≡ every_matches time dims (conditions_of cs)
+  every-others one all = every_matches-members ∙ ap (λ b. not b && (all_hold dims t && every_matches time dims (conditions_of cs))) one ∙ ap (λ b. b && every_matches time dims (conditions_of cs)) all
 
 -- ---- the members of a list of filters in turn
 

@@ -1,5 +1,5 @@
-ghost use Rattle.std.specs.Prelude.{◌≡◌, true, map, IfOk, MatchResult, OnOk};
-ghost use Rattle.dr_filter.specs.Condition.{condition_in, conditions_of, members_of, every, some, dimension, opposite, selects, ranges};
+ghost use Rattle.std.specs.Prelude.{◌≡◌, true, false, map, IfOk, MatchResult, OnOk};
+ghost use Rattle.dr_filter.specs.Condition.{condition_in, conditions_of, members_of, members_in, every, some, dimension, opposite, selects, ranges};
 ghost use Rattle.dr_filter.specs.LookUps.{is_texts};
 ghost use Rattle.dr_filter.specs.Members.{PutsBehind};
 
@@ -9,6 +9,7 @@ use crate::every_bound::EveryBound;
 use crate::filter::Filter;
 use crate::selectors::Selectors;
 use crate::some_bound::SomeBound;
+use crate::together::Together;
 use crate::value_test::ValueTest;
 use std::alloc::{AllocError, Global};
 
@@ -16,20 +17,35 @@ use std::alloc::{AllocError, Global};
 pub fn every_of(alloc: Global, filters: Vec<Filter>) -> Result<Filter, AllocError>
     ensures { IfOk result (λ f. condition_in f ≡ every (conditions_of (map condition_in filters.items))) }
 {
-    let (denied, rest) = selectors_apart(alloc, filters, false)?;
-    let (members, others) = bounds_apart(alloc, rest)?;
-    let bounds = EveryBound::of(alloc, members)?;
-    Ok(Filter::And(denied, bounds, others))
+    let (together, others) = apart(alloc, filters, false)?;
+    Ok(Filter::And(together, others))
 }
 
 /// The `or` of some filters, in their order. The only error is that memory ran out.
 pub fn one_of(alloc: Global, filters: Vec<Filter>) -> Result<Filter, AllocError>
     ensures { IfOk result (λ f. condition_in f ≡ some (conditions_of (map condition_in filters.items))) }
 {
-    let (selectors, rest) = selectors_apart(alloc, filters, true)?;
-    let (members, others) = bounds_apart(alloc, rest)?;
-    let bounds = SomeBound::of(alloc, members)?;
-    Ok(Filter::Or(selectors, bounds, others))
+    let (together, others) = apart(alloc, filters, true)?;
+    Ok(Filter::Or(together, others))
+}
+
+// The members of an `or`, or of an `and`, that are asked together, and those that stand apart.
+fn apart(
+    alloc: Global,
+    filters: Vec<Filter>,
+    holds: bool,
+) -> Result<(Together, Vec<Filter>), AllocError>
+    ensures { IfOk result (λ p. members_in holds p.0 (map condition_in p.1.items) ≡ map condition_in filters.items) }
+{
+    let (texts, rest) = selectors_apart(alloc, filters, holds)?;
+    let (some, rest) = bounds_apart(alloc, rest, holds)?;
+    let (every, others) = bounds_apart(alloc, rest, !holds)?;
+    let together = Together {
+        texts,
+        some: SomeBound::of(alloc, some)?,
+        every: EveryBound::of(alloc, every)?,
+    };
+    Ok((together, others))
 }
 
 // The selectors among some filters, or those of which the `not` is among them, and the other filters.
@@ -67,30 +83,33 @@ fn with_selector(
     }
 }
 
-// The bounds among some filters, and the other filters.
+// The bounds among some filters, or those of which the `not` is among them, and the other filters.
 fn bounds_apart(
     alloc: Global,
     filters: Vec<Filter>,
+    holds: bool,
 ) -> Result<(Vec<Option<Bound>>, Vec<Filter>), AllocError>
-    ensures { IfOk result (λ p. members_of ranges p.0.items (map condition_in p.1.items) ≡ map condition_in filters.items) }
+    ensures { IfOk result (λ p. members_of (ranges holds) p.0.items (map condition_in p.1.items) ≡ map condition_in filters.items) }
 {
     let mut members = Vec::new(alloc);
     let mut others = Vec::new(alloc);
     for filter in filters {
-        put_bound(&mut members, &mut others, filter)?;
+        put_bound(alloc, &mut members, &mut others, filter, holds)?;
     }
     Ok((members, others))
 }
 
 // Puts a filter behind some members, as a bound, or as one that stands apart.
 fn put_bound(
+    alloc: Global,
     members: &mut Vec<Option<Bound>>,
     others: &mut Vec<Filter>,
     filter: Filter,
+    holds: bool,
 ) -> Result<(), AllocError>
-    ensures { OnOk result (PutsBehind ranges members.old.items (map condition_in others.old.items) (condition_in filter) members.new.items (map condition_in others.new.items)) }
+    ensures { OnOk result (PutsBehind (ranges holds) members.old.items (map condition_in others.old.items) (condition_in filter) members.new.items (map condition_in others.new.items)) }
 {
-    match bound_in(filter) {
+    match bound_taken(alloc, filter, holds)? {
         Ok(bound) => members.push(Some(bound))?,
         Err(other) => {
             members.push(None)?;
@@ -142,9 +161,36 @@ fn held_in(filter: Filter) -> Result<DimensionTest, Filter>
     }
 }
 
+// The bound that a filter is, or of which it is the `not`; else the filter.
+fn bound_taken(
+    alloc: Global,
+    filter: Filter,
+    holds: bool,
+) -> Result<Result<Bound, Filter>, AllocError>
+    ensures { IfOk result (λ r. MatchResult r (λ b. condition_in filter ≡ ranges holds b) (λ f. condition_in f ≡ condition_in filter)) }
+{
+    if holds {
+        Ok(bound_in(filter))
+    } else {
+        denied_bound_in(alloc, filter)
+    }
+}
+
+fn denied_bound_in(alloc: Global, filter: Filter) -> Result<Result<Bound, Filter>, AllocError>
+    ensures { IfOk result (λ r. MatchResult r (λ b. condition_in filter ≡ ranges false b) (λ f. condition_in f ≡ condition_in filter)) }
+{
+    match filter {
+        Filter::Not(denied) => match bound_in(Box::into_inner(denied)) {
+            Ok(bound) => Ok(Ok(bound)),
+            Err(other) => Ok(Err(Filter::Not(Box::new(alloc, other)?))),
+        },
+        other => Ok(Err(other)),
+    }
+}
+
 // The bound that a filter is; else the filter.
 fn bound_in(filter: Filter) -> Result<Bound, Filter>
-    ensures { MatchResult result (λ b. condition_in filter ≡ ranges b) (λ f. condition_in f ≡ condition_in filter) }
+    ensures { MatchResult result (λ b. condition_in filter ≡ ranges true b) (λ f. condition_in f ≡ condition_in filter) }
 {
     match filter {
         Filter::Dimension(test) => {

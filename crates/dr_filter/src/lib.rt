@@ -16,6 +16,7 @@ mod reading;
 mod selectors;
 mod some_bound;
 mod test_reading;
+mod together;
 mod value_test;
 mod values;
 
@@ -28,4 +29,5 @@ pub use filter_error::FilterError;
 pub use ranges::Ranges;
 pub use selectors::Selectors;
 pub use some_bound::SomeBound;
+pub use together::Together;
 pub use value_test::ValueTest;
