@@ -23,6 +23,7 @@ mod selectors;
 mod some_bound;
 mod some_comparison;
 mod text_look_up;
+mod together;
 
 pub use comparison::Comparison;
 pub use dimension_value::DimensionValue;
@@ -35,3 +36,4 @@ pub use output_numbers::{OutputNumbers, number_at};
 pub use output_texts::{OutputTexts, text_at};
 pub use selectors::Selectors;
 pub use some_comparison::SomeComparison;
+pub use together::Together;
