@@ -42,20 +42,9 @@ pub record ToNarrow (whole left : ℕ → Bool) (before after : List Bool) : Typ
 pub same-test : (f g : ℕ → Bool) (before after : List Bool) → ((i : ℕ) → i < length before → f i ≡ g i) → Narrows f before after → Narrows g before after
 same-test f g before after same h = record { count = h.count; each = λ i lt. h.each i lt ∙ ap (λ b. get_or before i false && b) (same i lt) }
 
-and_thrice : (a b c d : Bool) → (((a && b) && c) && d) ≡ (a && (b && (c && d)))
-and_thrice true true c d = refl
-and_thrice true false c d = refl
-and_thrice false b c d = refl
-
--- narrowed by three tests in turn, which together are one
-pub narrowed-thrice : (f g h whole : ℕ → Bool) (first second third last : List Bool) → ((i : ℕ) → whole i ≡ (f i && (g i && h i))) → Narrows f first second → Narrows g second third → Narrows h third last → Narrows whole first last
-narrowed-thrice f g h whole first second third last is a b c = record {
-  count = c.count ∙ b.count ∙ a.count;
-  each = λ i lt.
-      c.each i (omega (arith, lt, a.count, b.count))
-      ∙ ap (λ x. x && h i) (b.each i (omega (arith, lt, a.count)) ∙ ap (λ x. x && g i) (a.each i lt))
-      ∙ and_thrice (get_or first i false) (f i) (g i) (h i) ∙ ap (λ x. get_or first i false && x) (sym (is i));
-}
+pub neither : (a b : Bool) → (not a && not b) ≡ not (a || b)
+neither true b = refl
+neither false b = refl
 
 -- narrowed by two tests in turn, which together are one
 pub narrowed-twice : (f g whole : ℕ → Bool) (first second last : List Bool) → ((i : ℕ) → whole i ≡ (f i && g i)) → Narrows f first second → Narrows g second last → Narrows whole first last

@@ -131,9 +131,37 @@ fn narrow_together(
     requires { length told.old ≡ length view.now.times }
     ensures { OnOk result (Narrows (λ i. not (one_holds (key_at view.now i).dims together.now) && all_hold (key_at view.now i).dims together.now) told.old told.new) }
 {
-    drop_passing(alloc, view, together.texts.look_ups(), told)?;
-    drop_passing(alloc, view, together.some.look_ups(), told)?;
-    keep_passing_all(alloc, view, together.every.look_ups(), told)?;
+    drop_one(alloc, view, together, told)?;
+    keep_all(alloc, view, together, told)?;
+    Ok(())
+}
+
+// Makes false what is told of the rows of which one holds of the texts and bounds of which one may hold.
+fn drop_one(
+    alloc: Global,
+    view: &SegmentView<'_>,
+    together: &Together,
+    told: &mut [bool],
+) -> Result<(), AllocError>
+    requires { length told.old ≡ length view.now.times }
+    ensures { OnOk result (Narrows (λ i. not (one_holds (key_at view.now i).dims together.now)) told.old told.new) }
+{
+    drop_passing(alloc, view, together.some_texts.look_ups(), told)?;
+    drop_passing(alloc, view, together.some_bounds.look_ups(), told)?;
+    Ok(())
+}
+
+// Makes false what is told of the rows of which not all hold of the texts and bounds that are all to hold.
+fn keep_all(
+    alloc: Global,
+    view: &SegmentView<'_>,
+    together: &Together,
+    told: &mut [bool],
+) -> Result<(), AllocError>
+    ensures { OnOk result (Narrows (λ i. all_hold (key_at view.now i).dims together.now) told.old told.new) }
+{
+    keep_passing_all(alloc, view, together.every_text.look_ups(), told)?;
+    keep_passing_all(alloc, view, together.every_bound.look_ups(), told)?;
     Ok(())
 }
 

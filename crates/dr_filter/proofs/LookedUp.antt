@@ -41,35 +41,18 @@ pub added-behind : (tests : List DimensionTest) (t : DimensionTest) (s : Dimensi
 added-behind tests t s dims is =
     list_any-append (λ x. holds_of x dims) tests (t ∷ []) ∙ or_ends (some_holds dims tests) (holds_of t dims) ∙ ap (λ b. some_holds dims tests || b) is
 
-pub narrowed-there : (tests : List DimensionTest) (i : ℕ) (t : DimensionTest) (new : ValueTest) (b : Bound) → IsTestOf tests i b.place → t ≡ get_or tests i t
-    → ((value : List ℕ) → passes new value ≡ (passes t.test value && lies_within b.bounds value)) → (dims : List (List ℕ)) → every_holds dims (set tests i (record { place = t.place; test = new })) ≡ (every_holds dims tests && holds_of (as_range b) dims)
-narrowed-there tests i t new b at is more dims =
-    let here : t.place ≡ b.place = ap (λ (x : DimensionTest). x.place) is ∙ at.1 t in
-    list_all-set (λ x. holds_of x dims) t (record { place = t.place; test = new }) (holds_of (as_range b) dims) tests i at.0 is
-    (more (value_at t.place dims) ∙ ap (λ p. holds_of t dims && lies_within b.bounds (value_at p dims)) here)
+pub narrowed-there : (tests : List DimensionTest) (i : ℕ) (t : DimensionTest) (new : ValueTest) (s : DimensionTest) → IsTestOf tests i s.place → t ≡ get_or tests i t
+    → ((value : List ℕ) → passes new value ≡ (passes t.test value && passes s.test value)) → (dims : List (List ℕ)) → every_holds dims (set tests i (record { place = t.place; test = new })) ≡ (every_holds dims tests && holds_of s dims)
+narrowed-there tests i t new s at is more dims =
+    let here : t.place ≡ s.place = ap (λ (x : DimensionTest). x.place) is ∙ at.1 t in
+    list_all-set (λ x. holds_of x dims) t (record { place = t.place; test = new }) (holds_of s dims) tests i at.0 is
+    (more (value_at t.place dims) ∙ ap (λ p. holds_of t dims && passes s.test (value_at p dims)) here)
 
 pub narrowed-behind : (tests : List DimensionTest) (t : DimensionTest) (dims : List (List ℕ)) → every_holds dims (tests ++ t ∷ []) ≡ (every_holds dims tests && holds_of t dims)
 narrowed-behind tests t dims =
     list_all-append (λ x. holds_of x dims) tests (t ∷ []) ∙ and_ends (every_holds dims tests) (holds_of t dims)
 
 -- ---- members
-
-tests_in-selector : (ms : List (Option DimensionTest)) (s : DimensionTest) → tests_in (λ t. t) (ms ++ Some s ∷ []) ≡ tests_in (λ t. t) ms ++ s ∷ []
-tests_in-selector [] s = refl
-tests_in-selector (Some m ∷ ms) s = ap (λ ts. m ∷ ts) (tests_in-selector ms s)
-tests_in-selector (None ∷ ms) s = tests_in-selector ms s
-
-tests_in-other : (ms : List (Option DimensionTest)) → tests_in (λ t. t) (ms ++ None ∷ []) ≡ tests_in (λ t. t) ms
-tests_in-other [] = refl
-tests_in-other (Some m ∷ ms) = ap (λ ts. m ∷ ts) (tests_in-other ms)
-tests_in-other (None ∷ ms) = tests_in-other ms
-
-pub looked_up-selector : (old new : List DimensionTest) (ms : List (Option DimensionTest)) (s : DimensionTest) → AreLookedUp old ms → ((dims : List (List ℕ)) → some_holds dims new ≡ (some_holds dims old || holds_of s dims)) → AreLookedUp new (ms ++ Some s ∷ [])
-looked_up-selector old new ms s were added = λ dims.
-    added dims ∙ ap (λ b. b || holds_of s dims) (were dims) ∙ sym (ap (some_holds dims) (tests_in-selector ms s) ∙ added-behind (tests_in (λ t. t) ms) s s dims refl)
-
-pub looked_up-other : (tests : List DimensionTest) (ms : List (Option DimensionTest)) → AreLookedUp tests ms → AreLookedUp tests (ms ++ None ∷ [])
-looked_up-other tests ms were = λ dims. were dims ∙ sym (ap (some_holds dims) (tests_in-other ms))
 
 module _ {A : Type 0} where
   others_in-found : (ms : List (Option A)) (m : A) → others_in (ms ++ Some m ∷ []) ≡ others_in ms
@@ -142,18 +125,30 @@ module _ (time : ℤ) (dims : List (List ℕ)) (t : Together) (cs : List Conditi
   -- some member of an `or` matches where one of those asked together holds, or not all that are denied together, or one of the others matches
   pub some_matches-members : some_matches time dims (conditions_of (members_in true t cs)) ≡ (one_holds dims t || (not (all_hold dims t) || some_matches time dims (conditions_of cs)))
   some_matches-members =
-      let denied = members_of (ranges false) t.every cs in
-      some_matches-tests time dims (λ x. x) t.texts (members_of (ranges true) t.some denied)
-      ∙ ap (λ b. some_holds dims (tests_in (λ x. x) t.texts) || b) (some_matches-tests time dims as_range t.some denied ∙ ap (λ b. some_holds dims (tests_in as_range t.some) || b) (some_matches-denied time dims as_range t.every cs))
-      ∙ or_regroups (some_holds dims (tests_in (λ x. x) t.texts)) (some_holds dims (tests_in as_range t.some)) (not (all_hold dims t) || some_matches time dims (conditions_of cs))
+      let bounds = members_of (ranges false) t.every_bound cs in
+      let denied = members_of (selects false) t.every_text bounds in
+      let left = some_matches time dims (conditions_of cs) in
+      some_matches-tests time dims (λ x. x) t.some_texts (members_of (ranges true) t.some_bounds denied)
+      ∙ ap (λ b. some_holds dims (tests_in (λ x. x) t.some_texts) || b)
+      (some_matches-tests time dims as_range t.some_bounds denied
+      ∙ ap (λ b. some_holds dims (tests_in as_range t.some_bounds) || b)
+      (some_matches-denied time dims (λ x. x) t.every_text bounds ∙ ap (λ b. not (every_holds dims (tests_in (λ x. x) t.every_text)) || b) (some_matches-denied time dims as_range t.every_bound cs)
+      ∙ either_not (every_holds dims (tests_in (λ x. x) t.every_text)) (every_holds dims (tests_in as_range t.every_bound)) left))
+      ∙ or_regroups (some_holds dims (tests_in (λ x. x) t.some_texts)) (some_holds dims (tests_in as_range t.some_bounds)) (not (all_hold dims t) || left)
 
   -- every member of an `and` matches where none of those denied together holds, all that are asked together, and all the others match
   pub every_matches-members : every_matches time dims (conditions_of (members_in false t cs)) ≡ (not (one_holds dims t) && (all_hold dims t && every_matches time dims (conditions_of cs)))
   every_matches-members =
-      let asked = members_of (ranges true) t.every cs in
-      every_matches-denied time dims (λ x. x) t.texts (members_of (ranges false) t.some asked)
-      ∙ ap (λ b. not (some_holds dims (tests_in (λ x. x) t.texts)) && b) (every_matches-denied time dims as_range t.some asked ∙ ap (λ b. not (some_holds dims (tests_in as_range t.some)) && b) (every_matches-tests time dims as_range t.every cs))
-      ∙ neither_and (some_holds dims (tests_in (λ x. x) t.texts)) (some_holds dims (tests_in as_range t.some)) (all_hold dims t && every_matches time dims (conditions_of cs))
+      let bounds = members_of (ranges true) t.every_bound cs in
+      let asked = members_of (selects true) t.every_text bounds in
+      let left = every_matches time dims (conditions_of cs) in
+      every_matches-denied time dims (λ x. x) t.some_texts (members_of (ranges false) t.some_bounds asked)
+      ∙ ap (λ b. not (some_holds dims (tests_in (λ x. x) t.some_texts)) && b)
+      (every_matches-denied time dims as_range t.some_bounds asked
+      ∙ ap (λ b. not (some_holds dims (tests_in as_range t.some_bounds)) && b)
+      (every_matches-tests time dims (λ x. x) t.every_text bounds ∙ ap (λ b. every_holds dims (tests_in (λ x. x) t.every_text) && b) (every_matches-tests time dims as_range t.every_bound cs)
+      ∙ and_regroups (every_holds dims (tests_in (λ x. x) t.every_text)) (every_holds dims (tests_in as_range t.every_bound)) left))
+      ∙ neither_and (some_holds dims (tests_in (λ x. x) t.some_texts)) (some_holds dims (tests_in as_range t.some_bounds)) (all_hold dims t && left)
 
   pub some-one : one_holds dims t ≡ true → some_matches time dims (conditions_of (members_in true t cs)) ≡ true
   some-one one = some_matches-members ∙ ap (λ b. b || (not (all_hold dims t) || some_matches time dims (conditions_of cs))) one

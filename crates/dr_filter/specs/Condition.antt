@@ -59,9 +59,11 @@ members_of meant (Some m ∷ ms) cs = meant m ∷ members_of meant ms cs
 members_of meant (None ∷ ms) [] = members_of meant ms []
 members_of meant (None ∷ ms) (c ∷ cs) = c ∷ members_of meant ms cs
 
--- all members of an `or`, where texts and bounds are to hold of which one suffices, or of an `and`, where none of these is to hold
+-- all members of an `or`, where one of some texts and bounds is to hold or not all of others, or of an `and`, where none of the ones is to hold and all of the others
 abbrev pub members_in : Bool → Together → List Condition → List Condition
-members_in holds t cs = members_of (selects holds) t.texts (members_of (ranges holds) t.some (members_of (ranges (not holds)) t.every cs))
+members_in holds t cs =
+    members_of (selects holds) t.some_texts (members_of (ranges holds) t.some_bounds
+    (members_of (selects (not holds)) t.every_text (members_of (ranges (not holds)) t.every_bound cs)))
 
 -- one level, with the filters inside already seen as conditions
 abbrev pub condition_step : Filter-F Condition → Condition
