@@ -10,7 +10,7 @@ use Rattle.dr_having.specs.declared.together.Together.{Together}
 use Rattle.dr_having.specs.Bounds.{lies_in, reaches, narrowed}
 use Rattle.dr_having.specs.Compared.{every_holds, some_holds, lies_in_at, lie_in_all, reaches_at, reach_some, IsEveryOf, IsSomeOf}
 use Rattle.dr_having.specs.Condition.{Condition, compared, selected, conditions_of, members_of, members_in, meets, meets_every, meets_some}
-use Rattle.dr_having.specs.LookUps.{some_selected}
+use Rattle.dr_having.specs.LookUps.{some_selected, every_selected}
 use Rattle.dr_having.specs.Meeting.{compares, meets_value, meets_dimension, number_at}
 use Rattle.dr_having.specs.Together.{one_holds, all_hold}
 use Rattle.dr_having.proofs.Narrowing.{lies_in-narrowed, place-narrowed}
@@ -18,9 +18,9 @@ use Rattle.dr_base.proofs.Truths.{and_regroups, and_swaps, and_moves, and_ends, 
 
 -- ---- bounds
 
-module _ (f : EveryBound → Bool) (old new : EveryBound) (b : Bool) where
+module _ {A : Type 0} (f : A → Bool) (old new : A) (b : Bool) where
   -- where one bound gives way to another that asks one thing more
-  list_all-set : (bounds : List EveryBound) (i : ℕ) → i < length bounds → old ≡ get_or bounds i old → f new ≡ (f old && b) → list_all f (set bounds i new) ≡ (list_all f bounds && b)
+  pub list_all-set : (bounds : List A) (i : ℕ) → i < length bounds → old ≡ get_or bounds i old → f new ≡ (f old && b) → list_all f (set bounds i new) ≡ (list_all f bounds && b)
   list_all-set [] i lt is h = absurd (omega (arith, lt))
   list_all-set (x ∷ xs) zero lt is h = ap (λ a. a && list_all f xs) (h ∙ ap (λ z. f z && b) is) ∙ and_swaps (f x) b (list_all f xs)
   list_all-set (x ∷ xs) (suc i) lt is h = ap (λ a. f x && a) (list_all-set xs i (omega (arith, lt)) is h) ∙ and_regroups (f x) (list_all f xs) b
@@ -98,43 +98,67 @@ module _ (dims : List (List ℕ)) (values : List ℤ) where
   every-denied (None ∷ ms) [] = every-denied ms []
   every-denied (None ∷ ms) (c ∷ cs) = ap (λ b. meets dims values c && b) (every-denied ms cs) ∙ and_moves (meets dims values c) (not (some_holds values ms)) (meets_every dims values (conditions_of cs))
 
-  every-texts : (ms : List (Option DimensionValue)) (cs : List Condition) → meets_every dims values (conditions_of (members_of (selected false) ms cs)) ≡ (not (some_selected dims ms) && meets_every dims values (conditions_of cs))
+  every-texts_denied : (ms : List (Option DimensionValue)) (cs : List Condition) → meets_every dims values (conditions_of (members_of (selected false) ms cs)) ≡ (not (some_selected dims ms) && meets_every dims values (conditions_of cs))
+  every-texts_denied [] cs = refl
+  every-texts_denied (Some c ∷ ms) cs = ap (λ b. not (meets_dimension c dims) && b) (every-texts_denied ms cs) ∙ neither_and (meets_dimension c dims) (some_selected dims ms) (meets_every dims values (conditions_of cs))
+  every-texts_denied (None ∷ ms) [] = every-texts_denied ms []
+  every-texts_denied (None ∷ ms) (c ∷ cs) = ap (λ b. meets dims values c && b) (every-texts_denied ms cs) ∙ and_moves (meets dims values c) (not (some_selected dims ms)) (meets_every dims values (conditions_of cs))
+
+  every-texts : (ms : List (Option DimensionValue)) (cs : List Condition) → meets_every dims values (conditions_of (members_of (selected true) ms cs)) ≡ (every_selected dims ms && meets_every dims values (conditions_of cs))
   every-texts [] cs = refl
-  every-texts (Some c ∷ ms) cs = ap (λ b. not (meets_dimension c dims) && b) (every-texts ms cs) ∙ neither_and (meets_dimension c dims) (some_selected dims ms) (meets_every dims values (conditions_of cs))
+  every-texts (Some c ∷ ms) cs = ap (λ b. meets_dimension c dims && b) (every-texts ms cs) ∙ and_regroups (meets_dimension c dims) (every_selected dims ms) (meets_every dims values (conditions_of cs))
   every-texts (None ∷ ms) [] = every-texts ms []
-  every-texts (None ∷ ms) (c ∷ cs) = ap (λ b. meets dims values c && b) (every-texts ms cs) ∙ and_moves (meets dims values c) (not (some_selected dims ms)) (meets_every dims values (conditions_of cs))
+  every-texts (None ∷ ms) (c ∷ cs) = ap (λ b. meets dims values c && b) (every-texts ms cs) ∙ and_moves (meets dims values c) (every_selected dims ms) (meets_every dims values (conditions_of cs))
+
+  some-texts_denied : (ms : List (Option DimensionValue)) (cs : List Condition) → meets_some dims values (conditions_of (members_of (selected false) ms cs)) ≡ (not (every_selected dims ms) || meets_some dims values (conditions_of cs))
+  some-texts_denied [] cs = refl
+  some-texts_denied (Some c ∷ ms) cs = ap (λ b. not (meets_dimension c dims) || b) (some-texts_denied ms cs) ∙ either_not (meets_dimension c dims) (every_selected dims ms) (meets_some dims values (conditions_of cs))
+  some-texts_denied (None ∷ ms) [] = some-texts_denied ms []
+  some-texts_denied (None ∷ ms) (c ∷ cs) = ap (λ b. meets dims values c || b) (some-texts_denied ms cs) ∙ or_moves (meets dims values c) (not (every_selected dims ms)) (meets_some dims values (conditions_of cs))
 
   module _ (t : Together) (cs : List Condition) where
     -- some member of an `or` is met where one of those asked together is, or not all that are denied together, or one of the others
-    some-members : meets_some dims values (conditions_of (members_in true t cs)) ≡ (one_holds dims values t || (not (all_hold values t) || meets_some dims values (conditions_of cs)))
+    some-members : meets_some dims values (conditions_of (members_in true t cs)) ≡ (one_holds dims values t || (not (all_hold dims values t) || meets_some dims values (conditions_of cs)))
     some-members =
-        let denied = members_of (compared false) t.every cs in
-        some-comparisons t.some (members_of (selected true) t.texts denied)
-        ∙ ap (λ b. some_holds values t.some || b) (some-texts t.texts denied ∙ ap (λ b. some_selected dims t.texts || b) (some-denied t.every cs))
-        ∙ or_regroups (some_holds values t.some) (some_selected dims t.texts) (not (all_hold values t) || meets_some dims values (conditions_of cs))
+        let texts = members_of (selected false) t.every_text cs in
+        let denied = members_of (compared false) t.every_comparison texts in
+        let left = meets_some dims values (conditions_of cs) in
+        some-comparisons t.some_comparisons (members_of (selected true) t.some_texts denied)
+        ∙ ap (λ b. some_holds values t.some_comparisons || b)
+        (some-texts t.some_texts denied
+        ∙ ap (λ b. some_selected dims t.some_texts || b)
+        (some-denied t.every_comparison texts ∙ ap (λ b. not (every_holds values t.every_comparison) || b) (some-texts_denied t.every_text cs)
+        ∙ either_not (every_holds values t.every_comparison) (every_selected dims t.every_text) left))
+        ∙ or_regroups (some_holds values t.some_comparisons) (some_selected dims t.some_texts) (not (all_hold dims values t) || left)
 
     -- every member of an `and` is met where none of those denied together is, all that are asked together are, and all the others
-    every-members : meets_every dims values (conditions_of (members_in false t cs)) ≡ (not (one_holds dims values t) && (all_hold values t && meets_every dims values (conditions_of cs)))
+    every-members : meets_every dims values (conditions_of (members_in false t cs)) ≡ (not (one_holds dims values t) && (all_hold dims values t && meets_every dims values (conditions_of cs)))
     every-members =
-        let asked = members_of (compared true) t.every cs in
-        every-denied t.some (members_of (selected false) t.texts asked)
-        ∙ ap (λ b. not (some_holds values t.some) && b) (every-texts t.texts asked ∙ ap (λ b. not (some_selected dims t.texts) && b) (every-comparisons t.every cs))
-        ∙ neither_and (some_holds values t.some) (some_selected dims t.texts) (all_hold values t && meets_every dims values (conditions_of cs))
+        let texts = members_of (selected true) t.every_text cs in
+        let asked = members_of (compared true) t.every_comparison texts in
+        let left = meets_every dims values (conditions_of cs) in
+        every-denied t.some_comparisons (members_of (selected false) t.some_texts asked)
+        ∙ ap (λ b. not (some_holds values t.some_comparisons) && b)
+        (every-texts_denied t.some_texts asked
+        ∙ ap (λ b. not (some_selected dims t.some_texts) && b)
+        (every-comparisons t.every_comparison texts ∙ ap (λ b. every_holds values t.every_comparison && b) (every-texts t.every_text cs)
+        ∙ and_regroups (every_holds values t.every_comparison) (every_selected dims t.every_text) left))
+        ∙ neither_and (some_holds values t.some_comparisons) (some_selected dims t.some_texts) (all_hold dims values t && left)
 
     pub some-one : one_holds dims values t ≡ true → meets_some dims values (conditions_of (members_in true t cs)) ≡ true
-    some-one one = some-members ∙ ap (λ b. b || (not (all_hold values t) || meets_some dims values (conditions_of cs))) one
+    some-one one = some-members ∙ ap (λ b. b || (not (all_hold dims values t) || meets_some dims values (conditions_of cs))) one
 
-    pub some-not_all : one_holds dims values t ≡ false → all_hold values t ≡ false → meets_some dims values (conditions_of (members_in true t cs)) ≡ true
-    some-not_all one all = some-members ∙ ap (λ b. b || (not (all_hold values t) || meets_some dims values (conditions_of cs))) one ∙ ap (λ b. not b || meets_some dims values (conditions_of cs)) all
+    pub some-not_all : one_holds dims values t ≡ false → all_hold dims values t ≡ false → meets_some dims values (conditions_of (members_in true t cs)) ≡ true
+    some-not_all one all = some-members ∙ ap (λ b. b || (not (all_hold dims values t) || meets_some dims values (conditions_of cs))) one ∙ ap (λ b. not b || meets_some dims values (conditions_of cs)) all
 
-    pub some-others : one_holds dims values t ≡ false → all_hold values t ≡ true → meets_some dims values (conditions_of (members_in true t cs)) ≡ meets_some dims values (conditions_of cs)
-    some-others one all = some-members ∙ ap (λ b. b || (not (all_hold values t) || meets_some dims values (conditions_of cs))) one ∙ ap (λ b. not b || meets_some dims values (conditions_of cs)) all
+    pub some-others : one_holds dims values t ≡ false → all_hold dims values t ≡ true → meets_some dims values (conditions_of (members_in true t cs)) ≡ meets_some dims values (conditions_of cs)
+    some-others one all = some-members ∙ ap (λ b. b || (not (all_hold dims values t) || meets_some dims values (conditions_of cs))) one ∙ ap (λ b. not b || meets_some dims values (conditions_of cs)) all
 
     pub every-one : one_holds dims values t ≡ true → meets_every dims values (conditions_of (members_in false t cs)) ≡ false
-    every-one one = every-members ∙ ap (λ b. not b && (all_hold values t && meets_every dims values (conditions_of cs))) one
+    every-one one = every-members ∙ ap (λ b. not b && (all_hold dims values t && meets_every dims values (conditions_of cs))) one
 
-    pub every-not_all : one_holds dims values t ≡ false → all_hold values t ≡ false → meets_every dims values (conditions_of (members_in false t cs)) ≡ false
-    every-not_all one all = every-members ∙ ap (λ b. not b && (all_hold values t && meets_every dims values (conditions_of cs))) one ∙ ap (λ b. b && meets_every dims values (conditions_of cs)) all
+    pub every-not_all : one_holds dims values t ≡ false → all_hold dims values t ≡ false → meets_every dims values (conditions_of (members_in false t cs)) ≡ false
+    every-not_all one all = every-members ∙ ap (λ b. not b && (all_hold dims values t && meets_every dims values (conditions_of cs))) one ∙ ap (λ b. b && meets_every dims values (conditions_of cs)) all
 
-    pub every-others : one_holds dims values t ≡ false → all_hold values t ≡ true → meets_every dims values (conditions_of (members_in false t cs)) ≡ meets_every dims values (conditions_of cs)
-    every-others one all = every-members ∙ ap (λ b. not b && (all_hold values t && meets_every dims values (conditions_of cs))) one ∙ ap (λ b. b && meets_every dims values (conditions_of cs)) all
+    pub every-others : one_holds dims values t ≡ false → all_hold dims values t ≡ true → meets_every dims values (conditions_of (members_in false t cs)) ≡ meets_every dims values (conditions_of cs)
+    every-others one all = every-members ∙ ap (λ b. not b && (all_hold dims values t && meets_every dims values (conditions_of cs))) one ∙ ap (λ b. b && meets_every dims values (conditions_of cs)) all

@@ -40,11 +40,16 @@ module _ (places : List ℕ) where
 
   pub in-placed : (holds : Bool) (t : Together) (cs : List Condition) → map (placed places) (members_in holds t cs) ≡ members_in holds (together_placed places t) (map (placed places) cs)
   in-placed holds t cs =
-      let every = members_of (compared (not holds)) t.every cs in
-      members-placed (compared holds) (value_placed places) (compared-placed holds) t.some (members_of (selected holds) t.texts every)
-      ∙ ap (members_of (compared holds) (members_placed places t.some))
-      (members-placed (selected holds) (λ d. d) (selected-placed holds) t.texts every
-      ∙ (λ k. members_of (selected holds) (same_members t.texts k) (members-placed (compared (not holds)) (value_placed places) (compared-placed (not holds)) t.every cs k)))
+      let texts = members_of (selected (not holds)) t.every_text cs in
+      let every = members_of (compared (not holds)) t.every_comparison texts in
+      members-placed (compared holds) (value_placed places) (compared-placed holds) t.some_comparisons (members_of (selected holds) t.some_texts every)
+      ∙ ap (members_of (compared holds) (members_placed places t.some_comparisons))
+      (members-placed (selected holds) (λ d. d) (selected-placed holds) t.some_texts every
+      ∙ (λ k. members_of (selected holds) (same_members t.some_texts k)
+      ((members-placed (compared (not holds)) (value_placed places) (compared-placed (not holds)) t.every_comparison texts
+      ∙ ap (members_of (compared (not holds)) (members_placed places t.every_comparison))
+      (members-placed (selected (not holds)) (λ d. d) (selected-placed (not holds)) t.every_text cs
+      ∙ (λ j. members_of (selected (not holds)) (same_members t.every_text j) (map (placed places) cs)))) k)))
 
   pub every-placed : (t made : Together) (cs others : List Condition) → made ≡ together_placed places t → others ≡ map (placed places) cs
       → every (conditions_of (members_in false made others)) ≡ placed places (every (conditions_of (members_in false t cs)))

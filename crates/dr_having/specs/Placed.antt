@@ -15,7 +15,12 @@ abbrev pub members_placed : List ℕ → List (Option GroupValue) → List (Opti
 members_placed places ms = map (option_map (value_placed places)) ms
 
 abbrev pub together_placed : List ℕ → Together → Together
-together_placed places t = record { some = members_placed places t.some; texts = t.texts; every = members_placed places t.every }
+together_placed places t = record {
+  some_comparisons = members_placed places t.some_comparisons;
+  some_texts = t.some_texts;
+  every_comparison = members_placed places t.every_comparison;
+  every_text = t.every_text;
+}
 
 abbrev mutual
   pub placed : List ℕ → Condition → Condition

@@ -4,6 +4,7 @@ ghost use Rattle.dr_having.specs.Members.{PutsBehind};
 
 use crate::dimension_value::DimensionValue;
 use crate::every_comparison::EveryComparison;
+use crate::every_text::EveryText;
 use crate::group_value::GroupValue;
 use crate::having::Having;
 use crate::selectors::Selectors;
@@ -35,13 +36,15 @@ fn apart(
 ) -> Result<(Together, Vec<Having>), AllocError>
     ensures { IfOk result (λ p. members_in holds p.0 (map condition_in p.1.items) ≡ map condition_in conditions.items) }
 {
-    let (some, rest) = comparisons_apart(alloc, conditions, holds)?;
-    let (texts, rest) = selectors_apart(alloc, rest, holds)?;
-    let (every, others) = comparisons_apart(alloc, rest, !holds)?;
+    let (some_comparisons, rest) = comparisons_apart(alloc, conditions, holds)?;
+    let (some_texts, rest) = selectors_apart(alloc, rest, holds)?;
+    let (every_comparison, rest) = comparisons_apart(alloc, rest, !holds)?;
+    let (every_text, others) = selectors_apart(alloc, rest, !holds)?;
     let together = Together {
-        some: SomeComparison::of(alloc, some)?,
-        texts: Selectors::of(alloc, texts)?,
-        every: EveryComparison::of(alloc, every)?,
+        some_comparisons: SomeComparison::of(alloc, some_comparisons)?,
+        some_texts: Selectors::of(alloc, some_texts)?,
+        every_comparison: EveryComparison::of(alloc, every_comparison)?,
+        every_text: EveryText::of(alloc, every_text)?,
     };
     Ok((together, others))
 }

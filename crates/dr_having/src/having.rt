@@ -59,7 +59,7 @@ fn meets_every(
     if together.one_holds(dims, values) {
         return false;
     }
-    if !together.all_hold(values) {
+    if !together.all_hold(dims, values) {
         return false;
     }
     for condition in others {
@@ -83,7 +83,7 @@ fn meets_some(
     if together.one_holds(dims, values) {
         return true;
     }
-    if !together.all_hold(values) {
+    if !together.all_hold(dims, values) {
         return true;
     }
     for condition in others {
