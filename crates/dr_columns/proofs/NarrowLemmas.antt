@@ -2,6 +2,7 @@
 use Rattle.std.proofs.Common.{inl, inr, ◌≡◌, ◌∙◌, sym, refl, ap, subst, ℕ, ◌+◌, ◌<◌, ◌≤◌, ◌&&◌, ◌||◌, not, Bool, true, false, List, length, get_or, set, arith}
 use Rattle.std.proofs.lemmas.List.{length-set, get_or-set_same, get_or-set_other}
 use Rattle.std.proofs.lemmas.Bool.{cases_lt}
+use Rattle.dr_base.proofs.Truths.{and_regroups}
 use Rattle.dr_columns.specs.Rows.{Narrows}
 
 -- narrowed up to a place
@@ -45,17 +46,18 @@ pub neither : (a b : Bool) → (not a && not b) ≡ not (a || b)
 neither true b = refl
 neither false b = refl
 
-and_thrice : (a b c d : Bool) → (((a && b) && c) && d) ≡ (a && (b && (c && d)))
-and_thrice true true c d = refl
-and_thrice true false c d = refl
-and_thrice false b c d = refl
-
--- narrowed by three tests in turn, which together are one
-pub narrowed-thrice : (f g h whole : ℕ → Bool) (first second third last : List Bool) → ((i : ℕ) → whole i ≡ (f i && (g i && h i))) → Narrows f first second → Narrows g second third → Narrows h third last → Narrows whole first last
-narrowed-thrice f g h whole first second third last is a b c = record {
-  count = c.count ∙ b.count ∙ a.count;
+-- narrowed by two tests in turn, which together are one
+pub narrowed-twice : (f g whole : ℕ → Bool) (first second last : List Bool) → ((i : ℕ) → whole i ≡ (f i && g i)) → Narrows f first second → Narrows g second last → Narrows whole first last
+narrowed-twice f g whole first second last is a b = record {
+  count = b.count ∙ a.count;
   each = λ i lt.
-      c.each i (omega (arith, lt, a.count, b.count))
-      ∙ ap (λ x. x && h i) (b.each i (omega (arith, lt, a.count)) ∙ ap (λ x. x && g i) (a.each i lt))
-      ∙ and_thrice (get_or first i false) (f i) (g i) (h i) ∙ ap (λ x. get_or first i false && x) (sym (is i));
+      b.each i (omega (arith, lt, a.count))
+      ∙ ap (λ x. x && g i) (a.each i lt)
+      ∙ sym (and_regroups (get_or first i false) (f i) (g i)) ∙ ap (λ x. get_or first i false && x) (sym (is i));
 }
+
+-- neither one of some holds, nor not all of others, nor a third
+pub none_of : (one all third : Bool) → ((not one && all) && not third) ≡ not (one || (not all || third))
+none_of true all third = refl
+none_of false true third = refl
+none_of false false third = refl

@@ -1,14 +1,15 @@
 ghost use Rattle.std.specs.Prelude.{◌≡◌, ◌<◌, ◌&&◌, ℕ, false, true, not, length, map, get_or, OnOk, IfOk};
 ghost use Rattle.dr_time.specs.Union.{union_holds};
-ghost use Rattle.dr_filter.specs.Condition.{condition_in, conditions_in, conditions_of, members_of, selects, ranges, every_matches, some_matches};
+ghost use Rattle.dr_filter.specs.Condition.{condition_in, conditions_in, conditions_of, members_in, every_matches, some_matches};
 ghost use Rattle.dr_filter.specs.LookUps.{every_holds, some_holds};
 ghost use Rattle.dr_filter.specs.Match.{holds_of, passes};
+ghost use Rattle.dr_filter.specs.Together.{all_hold, one_holds};
 ghost use Rattle.dr_image.specs.Checked.{column_at};
 ghost use Rattle.dr_columns.specs.Rows.{Narrows, key_at, meets};
 
 use crate::cells::{known_place, value_at};
 use crate::telling::{all_true, drop_where, keep_true};
-use dr_filter::{DimensionTest, EveryBound, Filter, Selectors, SomeBound, ValueTest};
+use dr_filter::{DimensionTest, Filter, Together, ValueTest};
 use dr_image::SegmentView;
 use dr_time::Union;
 use std::alloc::{AllocError, Global};
@@ -16,8 +17,8 @@ use std::alloc::{AllocError, Global};
 /// Makes false what is told of the rows of an image that a filter doesn't keep. A test of a dimension is asked once for each value
 /// of the dimension's dictionary, and the time of a row once for each run of equal times. The only error is that memory ran out.
 /// It takes time by the tests of the filter, each by the rows and as [`ValueTest::passes`] by the values; the selectors among the
-/// members of one `or`, those of which one `and` has the `not`, and the bounds among the members of one `and` or of one `or` count
-/// as one test each for each dimension that they name.
+/// members of one `or`, those of which one `and` has the `not`, and the bounds among the members of one `and` or of one `or`, or of
+/// which it has the `not`, count as one test each for each dimension that they name.
 #[cycle(narrowing)]
 pub fn narrow(
     alloc: Global,
@@ -34,11 +35,11 @@ pub fn narrow(
             keep_held(view, union, told);
             Ok(())
         }
-        Filter::And(denied, bounds, filters) => {
-            narrow_every(alloc, view, denied, bounds, filters.as_slice(), told)
+        Filter::And(together, filters) => {
+            narrow_every(alloc, view, together, filters.as_slice(), told)
         }
-        Filter::Or(selectors, bounds, filters) => {
-            let none = meet_none(alloc, view, selectors, bounds, filters.as_slice())?;
+        Filter::Or(together, filters) => {
+            let none = meet_none(alloc, view, together, filters.as_slice())?;
             drop_where(told, none.as_slice());
             Ok(())
         }
@@ -51,22 +52,19 @@ pub fn narrow(
     }
 }
 
-// Makes false what is told of the rows of which one of some selectors holds, or not all of some bounds, or which don't meet all of
-// some filters, which together are the members of an `and`.
+// Makes false what is told of the rows that don't meet all members of an `and`: some that are asked together, and others.
 #[cycle(narrowing)]
 fn narrow_every(
     alloc: Global,
     view: &SegmentView<'_>,
-    denied: &Selectors,
-    bounds: &EveryBound,
+    together: &Together,
     filters: &[Filter],
     told: &mut [bool],
 ) -> Result<(), AllocError>
     requires { length told.old ≡ length view.now.times }
-    ensures { OnOk result (Narrows (λ i. every_matches (key_at view.now i).time (key_at view.now i).dims (conditions_of (members_of (selects false) denied.now (members_of ranges bounds.now (map condition_in filters.now))))) told.old told.new) }
+    ensures { OnOk result (Narrows (λ i. every_matches (key_at view.now i).time (key_at view.now i).dims (conditions_of (members_in false together.now (map condition_in filters.now)))) told.old told.new) }
 {
-    drop_passing(alloc, view, denied.look_ups(), told)?;
-    keep_passing_all(alloc, view, bounds.look_ups(), told)?;
+    narrow_together(alloc, view, together, told)?;
     narrow_others(alloc, view, filters, told)?;
     Ok(())
 }
@@ -88,27 +86,83 @@ fn narrow_others(
     Ok(())
 }
 
-// Of each row, whether none of some selectors and of some bounds holds of it and it meets none of some filters, which together
-// are the members of an `or`.
+// Of each row, whether it meets none of the members of an `or`: some that are asked together, and others.
 #[cycle(narrowing)]
 fn meet_none(
     alloc: Global,
     view: &SegmentView<'_>,
-    selectors: &Selectors,
-    bounds: &SomeBound,
+    together: &Together,
     filters: &[Filter],
 ) -> Result<Vec<bool>, AllocError>
     ensures count { IfOk result (λ none. length none.items ≡ length view.now.times) }
-    ensures each { IfOk result (λ none. (i : ℕ) → i < length view.now.times → get_or none.items i false ≡ not (some_matches (key_at view.now i).time (key_at view.now i).dims (conditions_of (members_of (selects true) selectors.now (members_of ranges bounds.now (map condition_in filters.now)))))) }
+    ensures each { IfOk result (λ none. (i : ℕ) → i < length view.now.times → get_or none.items i false ≡ not (some_matches (key_at view.now i).time (key_at view.now i).dims (conditions_of (members_in true together.now (map condition_in filters.now))))) }
 {
-    let unselected = pass_none(alloc, view, selectors.look_ups())?;
-    let mut none = pass_none_too(alloc, view, unselected, bounds.look_ups())?;
+    let mut none = together_none(alloc, view, together)?;
     for filter in filters {
         let mut met = all_true(alloc, view)?;
         narrow(alloc, view, filter, met.as_mut_slice())?;
         drop_where(none.as_mut_slice(), met.as_slice());
     }
     Ok(none)
+}
+
+// Of each row, whether it meets none of the members of an `or` that are asked together.
+fn together_none(
+    alloc: Global,
+    view: &SegmentView<'_>,
+    together: &Together,
+) -> Result<Vec<bool>, AllocError>
+    ensures count { IfOk result (λ none. length none.items ≡ length view.now.times) }
+    ensures each { IfOk result (λ none. (i : ℕ) → i < length view.now.times → get_or none.items i false ≡ (not (one_holds (key_at view.now i).dims together.now) && all_hold (key_at view.now i).dims together.now)) }
+{
+    let mut none = all_true(alloc, view)?;
+    narrow_together(alloc, view, together, none.as_mut_slice())?;
+    Ok(none)
+}
+
+// Makes false what is told of the rows of which one holds of the texts and bounds of which one may hold, or not all that are all
+// to hold.
+fn narrow_together(
+    alloc: Global,
+    view: &SegmentView<'_>,
+    together: &Together,
+    told: &mut [bool],
+) -> Result<(), AllocError>
+    requires { length told.old ≡ length view.now.times }
+    ensures { OnOk result (Narrows (λ i. not (one_holds (key_at view.now i).dims together.now) && all_hold (key_at view.now i).dims together.now) told.old told.new) }
+{
+    drop_one(alloc, view, together, told)?;
+    keep_all(alloc, view, together, told)?;
+    Ok(())
+}
+
+// Makes false what is told of the rows of which one holds of the texts and bounds of which one may hold.
+fn drop_one(
+    alloc: Global,
+    view: &SegmentView<'_>,
+    together: &Together,
+    told: &mut [bool],
+) -> Result<(), AllocError>
+    requires { length told.old ≡ length view.now.times }
+    ensures { OnOk result (Narrows (λ i. not (one_holds (key_at view.now i).dims together.now)) told.old told.new) }
+{
+    drop_passing(alloc, view, together.some_texts.look_ups(), told)?;
+    drop_passing(alloc, view, together.some_bounds.look_ups(), told)?;
+    Ok(())
+}
+
+// Makes false what is told of the rows of which not all hold of the texts and bounds that are all to hold.
+fn keep_all(
+    alloc: Global,
+    view: &SegmentView<'_>,
+    together: &Together,
+    told: &mut [bool],
+) -> Result<(), AllocError>
+    ensures { OnOk result (Narrows (λ i. all_hold (key_at view.now i).dims together.now) told.old told.new) }
+{
+    keep_passing_all(alloc, view, together.every_text.look_ups(), told)?;
+    keep_passing_all(alloc, view, together.every_bound.look_ups(), told)?;
+    Ok(())
 }
 
 // Makes false what is told of the rows that pass one of some tests.
@@ -142,39 +196,6 @@ fn keep_passing_all(
         keep_passing(alloc, view, test, told)?;
     }
     Ok(())
-}
-
-// Of each row, whether it passes none of some tests.
-fn pass_none(
-    alloc: Global,
-    view: &SegmentView<'_>,
-    tests: &[DimensionTest],
-) -> Result<Vec<bool>, AllocError>
-    ensures count { IfOk result (λ none. length none.items ≡ length view.now.times) }
-    ensures each { IfOk result (λ none. (i : ℕ) → i < length view.now.times → get_or none.items i false ≡ not (some_holds (key_at view.now i).dims tests.now)) }
-{
-    let told = all_true(alloc, view)?;
-    pass_none_too(alloc, view, told, tests)
-}
-
-// Of each row, whether it is told and passes none of some tests.
-fn pass_none_too(
-    alloc: Global,
-    view: &SegmentView<'_>,
-    told: Vec<bool>,
-    tests: &[DimensionTest],
-) -> Result<Vec<bool>, AllocError>
-    requires { length told.items ≡ length view.now.times }
-    ensures count { IfOk result (λ none. length none.items ≡ length view.now.times) }
-    ensures each { IfOk result (λ none. (i : ℕ) → i < length view.now.times → get_or none.items i false ≡ (get_or told.items i false && not (some_holds (key_at view.now i).dims tests.now))) }
-{
-    let mut none = told;
-    for test in tests {
-        let mut met = all_true(alloc, view)?;
-        keep_passing(alloc, view, test, met.as_mut_slice())?;
-        drop_where(none.as_mut_slice(), met.as_slice());
-    }
-    Ok(none)
 }
 
 // Makes false what is told of the rows whose value doesn't pass a test.

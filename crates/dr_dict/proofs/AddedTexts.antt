@@ -1,5 +1,5 @@
 -- A text that was added to a set: what is found then, and what stays.
-use Rattle.std.proofs.Common.{◌≡◌, ◌∙◌, sym, refl, ap, Bool, true, false, not, ◌||◌, ◌≤◌, ℕ, List, [], ◌∷◌, ◌++◌, length, take, bytes_eq, arith}
+use Rattle.std.proofs.Common.{◌≡◌, ◌∙◌, sym, refl, ap, Bool, true, false, not, ◌||◌, ◌&&◌, ◌≤◌, ℕ, List, [], ◌∷◌, ◌++◌, length, take, bytes_eq, arith}
 use Rattle.std.specs.List.{list_any}
 use Rattle.std.specs.Cmp.Lexicographic.{bytes_decides}
 use Rattle.std.proofs.lemmas.List.{length-append, take-append-le}
@@ -40,3 +40,24 @@ stays-first base old new text true added same within first =
 stays-first base old new text false added same within first =
     let as_before = ap length (same refl) in
     ((omega (arith, within, as_before)), ap (take (length base)) (same refl) ∙ first)
+
+-- a text that is among two lists where it is among the first and is the next of the second
+pub found-held : (held : List (List ℕ)) (text value : List ℕ) (before rest : Bool) (there : Bool) → list_any (bytes_eq text) held ≡ there
+    → ((before || (bytes_eq value text && there)) || (list_any (bytes_eq value) held && rest)) ≡ (before || (list_any (bytes_eq value) held && (bytes_eq value text || rest)))
+found-held held text value before rest there is = at (bytes_eq value text) refl
+  where
+    other : (b h r : Bool) → ((b || false) || (h && r)) ≡ (b || (h && r))
+    other true h r = refl
+    other false h r = refl
+
+    same : (b h r : Bool) → ((b || h) || (h && r)) ≡ (b || (h && true))
+    same true h r = refl
+    same false true r = refl
+    same false false r = refl
+
+    at : (e : Bool) → bytes_eq value text ≡ e → ((before || (e && there)) || (list_any (bytes_eq value) held && rest)) ≡ (before || (list_any (bytes_eq value) held && (e || rest)))
+    at false h = other before (list_any (bytes_eq value) held) rest
+    at true h =
+        let one : value ≡ text = (bytes_decides value text).0 h in
+        let held_so : list_any (bytes_eq value) held ≡ there = ap (λ v. list_any (bytes_eq v) held) one ∙ is in
+        (λ k. (before || there) || (held_so k && rest)) ∙ same before there rest ∙ sym (λ k. before || (held_so k && true))

@@ -48,6 +48,13 @@ impl TextSet {
         Ok(self.0.insert(copy)?)
     }
 
+    // No text, in memory from where these have theirs.
+    pub(crate) fn none(&self) -> TextSet
+        ensures { result ≡ [] }
+    {
+        TextSet::new(*self.0.allocator())
+    }
+
     // How many texts there are.
     pub(crate) fn count(&self) -> usize
         ensures { result ≡ length self.now }

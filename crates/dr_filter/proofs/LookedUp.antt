@@ -6,10 +6,12 @@ use Rattle.std.proofs.lemmas.List.Folds.{list_any-append, list_all-append}
 use Rattle.dr_filter.specs.declared.bound.Bound.{Bound}
 use Rattle.dr_filter.specs.declared.dimension_test.DimensionTest.{DimensionTest}
 use Rattle.dr_filter.specs.declared.filter.Filter.{Filter}
+use Rattle.dr_filter.specs.declared.together.Together.{Together}
 use Rattle.dr_filter.specs.declared.value_test.ValueTest.{ValueTest}
-use Rattle.dr_filter.specs.Condition.{Condition, condition_in, conditions_of, matches, every_matches, some_matches, members_of, selects, ranges}
+use Rattle.dr_filter.specs.Condition.{Condition, condition_in, conditions_of, matches, every_matches, some_matches, members_of, members_in, selects, ranges}
 use Rattle.dr_filter.specs.LookUps.{as_range, tests_in, some_holds, every_holds, AreLookedUp, IsTestOf}
 use Rattle.dr_filter.specs.Members.{others_in, PutsBehind}
+use Rattle.dr_filter.specs.Together.{one_holds, all_hold}
 use Rattle.dr_filter.specs.Match.{lies_within, passes, value_at, holds_of}
 use Rattle.dr_base.proofs.Truths.{or_regroups, or_swaps, or_moves, or_ends, and_regroups, and_swaps, and_moves, and_ends, neither_and}
 
@@ -39,35 +41,18 @@ pub added-behind : (tests : List DimensionTest) (t : DimensionTest) (s : Dimensi
 added-behind tests t s dims is =
     list_any-append (λ x. holds_of x dims) tests (t ∷ []) ∙ or_ends (some_holds dims tests) (holds_of t dims) ∙ ap (λ b. some_holds dims tests || b) is
 
-pub narrowed-there : (tests : List DimensionTest) (i : ℕ) (t : DimensionTest) (new : ValueTest) (b : Bound) → IsTestOf tests i b.place → t ≡ get_or tests i t
-    → ((value : List ℕ) → passes new value ≡ (passes t.test value && lies_within b.bounds value)) → (dims : List (List ℕ)) → every_holds dims (set tests i (record { place = t.place; test = new })) ≡ (every_holds dims tests && holds_of (as_range b) dims)
-narrowed-there tests i t new b at is more dims =
-    let here : t.place ≡ b.place = ap (λ (x : DimensionTest). x.place) is ∙ at.1 t in
-    list_all-set (λ x. holds_of x dims) t (record { place = t.place; test = new }) (holds_of (as_range b) dims) tests i at.0 is
-    (more (value_at t.place dims) ∙ ap (λ p. holds_of t dims && lies_within b.bounds (value_at p dims)) here)
+pub narrowed-there : (tests : List DimensionTest) (i : ℕ) (t : DimensionTest) (new : ValueTest) (s : DimensionTest) → IsTestOf tests i s.place → t ≡ get_or tests i t
+    → ((value : List ℕ) → passes new value ≡ (passes t.test value && passes s.test value)) → (dims : List (List ℕ)) → every_holds dims (set tests i (record { place = t.place; test = new })) ≡ (every_holds dims tests && holds_of s dims)
+narrowed-there tests i t new s at is more dims =
+    let here : t.place ≡ s.place = ap (λ (x : DimensionTest). x.place) is ∙ at.1 t in
+    list_all-set (λ x. holds_of x dims) t (record { place = t.place; test = new }) (holds_of s dims) tests i at.0 is
+    (more (value_at t.place dims) ∙ ap (λ p. holds_of t dims && passes s.test (value_at p dims)) here)
 
 pub narrowed-behind : (tests : List DimensionTest) (t : DimensionTest) (dims : List (List ℕ)) → every_holds dims (tests ++ t ∷ []) ≡ (every_holds dims tests && holds_of t dims)
 narrowed-behind tests t dims =
     list_all-append (λ x. holds_of x dims) tests (t ∷ []) ∙ and_ends (every_holds dims tests) (holds_of t dims)
 
 -- ---- members
-
-tests_in-selector : (ms : List (Option DimensionTest)) (s : DimensionTest) → tests_in (λ t. t) (ms ++ Some s ∷ []) ≡ tests_in (λ t. t) ms ++ s ∷ []
-tests_in-selector [] s = refl
-tests_in-selector (Some m ∷ ms) s = ap (λ ts. m ∷ ts) (tests_in-selector ms s)
-tests_in-selector (None ∷ ms) s = tests_in-selector ms s
-
-tests_in-other : (ms : List (Option DimensionTest)) → tests_in (λ t. t) (ms ++ None ∷ []) ≡ tests_in (λ t. t) ms
-tests_in-other [] = refl
-tests_in-other (Some m ∷ ms) = ap (λ ts. m ∷ ts) (tests_in-other ms)
-tests_in-other (None ∷ ms) = tests_in-other ms
-
-pub looked_up-selector : (old new : List DimensionTest) (ms : List (Option DimensionTest)) (s : DimensionTest) → AreLookedUp old ms → ((dims : List (List ℕ)) → some_holds dims new ≡ (some_holds dims old || holds_of s dims)) → AreLookedUp new (ms ++ Some s ∷ [])
-looked_up-selector old new ms s were added = λ dims.
-    added dims ∙ ap (λ b. b || holds_of s dims) (were dims) ∙ sym (ap (some_holds dims) (tests_in-selector ms s) ∙ added-behind (tests_in (λ t. t) ms) s s dims refl)
-
-pub looked_up-other : (tests : List DimensionTest) (ms : List (Option DimensionTest)) → AreLookedUp tests ms → AreLookedUp tests (ms ++ None ∷ [])
-looked_up-other tests ms were = λ dims. were dims ∙ sym (ap (some_holds dims) (tests_in-other ms))
 
 module _ {A : Type 0} where
   others_in-found : (ms : List (Option A)) (m : A) → others_in (ms ++ Some m ∷ []) ≡ others_in ms
@@ -97,71 +82,91 @@ module _ {A : Type 0} where
 
 -- ---- rows
 
--- some member matches where one of the selectors holds, or one of the others matches
-pub some_matches-members : (time : ℤ) (dims : List (List ℕ)) (ms : List (Option DimensionTest)) (cs : List Condition)
-    → some_matches time dims (conditions_of (members_of (selects true) ms cs)) ≡ (some_holds dims (tests_in (λ t. t) ms) || some_matches time dims (conditions_of cs))
-some_matches-members time dims [] cs = refl
-some_matches-members time dims (Some s ∷ ms) cs =
-    ap (λ b. holds_of s dims || b) (some_matches-members time dims ms cs) ∙ or_regroups (holds_of s dims) (some_holds dims (tests_in (λ t. t) ms)) (some_matches time dims (conditions_of cs))
-some_matches-members time dims (None ∷ ms) [] = some_matches-members time dims ms []
-some_matches-members time dims (None ∷ ms) (c ∷ cs) =
-    ap (λ b. matches time dims c || b) (some_matches-members time dims ms cs) ∙ or_moves (matches time dims c) (some_holds dims (tests_in (λ t. t) ms)) (some_matches time dims (conditions_of cs))
+-- not both of two, or a third
+either_not : (a b c : Bool) → (not a || (not b || c)) ≡ (not (a && b) || c)
+either_not true b c = refl
+either_not false b c = refl
 
--- every member matches where none of the denied selectors holds, and all the others match
-pub every_matches-denied : (time : ℤ) (dims : List (List ℕ)) (ms : List (Option DimensionTest)) (cs : List Condition)
-    → every_matches time dims (conditions_of (members_of (selects false) ms cs)) ≡ (not (some_holds dims (tests_in (λ t. t) ms)) && every_matches time dims (conditions_of cs))
-every_matches-denied time dims [] cs = refl
-every_matches-denied time dims (Some s ∷ ms) cs =
-    ap (λ b. not (holds_of s dims) && b) (every_matches-denied time dims ms cs) ∙ neither_and (holds_of s dims) (some_holds dims (tests_in (λ t. t) ms)) (every_matches time dims (conditions_of cs))
-every_matches-denied time dims (None ∷ ms) [] = every_matches-denied time dims ms []
-every_matches-denied time dims (None ∷ ms) (c ∷ cs) =
-    ap (λ b. matches time dims c && b) (every_matches-denied time dims ms cs) ∙ and_moves (matches time dims c) (not (some_holds dims (tests_in (λ t. t) ms))) (every_matches time dims (conditions_of cs))
+-- members that mean tests, and what matches of them and the others
+module _ (time : ℤ) (dims : List (List ℕ)) {A : Type 0} (test : A → DimensionTest) where
+  some_matches-tests : (ms : List (Option A)) (cs : List Condition) → some_matches time dims (conditions_of (members_of (λ m. selects true (test m)) ms cs)) ≡ (some_holds dims (tests_in test ms) || some_matches time dims (conditions_of cs))
+  some_matches-tests [] cs = refl
+  some_matches-tests (Some m ∷ ms) cs =
+      ap (λ b. holds_of (test m) dims || b) (some_matches-tests ms cs) ∙ or_regroups (holds_of (test m) dims) (some_holds dims (tests_in test ms)) (some_matches time dims (conditions_of cs))
+  some_matches-tests (None ∷ ms) [] = some_matches-tests ms []
+  some_matches-tests (None ∷ ms) (c ∷ cs) =
+      ap (λ b. matches time dims c || b) (some_matches-tests ms cs) ∙ or_moves (matches time dims c) (some_holds dims (tests_in test ms)) (some_matches time dims (conditions_of cs))
 
--- every member matches where all the bounds hold, and all the others match
-pub every_matches-ranges : (time : ℤ) (dims : List (List ℕ)) (ms : List (Option Bound)) (cs : List Condition)
-    → every_matches time dims (conditions_of (members_of ranges ms cs)) ≡ (every_holds dims (tests_in as_range ms) && every_matches time dims (conditions_of cs))
-every_matches-ranges time dims [] cs = refl
-every_matches-ranges time dims (Some b ∷ ms) cs =
-    ap (λ a. holds_of (as_range b) dims && a) (every_matches-ranges time dims ms cs) ∙ and_regroups (holds_of (as_range b) dims) (every_holds dims (tests_in as_range ms)) (every_matches time dims (conditions_of cs))
-every_matches-ranges time dims (None ∷ ms) [] = every_matches-ranges time dims ms []
-every_matches-ranges time dims (None ∷ ms) (c ∷ cs) =
-    ap (λ a. matches time dims c && a) (every_matches-ranges time dims ms cs) ∙ and_moves (matches time dims c) (every_holds dims (tests_in as_range ms)) (every_matches time dims (conditions_of cs))
+  some_matches-denied : (ms : List (Option A)) (cs : List Condition) → some_matches time dims (conditions_of (members_of (λ m. selects false (test m)) ms cs)) ≡ (not (every_holds dims (tests_in test ms)) || some_matches time dims (conditions_of cs))
+  some_matches-denied [] cs = refl
+  some_matches-denied (Some m ∷ ms) cs =
+      ap (λ b. not (holds_of (test m) dims) || b) (some_matches-denied ms cs) ∙ either_not (holds_of (test m) dims) (every_holds dims (tests_in test ms)) (some_matches time dims (conditions_of cs))
+  some_matches-denied (None ∷ ms) [] = some_matches-denied ms []
+  some_matches-denied (None ∷ ms) (c ∷ cs) =
+      ap (λ b. matches time dims c || b) (some_matches-denied ms cs) ∙ or_moves (matches time dims c) (not (every_holds dims (tests_in test ms))) (some_matches time dims (conditions_of cs))
 
--- some member matches where one of the bounds holds, or one of the others matches
-pub some_matches-ranges : (time : ℤ) (dims : List (List ℕ)) (ms : List (Option Bound)) (cs : List Condition)
-    → some_matches time dims (conditions_of (members_of ranges ms cs)) ≡ (some_holds dims (tests_in as_range ms) || some_matches time dims (conditions_of cs))
-some_matches-ranges time dims [] cs = refl
-some_matches-ranges time dims (Some b ∷ ms) cs =
-    ap (λ a. holds_of (as_range b) dims || a) (some_matches-ranges time dims ms cs) ∙ or_regroups (holds_of (as_range b) dims) (some_holds dims (tests_in as_range ms)) (some_matches time dims (conditions_of cs))
-some_matches-ranges time dims (None ∷ ms) [] = some_matches-ranges time dims ms []
-some_matches-ranges time dims (None ∷ ms) (c ∷ cs) =
-    ap (λ a. matches time dims c || a) (some_matches-ranges time dims ms cs) ∙ or_moves (matches time dims c) (some_holds dims (tests_in as_range ms)) (some_matches time dims (conditions_of cs))
+  every_matches-tests : (ms : List (Option A)) (cs : List Condition) → every_matches time dims (conditions_of (members_of (λ m. selects true (test m)) ms cs)) ≡ (every_holds dims (tests_in test ms) && every_matches time dims (conditions_of cs))
+  every_matches-tests [] cs = refl
+  every_matches-tests (Some m ∷ ms) cs =
+      ap (λ b. holds_of (test m) dims && b) (every_matches-tests ms cs) ∙ and_regroups (holds_of (test m) dims) (every_holds dims (tests_in test ms)) (every_matches time dims (conditions_of cs))
+  every_matches-tests (None ∷ ms) [] = every_matches-tests ms []
+  every_matches-tests (None ∷ ms) (c ∷ cs) =
+      ap (λ b. matches time dims c && b) (every_matches-tests ms cs) ∙ and_moves (matches time dims c) (every_holds dims (tests_in test ms)) (every_matches time dims (conditions_of cs))
 
-module _ (time : ℤ) (dims : List (List ℕ)) (ms : List (Option DimensionTest)) (cs : List Condition) where
-  pub matches-selectors : some_holds dims (tests_in (λ t. t) ms) ≡ true → some_matches time dims (conditions_of (members_of (selects true) ms cs)) ≡ true
-  matches-selectors holds = some_matches-members time dims ms cs ∙ ap (λ b. b || some_matches time dims (conditions_of cs)) holds
+  every_matches-denied : (ms : List (Option A)) (cs : List Condition) → every_matches time dims (conditions_of (members_of (λ m. selects false (test m)) ms cs)) ≡ (not (some_holds dims (tests_in test ms)) && every_matches time dims (conditions_of cs))
+  every_matches-denied [] cs = refl
+  every_matches-denied (Some m ∷ ms) cs =
+      ap (λ b. not (holds_of (test m) dims) && b) (every_matches-denied ms cs) ∙ neither_and (holds_of (test m) dims) (some_holds dims (tests_in test ms)) (every_matches time dims (conditions_of cs))
+  every_matches-denied (None ∷ ms) [] = every_matches-denied ms []
+  every_matches-denied (None ∷ ms) (c ∷ cs) =
+      ap (λ b. matches time dims c && b) (every_matches-denied ms cs) ∙ and_moves (matches time dims c) (not (some_holds dims (tests_in test ms))) (every_matches time dims (conditions_of cs))
 
-  pub matches-others : some_holds dims (tests_in (λ t. t) ms) ≡ false → some_matches time dims (conditions_of (members_of (selects true) ms cs)) ≡ some_matches time dims (conditions_of cs)
-  matches-others none = some_matches-members time dims ms cs ∙ ap (λ b. b || some_matches time dims (conditions_of cs)) none
+module _ (time : ℤ) (dims : List (List ℕ)) (t : Together) (cs : List Condition) where
+  -- some member of an `or` matches where one of those asked together holds, or not all that are denied together, or one of the others matches
+  pub some_matches-members : some_matches time dims (conditions_of (members_in true t cs)) ≡ (one_holds dims t || (not (all_hold dims t) || some_matches time dims (conditions_of cs)))
+  some_matches-members =
+      let bounds = members_of (ranges false) t.every_bound cs in
+      let denied = members_of (selects false) t.every_text bounds in
+      let left = some_matches time dims (conditions_of cs) in
+      some_matches-tests time dims (λ x. x) t.some_texts (members_of (ranges true) t.some_bounds denied)
+      ∙ ap (λ b. some_holds dims (tests_in (λ x. x) t.some_texts) || b)
+      (some_matches-tests time dims as_range t.some_bounds denied
+      ∙ ap (λ b. some_holds dims (tests_in as_range t.some_bounds) || b)
+      (some_matches-denied time dims (λ x. x) t.every_text bounds ∙ ap (λ b. not (every_holds dims (tests_in (λ x. x) t.every_text)) || b) (some_matches-denied time dims as_range t.every_bound cs)
+      ∙ either_not (every_holds dims (tests_in (λ x. x) t.every_text)) (every_holds dims (tests_in as_range t.every_bound)) left))
+      ∙ or_regroups (some_holds dims (tests_in (λ x. x) t.some_texts)) (some_holds dims (tests_in as_range t.some_bounds)) (not (all_hold dims t) || left)
 
-  pub matches-denied : some_holds dims (tests_in (λ t. t) ms) ≡ true → every_matches time dims (conditions_of (members_of (selects false) ms cs)) ≡ false
-  matches-denied holds = every_matches-denied time dims ms cs ∙ ap (λ b. not b && every_matches time dims (conditions_of cs)) holds
+  -- every member of an `and` matches where none of those denied together holds, all that are asked together, and all the others match
+  pub every_matches-members : every_matches time dims (conditions_of (members_in false t cs)) ≡ (not (one_holds dims t) && (all_hold dims t && every_matches time dims (conditions_of cs)))
+  every_matches-members =
+      let bounds = members_of (ranges true) t.every_bound cs in
+      let asked = members_of (selects true) t.every_text bounds in
+      let left = every_matches time dims (conditions_of cs) in
+      every_matches-denied time dims (λ x. x) t.some_texts (members_of (ranges false) t.some_bounds asked)
+      ∙ ap (λ b. not (some_holds dims (tests_in (λ x. x) t.some_texts)) && b)
+      (every_matches-denied time dims as_range t.some_bounds asked
+      ∙ ap (λ b. not (some_holds dims (tests_in as_range t.some_bounds)) && b)
+      (every_matches-tests time dims (λ x. x) t.every_text bounds ∙ ap (λ b. every_holds dims (tests_in (λ x. x) t.every_text) && b) (every_matches-tests time dims as_range t.every_bound cs)
+      ∙ and_regroups (every_holds dims (tests_in (λ x. x) t.every_text)) (every_holds dims (tests_in as_range t.every_bound)) left))
+      ∙ neither_and (some_holds dims (tests_in (λ x. x) t.some_texts)) (some_holds dims (tests_in as_range t.some_bounds)) (all_hold dims t && left)
 
-  pub matches-allowed : some_holds dims (tests_in (λ t. t) ms) ≡ false → every_matches time dims (conditions_of (members_of (selects false) ms cs)) ≡ every_matches time dims (conditions_of cs)
-  matches-allowed none = every_matches-denied time dims ms cs ∙ ap (λ b. not b && every_matches time dims (conditions_of cs)) none
+  pub some-one : one_holds dims t ≡ true → some_matches time dims (conditions_of (members_in true t cs)) ≡ true
+  some-one one = some_matches-members ∙ ap (λ b. b || (not (all_hold dims t) || some_matches time dims (conditions_of cs))) one
 
-module _ (time : ℤ) (dims : List (List ℕ)) (ms : List (Option Bound)) (cs : List Condition) where
-  pub matches-outside : every_holds dims (tests_in as_range ms) ≡ false → every_matches time dims (conditions_of (members_of ranges ms cs)) ≡ false
-  matches-outside outside = every_matches-ranges time dims ms cs ∙ ap (λ b. b && every_matches time dims (conditions_of cs)) outside
+  pub some-not_all : one_holds dims t ≡ false → all_hold dims t ≡ false → some_matches time dims (conditions_of (members_in true t cs)) ≡ true
+  some-not_all one all = some_matches-members ∙ ap (λ b. b || (not (all_hold dims t) || some_matches time dims (conditions_of cs))) one ∙ ap (λ b. not b || some_matches time dims (conditions_of cs)) all
 
-  pub matches-range : some_holds dims (tests_in as_range ms) ≡ true → some_matches time dims (conditions_of (members_of ranges ms cs)) ≡ true
-  matches-range holds = some_matches-ranges time dims ms cs ∙ ap (λ b. b || some_matches time dims (conditions_of cs)) holds
+  pub some-others : one_holds dims t ≡ false → all_hold dims t ≡ true → some_matches time dims (conditions_of (members_in true t cs)) ≡ some_matches time dims (conditions_of cs)
+  some-others one all = some_matches-members ∙ ap (λ b. b || (not (all_hold dims t) || some_matches time dims (conditions_of cs))) one ∙ ap (λ b. not b || some_matches time dims (conditions_of cs)) all
 
-  pub matches-no_range : some_holds dims (tests_in as_range ms) ≡ false → some_matches time dims (conditions_of (members_of ranges ms cs)) ≡ some_matches time dims (conditions_of cs)
-  matches-no_range none = some_matches-ranges time dims ms cs ∙ ap (λ b. b || some_matches time dims (conditions_of cs)) none
+  pub every-one : one_holds dims t ≡ true → every_matches time dims (conditions_of (members_in false t cs)) ≡ false
+  every-one one = every_matches-members ∙ ap (λ b. not b && (all_hold dims t && every_matches time dims (conditions_of cs))) one
 
-  pub matches-inside : every_holds dims (tests_in as_range ms) ≡ true → every_matches time dims (conditions_of (members_of ranges ms cs)) ≡ every_matches time dims (conditions_of cs)
-  matches-inside inside = every_matches-ranges time dims ms cs ∙ ap (λ b. b && every_matches time dims (conditions_of cs)) inside
+  pub every-not_all : one_holds dims t ≡ false → all_hold dims t ≡ false → every_matches time dims (conditions_of (members_in false t cs)) ≡ false
+  every-not_all one all = every_matches-members ∙ ap (λ b. not b && (all_hold dims t && every_matches time dims (conditions_of cs))) one ∙ ap (λ b. b && every_matches time dims (conditions_of cs)) all
+
+  pub every-others : one_holds dims t ≡ false → all_hold dims t ≡ true → every_matches time dims (conditions_of (members_in false t cs)) ≡ every_matches time dims (conditions_of cs)
+  every-others one all = every_matches-members ∙ ap (λ b. not b && (all_hold dims t && every_matches time dims (conditions_of cs))) one ∙ ap (λ b. b && every_matches time dims (conditions_of cs)) all
 
 -- ---- the members of a list of filters in turn
 

@@ -6,6 +6,7 @@ use Rattle.dr_filter.specs.declared.bound.Bound.{Bound}
 use Rattle.dr_filter.specs.declared.dimension_test.DimensionTest.{DimensionTest}
 use Rattle.dr_filter.specs.declared.filter.Filter.{Filter, fold-Filter}
 use Rattle.dr_filter.specs.declared.filter.Filter.TheOpen.{Filter-F}
+use Rattle.dr_filter.specs.declared.together.Together.{Together}
 use Rattle.dr_filter.specs.LookUps.{as_range}
 use Rattle.dr_filter.specs.Match.{holds_of}
 
@@ -43,14 +44,13 @@ abbrev mutual
   some_matches time dims no_conditions = false
   some_matches time dims (condition c cs) = matches time dims c || some_matches time dims cs
 
--- what a selector stands for: that it holds, or that it doesn't
+-- what a test of a dimension stands for where it is asked together with others: that it holds, or that it doesn't
 abbrev pub selects : Bool → DimensionTest → Condition
 selects true t = dimension t
 selects false t = opposite (dimension t)
 
--- what a bound stands for
-abbrev pub ranges : Bound → Condition
-ranges b = dimension (as_range b)
+abbrev pub ranges : Bool → Bound → Condition
+ranges holds b = selects holds (as_range b)
 
 -- the members of an `and` or an `or` in their order: those that are asked together, and the others, which stand apart
 abbrev pub members_of : {A : Type 0} → (A → Condition) → List (Option A) → List Condition → List Condition
@@ -59,12 +59,18 @@ members_of meant (Some m ∷ ms) cs = meant m ∷ members_of meant ms cs
 members_of meant (None ∷ ms) [] = members_of meant ms []
 members_of meant (None ∷ ms) (c ∷ cs) = c ∷ members_of meant ms cs
 
+-- all members of an `or`, where one of some texts and bounds is to hold or not all of others, or of an `and`, where none of the ones is to hold and all of the others
+abbrev pub members_in : Bool → Together → List Condition → List Condition
+members_in holds t cs =
+    members_of (selects holds) t.some_texts (members_of (ranges holds) t.some_bounds
+    (members_of (selects (not holds)) t.every_text (members_of (ranges (not holds)) t.every_bound cs)))
+
 -- one level, with the filters inside already seen as conditions
 abbrev pub condition_step : Filter-F Condition → Condition
 condition_step (Filter-F.Dimension test) = dimension test
 condition_step (Filter-F.Interval union) = interval union
-condition_step (Filter-F.And denied bounds filters) = every (conditions_of (members_of (selects false) denied (members_of ranges bounds filters.items)))
-condition_step (Filter-F.Or selectors bounds filters) = some (conditions_of (members_of (selects true) selectors (members_of ranges bounds filters.items)))
+condition_step (Filter-F.And together filters) = every (conditions_of (members_in false together filters.items))
+condition_step (Filter-F.Or together filters) = some (conditions_of (members_in true together filters.items))
 condition_step (Filter-F.Not filter) = opposite (box_value filter)
 
 -- the condition that a filter stands for

@@ -5,6 +5,7 @@ pub mod Ranges
 pub mod Match
 pub mod LookUps
 pub mod Gathered
+pub mod Together
 pub mod Condition
 pub mod Members
 pub mod Values

@@ -37,6 +37,10 @@ every_holds dims tests = list_all (λ t. holds_of t dims) tests
 abbrev pub AreLookedUp : List DimensionTest → List (Option DimensionTest) → Type 0
 AreLookedUp tests ms = (dims : List (List ℕ)) → some_holds dims tests ≡ some_holds dims (tests_in (λ t. t) ms)
 
+-- and of which all are to hold
+abbrev pub AreAllLookedUp : List DimensionTest → List (Option DimensionTest) → Type 0
+AreAllLookedUp tests ms = (dims : List (List ℕ)) → every_holds dims tests ≡ every_holds dims (tests_in (λ t. t) ms)
+
 -- some tests tell of all dimension values what the bounds tell, which are all to hold
 abbrev pub AreEvery : List DimensionTest → List (Option Bound) → Type 0
 AreEvery tests ms = (dims : List (List ℕ)) → every_holds dims tests ≡ every_holds dims (tests_in as_range ms)

@@ -1,14 +1,16 @@
-ghost use Rattle.std.specs.Prelude.{◌≡◌, true, map, IfOk, MatchResult, OnOk};
-ghost use Rattle.dr_filter.specs.Condition.{condition_in, conditions_of, members_of, every, some, dimension, opposite, selects, ranges};
-ghost use Rattle.dr_filter.specs.LookUps.{is_texts};
+ghost use Rattle.std.specs.Prelude.{◌≡◌, true, false, map, IfOk, MatchResult, OnOk};
+ghost use Rattle.dr_filter.specs.Condition.{condition_in, conditions_of, members_of, members_in, every, some, selects, ranges};
 ghost use Rattle.dr_filter.specs.Members.{PutsBehind};
 
 use crate::bound::Bound;
 use crate::dimension_test::DimensionTest;
 use crate::every_bound::EveryBound;
+use crate::every_text::EveryText;
 use crate::filter::Filter;
 use crate::selectors::Selectors;
 use crate::some_bound::SomeBound;
+use crate::text_test::TextTest;
+use crate::together::Together;
 use crate::value_test::ValueTest;
 use std::alloc::{AllocError, Global};
 
@@ -16,81 +18,102 @@ use std::alloc::{AllocError, Global};
 pub fn every_of(alloc: Global, filters: Vec<Filter>) -> Result<Filter, AllocError>
     ensures { IfOk result (λ f. condition_in f ≡ every (conditions_of (map condition_in filters.items))) }
 {
-    let (denied, rest) = selectors_apart(alloc, filters, false)?;
-    let (members, others) = bounds_apart(alloc, rest)?;
-    let bounds = EveryBound::of(alloc, members)?;
-    Ok(Filter::And(denied, bounds, others))
+    let (together, others) = apart(alloc, filters, false)?;
+    Ok(Filter::And(together, others))
 }
 
 /// The `or` of some filters, in their order. The only error is that memory ran out.
 pub fn one_of(alloc: Global, filters: Vec<Filter>) -> Result<Filter, AllocError>
     ensures { IfOk result (λ f. condition_in f ≡ some (conditions_of (map condition_in filters.items))) }
 {
-    let (selectors, rest) = selectors_apart(alloc, filters, true)?;
-    let (members, others) = bounds_apart(alloc, rest)?;
-    let bounds = SomeBound::of(alloc, members)?;
-    Ok(Filter::Or(selectors, bounds, others))
+    let (together, others) = apart(alloc, filters, true)?;
+    Ok(Filter::Or(together, others))
 }
 
-// The selectors among some filters, or those of which the `not` is among them, and the other filters.
-fn selectors_apart(
+// The members of an `or`, or of an `and`, that are asked together, and those that stand apart.
+fn apart(
     alloc: Global,
     filters: Vec<Filter>,
     holds: bool,
-) -> Result<(Selectors, Vec<Filter>), AllocError>
-    ensures { IfOk result (λ p. members_of (selects holds) p.0 (map condition_in p.1.items) ≡ map condition_in filters.items) }
+) -> Result<(Together, Vec<Filter>), AllocError>
+    ensures { IfOk result (λ p. members_in holds p.0 (map condition_in p.1.items) ≡ map condition_in filters.items) }
 {
-    let mut selectors = Selectors::new(alloc);
-    let mut others = Vec::new(alloc);
-    for filter in filters {
-        selectors = with_selector(alloc, selectors, &mut others, filter, holds)?;
-    }
-    Ok((selectors, others))
+    let (some_texts, rest) = texts_apart(alloc, filters, holds)?;
+    let (some_bounds, rest) = bounds_apart(alloc, rest, holds)?;
+    let (every_text, rest) = texts_apart(alloc, rest, !holds)?;
+    let (every_bound, others) = bounds_apart(alloc, rest, !holds)?;
+    let together = Together {
+        some_texts: Selectors::of(alloc, some_texts)?,
+        some_bounds: SomeBound::of(alloc, some_bounds)?,
+        every_text: EveryText::of(alloc, every_text)?,
+        every_bound: EveryBound::of(alloc, every_bound)?,
+    };
+    Ok((together, others))
 }
 
-// Some members and a filter behind them, as one that is looked up, or as one that stands apart.
-fn with_selector(
-    alloc: Global,
-    selectors: Selectors,
-    others: &mut Vec<Filter>,
-    filter: Filter,
-    holds: bool,
-) -> Result<Selectors, AllocError>
-    ensures { IfOk result (λ more. PutsBehind (selects holds) selectors (map condition_in others.old.items) (condition_in filter) more (map condition_in others.new.items)) }
-{
-    match taken(alloc, filter, holds)? {
-        Ok(test) => selectors.and_texts(alloc, test),
-        Err(other) => {
-            others.push(other)?;
-            selectors.and_other()
-        }
-    }
-}
-
-// The bounds among some filters, and the other filters.
-fn bounds_apart(
+// The selectors and `in`s among some filters, or those of which the `not` is among them, and the other filters.
+fn texts_apart(
     alloc: Global,
     filters: Vec<Filter>,
-) -> Result<(Vec<Option<Bound>>, Vec<Filter>), AllocError>
-    ensures { IfOk result (λ p. members_of ranges p.0.items (map condition_in p.1.items) ≡ map condition_in filters.items) }
+    holds: bool,
+) -> Result<(Vec<Option<TextTest>>, Vec<Filter>), AllocError>
+    ensures { IfOk result (λ p. members_of (selects holds) p.0.items (map condition_in p.1.items) ≡ map condition_in filters.items) }
 {
     let mut members = Vec::new(alloc);
     let mut others = Vec::new(alloc);
     for filter in filters {
-        put_bound(&mut members, &mut others, filter)?;
+        put_text(alloc, &mut members, &mut others, filter, holds)?;
+    }
+    Ok((members, others))
+}
+
+// Puts a filter behind some members, as one that asks for texts, or as one that stands apart.
+fn put_text(
+    alloc: Global,
+    members: &mut Vec<Option<TextTest>>,
+    others: &mut Vec<Filter>,
+    filter: Filter,
+    holds: bool,
+) -> Result<(), AllocError>
+    ensures { OnOk result (PutsBehind (selects holds) members.old.items (map condition_in others.old.items) (condition_in filter) members.new.items (map condition_in others.new.items)) }
+{
+    match text_taken(alloc, filter, holds)? {
+        Ok(text) => members.push(Some(text))?,
+        Err(other) => {
+            members.push(None)?;
+            others.push(other)?;
+        }
+    }
+    Ok(())
+}
+
+// The bounds among some filters, or those of which the `not` is among them, and the other filters.
+fn bounds_apart(
+    alloc: Global,
+    filters: Vec<Filter>,
+    holds: bool,
+) -> Result<(Vec<Option<Bound>>, Vec<Filter>), AllocError>
+    ensures { IfOk result (λ p. members_of (ranges holds) p.0.items (map condition_in p.1.items) ≡ map condition_in filters.items) }
+{
+    let mut members = Vec::new(alloc);
+    let mut others = Vec::new(alloc);
+    for filter in filters {
+        put_bound(alloc, &mut members, &mut others, filter, holds)?;
     }
     Ok((members, others))
 }
 
 // Puts a filter behind some members, as a bound, or as one that stands apart.
 fn put_bound(
+    alloc: Global,
     members: &mut Vec<Option<Bound>>,
     others: &mut Vec<Filter>,
     filter: Filter,
+    holds: bool,
 ) -> Result<(), AllocError>
-    ensures { OnOk result (PutsBehind ranges members.old.items (map condition_in others.old.items) (condition_in filter) members.new.items (map condition_in others.new.items)) }
+    ensures { OnOk result (PutsBehind (ranges holds) members.old.items (map condition_in others.old.items) (condition_in filter) members.new.items (map condition_in others.new.items)) }
 {
-    match bound_in(filter) {
+    match bound_taken(alloc, filter, holds)? {
         Ok(bound) => members.push(Some(bound))?,
         Err(other) => {
             members.push(None)?;
@@ -100,51 +123,75 @@ fn put_bound(
     Ok(())
 }
 
-// The test of a dimension for some texts that a filter is, or of which it is the `not`; else the filter.
-fn taken(
+// The test for some texts that a filter is, or of which it is the `not`; else the filter.
+fn text_taken(
     alloc: Global,
     filter: Filter,
     holds: bool,
-) -> Result<Result<DimensionTest, Filter>, AllocError>
-    ensures { IfOk result (λ r. MatchResult r (λ t. (condition_in filter ≡ selects holds t) × (is_texts t.test ≡ true)) (λ f. condition_in f ≡ condition_in filter)) }
+) -> Result<Result<TextTest, Filter>, AllocError>
+    ensures { IfOk result (λ r. MatchResult r (λ t. condition_in filter ≡ selects holds t) (λ f. condition_in f ≡ condition_in filter)) }
 {
     if holds {
-        Ok(held_in(filter))
+        Ok(text_in(filter))
     } else {
-        denied_in(alloc, filter)
+        denied_text_in(alloc, filter)
     }
 }
 
-fn denied_in(alloc: Global, filter: Filter) -> Result<Result<DimensionTest, Filter>, AllocError>
-    ensures { IfOk result (λ r. MatchResult r (λ t. (condition_in filter ≡ opposite (dimension t)) × (is_texts t.test ≡ true)) (λ f. condition_in f ≡ condition_in filter)) }
+fn denied_text_in(alloc: Global, filter: Filter) -> Result<Result<TextTest, Filter>, AllocError>
+    ensures { IfOk result (λ r. MatchResult r (λ t. condition_in filter ≡ selects false t) (λ f. condition_in f ≡ condition_in filter)) }
 {
     match filter {
-        Filter::Not(denied) => match held_in(Box::into_inner(denied)) {
-            Ok(test) => Ok(Ok(test)),
+        Filter::Not(denied) => match text_in(Box::into_inner(denied)) {
+            Ok(text) => Ok(Ok(text)),
             Err(other) => Ok(Err(Filter::Not(Box::new(alloc, other)?))),
         },
         other => Ok(Err(other)),
     }
 }
 
-fn held_in(filter: Filter) -> Result<DimensionTest, Filter>
-    ensures { MatchResult result (λ t. (condition_in filter ≡ dimension t) × (is_texts t.test ≡ true)) (λ f. condition_in f ≡ condition_in filter) }
+fn text_in(filter: Filter) -> Result<TextTest, Filter>
+    ensures { MatchResult result (λ t. condition_in filter ≡ selects true t) (λ f. condition_in f ≡ condition_in filter) }
 {
     match filter {
-        Filter::Dimension(test) => {
-            if test.test.is_texts() {
-                Ok(test)
-            } else {
-                Err(Filter::Dimension(test))
-            }
-        }
+        Filter::Dimension(test) => match TextTest::of(test) {
+            Ok(text) => Ok(text),
+            Err(test) => Err(Filter::Dimension(test)),
+        },
         other => Err(other),
+    }
+}
+
+// The bound that a filter is, or of which it is the `not`; else the filter.
+fn bound_taken(
+    alloc: Global,
+    filter: Filter,
+    holds: bool,
+) -> Result<Result<Bound, Filter>, AllocError>
+    ensures { IfOk result (λ r. MatchResult r (λ b. condition_in filter ≡ ranges holds b) (λ f. condition_in f ≡ condition_in filter)) }
+{
+    if holds {
+        Ok(bound_in(filter))
+    } else {
+        denied_bound_in(alloc, filter)
+    }
+}
+
+fn denied_bound_in(alloc: Global, filter: Filter) -> Result<Result<Bound, Filter>, AllocError>
+    ensures { IfOk result (λ r. MatchResult r (λ b. condition_in filter ≡ ranges false b) (λ f. condition_in f ≡ condition_in filter)) }
+{
+    match filter {
+        Filter::Not(denied) => match bound_in(Box::into_inner(denied)) {
+            Ok(bound) => Ok(Ok(bound)),
+            Err(other) => Ok(Err(Filter::Not(Box::new(alloc, other)?))),
+        },
+        other => Ok(Err(other)),
     }
 }
 
 // The bound that a filter is; else the filter.
 fn bound_in(filter: Filter) -> Result<Bound, Filter>
-    ensures { MatchResult result (λ b. condition_in filter ≡ ranges b) (λ f. condition_in f ≡ condition_in filter) }
+    ensures { MatchResult result (λ b. condition_in filter ≡ ranges true b) (λ f. condition_in f ≡ condition_in filter) }
 {
     match filter {
         Filter::Dimension(test) => {

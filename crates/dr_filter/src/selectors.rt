@@ -1,11 +1,10 @@
-ghost use Rattle.std.specs.Prelude.{◌≡◌, ◌||◌, ◌++◌, ◌∷◌, [], ℕ, List, Some, None, true, false, IfOk, OnOk};
-ghost use Rattle.dr_filter.specs.LookUps.{is_texts, tests_in, some_holds, AreLookedUp};
+ghost use Rattle.std.specs.Prelude.{◌≡◌, ◌||◌, ℕ, List, true, false, IfOk, OnOk};
+ghost use Rattle.dr_filter.specs.LookUps.{tests_in, some_holds, AreLookedUp};
 ghost use Rattle.dr_filter.specs.Match.{holds_of};
 
 use crate::dimension_test::{DimensionTest, place_among};
-use crate::value_test::{ValueTest, add_texts};
+use crate::text_test::TextTest;
 use dr_base::Text;
-use dr_dict::TextSet;
 use std::alloc::{AllocError, Global};
 use std::marker::Model;
 
@@ -14,7 +13,7 @@ use std::marker::Model;
 /// it is another filter.
 #[derive(Drop)]
 pub struct Selectors {
-    members: Vec<Option<DimensionTest>>,
+    members: Vec<Option<TextTest>>,
     look_ups: Vec<DimensionTest>,
 }
 
@@ -31,42 +30,12 @@ impl Model for Selectors {
 }
 
 impl Selectors {
-    // No members.
-    pub(crate) fn new(alloc: Global) -> Selectors
-        ensures { result ≡ [] }
+    // The tests among some members.
+    pub(crate) fn of(alloc: Global, members: Vec<Option<TextTest>>) -> Result<Selectors, AllocError>
+        ensures { IfOk result (λ s. s ≡ members.items) }
     {
-        Selectors {
-            members: Vec::new(alloc),
-            look_ups: Vec::new(alloc),
-        }
-    }
-
-    // These members, and behind them one that lets some texts pass.
-    pub(crate) fn and_texts(
-        self,
-        alloc: Global,
-        test: DimensionTest,
-    ) -> Result<Selectors, AllocError>
-        requires { is_texts test.test ≡ true }
-        ensures { IfOk result (λ more. more ≡ self ++ Some test ∷ []) }
-    {
-        let mut members = self.members;
-        let mut look_ups = self.look_ups;
-        look_up(alloc, &mut look_ups, &test)?;
-        members.push(Some(test))?;
+        let look_ups = look_ups_of(alloc, members.as_slice())?;
         Ok(Selectors { members, look_ups })
-    }
-
-    // These members, and behind them one that is another filter.
-    pub(crate) fn and_other(self) -> Result<Selectors, AllocError>
-        ensures { IfOk result (λ more. more ≡ self ++ None ∷ []) }
-    {
-        let mut members = self.members;
-        members.push(None)?;
-        Ok(Selectors {
-            members,
-            look_ups: self.look_ups,
-        })
     }
 
     /// The tests that tell the same as all these together, one for each dimension that they name: whether the value
@@ -92,19 +61,35 @@ fn some_hold_of(tests: &[DimensionTest], dims: &[Text]) -> bool
     tests.iter().any(|test| test.holds_of(dims))
 }
 
-// Adds a test to the others: its texts to those of a test of its dimension, where there is one.
-fn look_up(
+// Tests that tell what those among some members tell.
+fn look_ups_of(
+    alloc: Global,
+    members: &[Option<TextTest>],
+) -> Result<Vec<DimensionTest>, AllocError>
+    ensures { IfOk result (λ tests. AreLookedUp tests.items members.now) }
+{
+    let mut look_ups = Vec::new(alloc);
+    for member in members {
+        match member {
+            Some(test) => widen(alloc, &mut look_ups, test)?,
+            None => (),
+        }
+    }
+    Ok(look_ups)
+}
+
+// Adds a test to the others: its texts to those of the test of its dimension, where there is one.
+fn widen(
     alloc: Global,
     look_ups: &mut Vec<DimensionTest>,
-    test: &DimensionTest,
+    test: &TextTest,
 ) -> Result<(), AllocError>
-    requires { is_texts test.now.test ≡ true }
     ensures { OnOk result ((dims : List (List ℕ)) → some_holds dims look_ups.new.items ≡ (some_holds dims look_ups.old.items || holds_of test.now dims)) }
 {
-    if add_at(look_ups, test)? {
+    if add_at(look_ups, test.test())? {
         return Ok(());
     }
-    look_ups.push(look_up_of(alloc, test)?)?;
+    look_ups.push(test.look_up(alloc)?)?;
     Ok(())
 }
 
@@ -118,17 +103,4 @@ fn add_at(look_ups: &mut Vec<DimensionTest>, test: &DimensionTest) -> Result<boo
     };
     let look_up = &mut look_ups[i];
     look_up.test.add(&test.test)
-}
-
-// The test that lets the same texts pass, in memory of its own.
-fn look_up_of(alloc: Global, test: &DimensionTest) -> Result<DimensionTest, AllocError>
-    requires { is_texts test.now.test ≡ true }
-    ensures { IfOk result (λ t. (dims : List (List ℕ)) → holds_of t dims ≡ holds_of test.now dims) }
-{
-    let mut texts = TextSet::new(alloc);
-    add_texts(&mut texts, &test.test)?;
-    Ok(DimensionTest {
-        place: test.place,
-        test: ValueTest::Among(texts),
-    })
 }

@@ -63,6 +63,17 @@ impl ValueTest {
         }
     }
 
+    // Lets only those texts of an `in` pass that another `in` lets pass too, and tells whether both are that.
+    pub(crate) fn keep(&mut self, other: &ValueTest) -> Result<bool, AllocError>
+        ensures kept { IfOk result (λ kept. kept ≡ true → (value : List ℕ) → passes_of self.new value ≡ (passes_of self.old value && passes_of other.now value)) }
+        ensures same { IfOk result (λ kept. kept ≡ false → self.new ≡ self.old) }
+    {
+        match self {
+            ValueTest::Among(texts) => keep_texts(texts, other),
+            _ => Ok(false),
+        }
+    }
+
     // Narrows the range of a `bound` to what lies in another one too, and tells whether it is one.
     pub(crate) fn narrow(&mut self, bounds: &Bounds) -> Result<bool, AllocError>
         ensures narrowed { IfOk result (λ narrowed. narrowed ≡ true → (value : List ℕ) → passes_of self.new value ≡ (passes_of self.old value && lies_within bounds.now value)) }
@@ -91,6 +102,20 @@ pub fn add_texts(texts: &mut TextSet, test: &ValueTest) -> Result<bool, AllocErr
         }
         ValueTest::Among(others) => {
             texts.add_all(others)?;
+            Ok(true)
+        }
+        _ => Ok(false),
+    }
+}
+
+// Keeps the texts that an `in` asks for too, and tells whether the test is one.
+fn keep_texts(texts: &mut TextSet, test: &ValueTest) -> Result<bool, AllocError>
+    ensures kept { IfOk result (λ kept. kept ≡ true → (value : List ℕ) → list_any (bytes_eq value) texts.new ≡ (list_any (bytes_eq value) texts.old && passes_of test.now value)) }
+    ensures same { IfOk result (λ kept. kept ≡ false → texts.new ≡ texts.old) }
+{
+    match test {
+        ValueTest::Among(others) => {
+            texts.keep_all(others)?;
             Ok(true)
         }
         _ => Ok(false),

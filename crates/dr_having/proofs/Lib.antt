@@ -1,6 +1,6 @@
 pub mod Levels
 pub mod Narrowing
-pub mod Together
+pub mod AskedTogether
 pub mod Members
 pub mod Placing
 pub mod LookedUp

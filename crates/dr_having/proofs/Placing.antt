@@ -1,12 +1,13 @@
 -- Conditions that are asked of outputs at other places with the same values.
-use Rattle.std.proofs.Common.{◌≡◌, ◌∙◌, sym, refl, ap, ap₂, ℕ, ℤ, pos, zero, suc, not, ◌||◌, ◌&&◌, List, [], ◌∷◌, map, slice_get, unwrap_or, option_map, Option, Some, None, length, length-append, ◌++◌, ◌+◌, ◌⊎◌, inl, inr, arith, Result, Ok, Err, IfOk}
+use Rattle.std.proofs.Common.{◌≡◌, ◌∙◌, sym, refl, ap, ap₂, ℕ, ℤ, pos, zero, suc, Bool, true, false, not, ◌||◌, ◌&&◌, List, [], ◌∷◌, map, slice_get, unwrap_or, option_map, Option, Some, None, length, length-append, ◌++◌, ◌+◌, ◌⊎◌, inl, inr, arith, Result, Ok, Err, IfOk}
 use Rattle.dr_having.specs.declared.dimension_value.DimensionValue.{DimensionValue}
 use Rattle.dr_having.specs.declared.group_value.GroupValue.{GroupValue}
 use Rattle.dr_having.specs.declared.having.Having.{Having}
-use Rattle.dr_having.specs.Condition.{condition_in, Condition, Conditions, aggregation, dimension, every, some, opposite, no_conditions, condition, conditions_of, members_of, members_of_every, members_of_some, excluded, meets, meets_every, meets_some}
+use Rattle.dr_having.specs.declared.together.Together.{Together}
+use Rattle.dr_having.specs.Condition.{condition_in, Condition, Conditions, aggregation, dimension, every, some, opposite, no_conditions, condition, conditions_of, members_of, members_in, compared, selected, meets, meets_every, meets_some}
 use Rattle.dr_having.specs.Meeting.{compares, number_at}
 use Rattle.dr_having.specs.Numbered.{numbers_by}
-use Rattle.dr_having.specs.Placed.{place_in, value_placed, members_placed, placed, all_placed, HaveNumbers}
+use Rattle.dr_having.specs.Placed.{place_in, value_placed, members_placed, together_placed, placed, all_placed, HaveNumbers}
 
 -- ---- members
 
@@ -15,35 +16,50 @@ module _ (places : List ℕ) where
   all-conditions [] = refl
   all-conditions (c ∷ cs) = ap (condition (placed places c)) (all-conditions cs)
 
-  comparisons-placed : (ms : List (Option GroupValue)) (cs : List Condition) → map (placed places) (members_of aggregation ms cs) ≡ members_of aggregation (members_placed places ms) (map (placed places) cs)
-  comparisons-placed [] cs = refl
-  comparisons-placed (Some m ∷ ms) cs = ap (λ l. aggregation (value_placed places m) ∷ l) (comparisons-placed ms cs)
-  comparisons-placed (None ∷ ms) [] = comparisons-placed ms []
-  comparisons-placed (None ∷ ms) (c ∷ cs) = ap (λ l. placed places c ∷ l) (comparisons-placed ms cs)
+  -- members of a form that is asked at other places
+  module _ {A : Type 0} (form : A → Condition) (to : A → A) (same : (a : A) → placed places (form a) ≡ form (to a)) where
+    members-placed : (ms : List (Option A)) (cs : List Condition) → map (placed places) (members_of form ms cs) ≡ members_of form (map (option_map to) ms) (map (placed places) cs)
+    members-placed [] cs = refl
+    members-placed (Some m ∷ ms) cs = ap₂ (λ c l. c ∷ l) (same m) (members-placed ms cs)
+    members-placed (None ∷ ms) [] = members-placed ms []
+    members-placed (None ∷ ms) (c ∷ cs) = ap (λ l. placed places c ∷ l) (members-placed ms cs)
+
+  compared-placed : (holds : Bool) (c : GroupValue) → placed places (compared holds c) ≡ compared holds (value_placed places c)
+  compared-placed true c = refl
+  compared-placed false c = refl
+
+  selected-placed : (holds : Bool) (c : DimensionValue) → placed places (selected holds c) ≡ selected holds c
+  selected-placed true c = refl
+  selected-placed false c = refl
 
   -- conditions on dimensions stay as they are
-  module _ (form : DimensionValue → Condition) (same : (d : DimensionValue) → placed places (form d) ≡ form d) where
-    texts-placed : (ms : List (Option DimensionValue)) (cs : List Condition) → map (placed places) (members_of form ms cs) ≡ members_of form ms (map (placed places) cs)
-    texts-placed [] cs = refl
-    texts-placed (Some m ∷ ms) cs = ap₂ (λ c l. c ∷ l) (same m) (texts-placed ms cs)
-    texts-placed (None ∷ ms) [] = texts-placed ms []
-    texts-placed (None ∷ ms) (c ∷ cs) = ap (λ l. placed places c ∷ l) (texts-placed ms cs)
+  same_members : (ms : List (Option DimensionValue)) → map (option_map (λ d. d)) ms ≡ ms
+  same_members [] = refl
+  same_members (Some m ∷ ms) = ap (λ l. Some m ∷ l) (same_members ms)
+  same_members (None ∷ ms) = ap (λ l. None ∷ l) (same_members ms)
 
-  pub every-placed : (comparisons : List (Option GroupValue)) (exclusions : List (Option DimensionValue)) (cs others : List Condition) → others ≡ map (placed places) cs
-      → every (conditions_of (members_of_every (members_placed places comparisons) exclusions others)) ≡ placed places (every (conditions_of (members_of_every comparisons exclusions cs)))
-  every-placed comparisons exclusions cs others is =
-      ap (λ l. every (conditions_of (members_of_every (members_placed places comparisons) exclusions l))) is
-      ∙ ap (λ l. every (conditions_of (members_of aggregation (members_placed places comparisons) l))) (sym (texts-placed excluded (λ d. refl) exclusions cs))
-      ∙ ap (λ l. every (conditions_of l)) (sym (comparisons-placed comparisons (members_of excluded exclusions cs)))
-      ∙ ap every (sym (all-conditions (members_of_every comparisons exclusions cs)))
+  pub in-placed : (holds : Bool) (t : Together) (cs : List Condition) → map (placed places) (members_in holds t cs) ≡ members_in holds (together_placed places t) (map (placed places) cs)
+  in-placed holds t cs =
+      let texts = members_of (selected (not holds)) t.every_text cs in
+      let every = members_of (compared (not holds)) t.every_comparison texts in
+      members-placed (compared holds) (value_placed places) (compared-placed holds) t.some_comparisons (members_of (selected holds) t.some_texts every)
+      ∙ ap (members_of (compared holds) (members_placed places t.some_comparisons))
+      (members-placed (selected holds) (λ d. d) (selected-placed holds) t.some_texts every
+      ∙ (λ k. members_of (selected holds) (same_members t.some_texts k)
+      ((members-placed (compared (not holds)) (value_placed places) (compared-placed (not holds)) t.every_comparison texts
+      ∙ ap (members_of (compared (not holds)) (members_placed places t.every_comparison))
+      (members-placed (selected (not holds)) (λ d. d) (selected-placed (not holds)) t.every_text cs
+      ∙ (λ j. members_of (selected (not holds)) (same_members t.every_text j) (map (placed places) cs)))) k)))
 
-  pub some-placed : (comparisons : List (Option GroupValue)) (selectors : List (Option DimensionValue)) (cs others : List Condition) → others ≡ map (placed places) cs
-      → some (conditions_of (members_of_some (members_placed places comparisons) selectors others)) ≡ placed places (some (conditions_of (members_of_some comparisons selectors cs)))
-  some-placed comparisons selectors cs others is =
-      ap (λ l. some (conditions_of (members_of_some (members_placed places comparisons) selectors l))) is
-      ∙ ap (λ l. some (conditions_of (members_of aggregation (members_placed places comparisons) l))) (sym (texts-placed dimension (λ d. refl) selectors cs))
-      ∙ ap (λ l. some (conditions_of l)) (sym (comparisons-placed comparisons (members_of dimension selectors cs)))
-      ∙ ap some (sym (all-conditions (members_of_some comparisons selectors cs)))
+  pub every-placed : (t made : Together) (cs others : List Condition) → made ≡ together_placed places t → others ≡ map (placed places) cs
+      → every (conditions_of (members_in false made others)) ≡ placed places (every (conditions_of (members_in false t cs)))
+  every-placed t made cs others moved is =
+      (λ k. every (conditions_of (members_in false (moved k) (is k)))) ∙ ap (λ l. every (conditions_of l)) (sym (in-placed false t cs)) ∙ ap every (sym (all-conditions (members_in false t cs)))
+
+  pub some-placed : (t made : Together) (cs others : List Condition) → made ≡ together_placed places t → others ≡ map (placed places) cs
+      → some (conditions_of (members_in true made others)) ≡ placed places (some (conditions_of (members_in true t cs)))
+  some-placed t made cs others moved is =
+      (λ k. some (conditions_of (members_in true (moved k) (is k)))) ∙ ap (λ l. some (conditions_of l)) (sym (in-placed true t cs)) ∙ ap some (sym (all-conditions (members_in true t cs)))
 
 -- ---- values
 

@@ -4,6 +4,7 @@ use Rattle.dr_having.specs.declared.group_value.GroupValue.{GroupValue}
 use Rattle.dr_having.specs.declared.dimension_value.DimensionValue.{DimensionValue}
 use Rattle.dr_having.specs.declared.having.Having.{Having, fold-Having}
 use Rattle.dr_having.specs.declared.having.Having.TheOpen.{Having-F}
+use Rattle.dr_having.specs.declared.together.Together.{Together}
 use Rattle.dr_having.specs.Meeting.{meets_value, meets_dimension}
 
 mutual
@@ -47,24 +48,27 @@ members_of form (Some a ∷ ms) cs = form a ∷ members_of form ms cs
 members_of form (None ∷ ms) [] = members_of form ms []
 members_of form (None ∷ ms) (c ∷ cs) = c ∷ members_of form ms cs
 
--- a text that the value of a dimension is not
-abbrev pub excluded : DimensionValue → Condition
-excluded c = opposite (dimension c)
+-- what a condition on one value stands for where it is asked together with others: that it holds, or that it doesn't
+abbrev pub compared : Bool → GroupValue → Condition
+compared true c = aggregation c
+compared false c = opposite (aggregation c)
 
--- the members of an `and`, with the comparisons and the excluded texts among them, and those of an `or`, with the comparisons and
--- the conditions on dimensions
-abbrev pub members_of_every : List (Option GroupValue) → List (Option DimensionValue) → List Condition → List Condition
-members_of_every comparisons exclusions others = members_of aggregation comparisons (members_of excluded exclusions others)
+abbrev pub selected : Bool → DimensionValue → Condition
+selected true c = dimension c
+selected false c = opposite (dimension c)
 
-abbrev pub members_of_some : List (Option GroupValue) → List (Option DimensionValue) → List Condition → List Condition
-members_of_some comparisons selectors others = members_of aggregation comparisons (members_of dimension selectors others)
+-- all members of an `or`, where one of some comparisons and texts is to hold or not all of others, or of an `and`, where none of the ones is to hold and all of the others
+abbrev pub members_in : Bool → Together → List Condition → List Condition
+members_in holds t cs =
+    members_of (compared holds) t.some_comparisons (members_of (selected holds) t.some_texts
+    (members_of (compared (not holds)) t.every_comparison (members_of (selected (not holds)) t.every_text cs)))
 
 -- one level, with the conditions inside already seen
 abbrev pub condition_step : Having-F Condition → Condition
 condition_step (Having-F.Aggregation c) = aggregation c
 condition_step (Having-F.Dimension c) = dimension c
-condition_step (Having-F.And comparisons exclusions others) = every (conditions_of (members_of_every comparisons exclusions others.items))
-condition_step (Having-F.Or comparisons selectors others) = some (conditions_of (members_of_some comparisons selectors others.items))
+condition_step (Having-F.And together others) = every (conditions_of (members_in false together others.items))
+condition_step (Having-F.Or together others) = some (conditions_of (members_in true together others.items))
 condition_step (Having-F.Not inner) = opposite (box_value inner)
 
 -- the condition that a `having` stands for

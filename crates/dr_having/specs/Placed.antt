@@ -1,6 +1,7 @@
 -- A condition on the outputs of a query that is asked of outputs at other places. No public contract cites this file.
 use Rattle.std.specs.Prelude.{◌≡◌, ℕ, List, Option, map, option_map, slice_get, unwrap_or}
 use Rattle.dr_having.specs.declared.group_value.GroupValue.{GroupValue}
+use Rattle.dr_having.specs.declared.together.Together.{Together}
 use Rattle.dr_having.specs.Condition.{Condition, Conditions, aggregation, dimension, every, some, opposite, no_conditions, condition}
 
 -- the place that an output is asked at: the same where there is none
@@ -12,6 +13,14 @@ value_placed places c = record { place = place_in places c.place; comparison = c
 
 abbrev pub members_placed : List ℕ → List (Option GroupValue) → List (Option GroupValue)
 members_placed places ms = map (option_map (value_placed places)) ms
+
+abbrev pub together_placed : List ℕ → Together → Together
+together_placed places t = record {
+  some_comparisons = members_placed places t.some_comparisons;
+  some_texts = t.some_texts;
+  every_comparison = members_placed places t.every_comparison;
+  every_text = t.every_text;
+}
 
 abbrev mutual
   pub placed : List ℕ → Condition → Condition

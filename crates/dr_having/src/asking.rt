@@ -26,14 +26,12 @@ impl Having {
         match self {
             Having::Aggregation(condition) => Ok(Having::Aggregation(condition.placed(places))),
             Having::Dimension(condition) => Ok(Having::Dimension(condition.copy()?)),
-            Having::And(comparisons, exclusions, others) => Ok(Having::And(
-                comparisons.placed(alloc, places)?,
-                exclusions.copy(alloc)?,
+            Having::And(together, others) => Ok(Having::And(
+                together.placed(alloc, places)?,
                 all_placed(alloc, others.as_slice(), places)?,
             )),
-            Having::Or(comparisons, selectors, others) => Ok(Having::Or(
-                comparisons.placed(alloc, places)?,
-                selectors.copy(alloc)?,
+            Having::Or(together, others) => Ok(Having::Or(
+                together.placed(alloc, places)?,
                 all_placed(alloc, others.as_slice(), places)?,
             )),
             Having::Not(condition) => {

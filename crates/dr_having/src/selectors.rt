@@ -58,7 +58,8 @@ impl Selectors {
     }
 }
 
-fn copied(
+// Some members, in memory of their own.
+pub(crate) fn copied(
     alloc: Global,
     members: &[Option<DimensionValue>],
 ) -> Result<Vec<Option<DimensionValue>>, AllocError>
@@ -126,7 +127,7 @@ fn look_up(
 }
 
 // The likely place of the look-up of a dimension, where its look-up stands there.
-fn place_among(look_ups: &[TextLookUp], likely: usize, place: usize) -> Option<usize>
+pub(crate) fn place_among(look_ups: &[TextLookUp], likely: usize, place: usize) -> Option<usize>
     ensures { IfSome result (λ i. IsLookUpOf look_ups.now i place) }
 {
     if look_ups.get(likely)?.place == place {

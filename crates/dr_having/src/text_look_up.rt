@@ -1,4 +1,4 @@
-ghost use Rattle.std.specs.Prelude.{◌≡◌, ◌||◌, ℕ, List, IfOk, OnOk, bytes_eq};
+ghost use Rattle.std.specs.Prelude.{◌≡◌, ◌||◌, ◌&&◌, ℕ, List, IfOk, OnOk, bytes_eq};
 ghost use Rattle.std.specs.List.{list_any};
 ghost use Rattle.dr_having.specs.LookUps.{is_found};
 ghost use Rattle.dr_having.specs.Meeting.{meets_dimension};
@@ -20,8 +20,7 @@ impl TextLookUp {
     pub(crate) fn of(alloc: Global, condition: &DimensionValue) -> Result<TextLookUp, AllocError>
         ensures { IfOk result (λ l. (dims : List (List ℕ)) → is_found dims l ≡ meets_dimension condition.now dims) }
     {
-        let mut texts = TextSet::new(alloc);
-        texts.add(&condition.value)?;
+        let texts = TextLookUp::of_text(alloc, condition)?;
         Ok(TextLookUp {
             place: condition.place,
             texts,
@@ -35,6 +34,29 @@ impl TextLookUp {
     {
         self.texts.add(&condition.value)?;
         Ok(())
+    }
+
+    // Keeps of the texts the one of one more condition, where it is among them.
+    pub(crate) fn keep(
+        &mut self,
+        alloc: Global,
+        condition: &DimensionValue,
+    ) -> Result<(), AllocError>
+        ensures place { OnOk result (self.new.place ≡ self.old.place) }
+        ensures fewer { OnOk result ((value : List ℕ) → list_any (bytes_eq value) self.new.texts ≡ (list_any (bytes_eq value) self.old.texts && bytes_eq value condition.now.value)) }
+    {
+        let alone = TextLookUp::of_text(alloc, condition)?;
+        self.texts.keep_all(&alone)?;
+        Ok(())
+    }
+
+    // The text of a condition alone.
+    fn of_text(alloc: Global, condition: &DimensionValue) -> Result<TextSet, AllocError>
+        ensures { IfOk result (λ texts. (value : List ℕ) → list_any (bytes_eq value) texts ≡ bytes_eq value condition.now.value) }
+    {
+        let mut texts = TextSet::new(alloc);
+        texts.add(&condition.value)?;
+        Ok(texts)
     }
 
     /// Whether the value of the dimension is one of the texts. It takes no memory, and expected time by the bytes of the value,

@@ -1,5 +1,5 @@
 use Rattle.std.proofs.Common.{◌≡◌, ◌∙◌, sym, ap, map}
-use Rattle.dr_having.specs.Condition.{Condition, condition_in, condition_step, conditions_of, members_of_every, members_of_some, every, some}
+use Rattle.dr_having.specs.Condition.{Condition, condition_in, condition_step}
 use Rattle.dr_having.specs.Placed.{placed}
 use Rattle.dr_having.specs.declared.having.Having.TheOpen.Having-F.{And, Or}
 use Rattle.dr_having.specs.declared.having.Having.TheFolds.{fold-roll-Having}
@@ -14,10 +14,9 @@ having::Having::placed-returns-in_ok-all_placed-in-And t c =
     let made = c.in_ok-all_placed-in-And.field-0 in
     let cs = map condition_in at.others.items in
     let others : map condition_in made.items ≡ map (placed places) cs = rw c.as_slice.ensures.value at c.in_ok-all_placed-in-And.ensures in
-    fold-roll-Having Condition condition_step (And c.in_ok-placed-in-And.field-0 c.in_ok-copy-in-And.field-0 made)
-    ∙ (λ i. every (conditions_of (members_of_every (c.in_ok-placed-in-And.ensures i) (c.in_ok-copy-in-And.ensures i) (map condition_in made.items))))
-    ∙ every-placed places at.comparisons at.exclusions cs (map condition_in made.items) others
-    ∙ ap (placed places) (sym (ap condition_in at.is ∙ fold-roll-Having Condition condition_step (And at.comparisons at.exclusions at.others)))
+    fold-roll-Having Condition condition_step (And c.in_ok-placed-in-And.field-0 made)
+    ∙ every-placed places at.together c.in_ok-placed-in-And.field-0 cs (map condition_in made.items) c.in_ok-placed-in-And.ensures others
+    ∙ ap (placed places) (sym (ap condition_in at.is ∙ fold-roll-Having Condition condition_step (And at.together at.others)))
 
 pub having::Having::placed-returns-in_ok-all_placed-in-Or : goal.having::Having::placed-returns-in_ok-all_placed-in-Or
 unfolding Rattle.dr_having.specs.declared.having.Having.TheViews.roll-Having denote.Hole.Carrier.roll
@@ -27,7 +26,6 @@ having::Having::placed-returns-in_ok-all_placed-in-Or t c =
     let made = c.in_ok-all_placed-in-Or.field-0 in
     let cs = map condition_in at.others.items in
     let others : map condition_in made.items ≡ map (placed places) cs = rw c.as_slice-in-Or.ensures.value at c.in_ok-all_placed-in-Or.ensures in
-    fold-roll-Having Condition condition_step (Or c.in_ok-placed-in-Or.field-0 c.in_ok-copy-in-Or.field-0 made)
-    ∙ (λ i. some (conditions_of (members_of_some (c.in_ok-placed-in-Or.ensures i) (c.in_ok-copy-in-Or.ensures i) (map condition_in made.items))))
-    ∙ some-placed places at.comparisons at.selectors cs (map condition_in made.items) others
-    ∙ ap (placed places) (sym (ap condition_in at.is ∙ fold-roll-Having Condition condition_step (Or at.comparisons at.selectors at.others)))
+    fold-roll-Having Condition condition_step (Or c.in_ok-placed-in-Or.field-0 made)
+    ∙ some-placed places at.together c.in_ok-placed-in-Or.field-0 cs (map condition_in made.items) c.in_ok-placed-in-Or.ensures others
+    ∙ ap (placed places) (sym (ap condition_in at.is ∙ fold-roll-Having Condition condition_step (Or at.together at.others)))

@@ -13,7 +13,7 @@ loop-filter-preserved c =
     let steps : into_iter_items at.filter-iterator ≡ f ∷ into_iter_items c.next.new.self = c.in-Some.ensures.steps.0 in (
       append_assoc at.yielded (f ∷ []) _ ∙ rw (← steps) was.0,
       (let len = was.1 in let gone = c.in-Some.ensures.steps.1 in let short = ap length steps in omega (arith, len, gone, short)),
-      shown-behind ranges at.yielded f at.members.items _ (map condition_in at.others.items) _ puts was.3 was.2,
+      shown-behind (ranges c.args.holds) at.yielded f at.members.items _ (map condition_in at.others.items) _ puts was.3 was.2,
       (puts was.3).1,
     )
 

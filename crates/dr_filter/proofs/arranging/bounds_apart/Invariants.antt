@@ -7,5 +7,5 @@ use Rattle.dr_filter.proofs.arranging.bounds_apart.Given as goal
 abbrev pub invariant-loop-filter : goal.invariant-loop-filter
 invariant-loop-filter l = (l.yielded ++ into_iter_items l.filter-iterator ≡ l.fn.filters.items)
     × (into_iter_len l.filter-iterator ≡ length (into_iter_items l.filter-iterator))
-    × (members_of ranges l.members.items (map condition_in l.others.items) ≡ map condition_in l.yielded)
+    × (members_of (ranges l.holds) l.members.items (map condition_in l.others.items) ≡ map condition_in l.yielded)
     × (others_in l.members.items ≡ length (map condition_in l.others.items))

@@ -6,11 +6,11 @@ use Rattle.dr_filter.proofs.arranging.put_bound.Goals as goal
 
 pub returns-in_ok-push-in-Ok : goal.returns-in_ok-push-in-Ok
 returns-in_ok-push-in-Ok c =
-    let told : condition_in c.args.filter ≡ ranges c.in-Ok.bound = rw c.in-Ok.is at c.bound_in.ensures in
-    puts-found ranges c.args.members.now.items (map condition_in c.args.others.now.items) (condition_in c.args.filter) c.in-Ok.bound _ told c.in_ok-push-in-Ok.ensures.items
+    let told : condition_in c.args.filter ≡ ranges c.args.holds c.in-Ok.bound = rw c.in-Ok.is at c.in_ok-bound.ensures in
+    puts-found (ranges c.args.holds) c.args.members.now.items (map condition_in c.args.others.now.items) (condition_in c.args.filter) c.in-Ok.bound _ told c.in_ok-push-in-Ok.ensures.items
 
 pub returns-in_ok-push-in-Err-2 : goal.returns-in_ok-push-in-Err-2
 returns-in_ok-push-in-Err-2 c =
-    let told : condition_in c.in-Err.other ≡ condition_in c.args.filter = rw c.in-Err.is at c.bound_in.ensures in
-    subst (λ x. PutsBehind ranges c.args.members.now.items (map condition_in c.args.others.now.items) x c.push-in-Err.new.self.items (map condition_in c.push-in-Err-2.new.self.items)) told
-    (puts-other ranges c.args.members.now.items c.args.others.now.items _ c.in-Err.other _ c.in_ok-push-in-Err.ensures.items c.in_ok-push-in-Err-2.ensures.items)
+    let told : condition_in c.in-Err.other ≡ condition_in c.args.filter = rw c.in-Err.is at c.in_ok-bound.ensures in
+    subst (λ x. PutsBehind (ranges c.args.holds) c.args.members.now.items (map condition_in c.args.others.now.items) x c.push-in-Err.new.self.items (map condition_in c.push-in-Err-2.new.self.items)) told
+    (puts-other (ranges c.args.holds) c.args.members.now.items c.args.others.now.items _ c.in-Err.other _ c.in_ok-push-in-Err.ensures.items c.in_ok-push-in-Err-2.ensures.items)

@@ -13,4 +13,4 @@ returns-clause-narrowed c =
     let at : IsTestOf tests c.in-Some.i b.place = rw (← c.as_slice.ensures.value) c.in-Some.ensures in
     IfOk-weaker c.narrow.result (λ narrowed. narrowed ≡ true → (value : List ℕ) → passes c.narrow.new.self value ≡ (passes t.test value && lies_within b.bounds value))
     (λ narrowed. narrowed ≡ true → (dims : List (List ℕ)) → every_holds dims (set tests c.in-Some.i (record { place = t.place; test = c.narrow.new.self })) ≡ (every_holds dims tests && holds_of (as_range b) dims))
-    (λ narrowed h yes. narrowed-there tests c.in-Some.i t c.narrow.new.self b at c.index_mut-look_up.ensures.value (h yes)) c.narrow.ensures.narrowed
+    (λ narrowed h yes. narrowed-there tests c.in-Some.i t c.narrow.new.self (as_range b) at c.index_mut-look_up.ensures.value (h yes)) c.narrow.ensures.narrowed

@@ -1,11 +1,11 @@
 use Rattle.std.proofs.Common.{◌≡◌, true, false, drop, map}
-use Rattle.dr_filter.specs.Condition.{condition_in, conditions_in, conditions_of, members_of, selects, ranges, every_matches, some_matches}
+use Rattle.dr_filter.specs.Condition.{condition_in, conditions_in, conditions_of, members_in, every_matches, some_matches}
 use Rattle.dr_filter.proofs.filter.+matching.Given as goal
 
 abbrev pub invariant-every_matches-loop-filter : goal.invariant-every_matches-loop-filter
 invariant-every_matches-loop-filter l =
-    every_matches l.time l.dims (conditions_in (drop l.filter-index l.filters)) ≡ every_matches l.time l.dims (conditions_of (members_of (selects false) l.denied (members_of ranges l.bounds (map condition_in l.filters))))
+    every_matches l.time l.dims (conditions_in (drop l.filter-index l.filters)) ≡ every_matches l.time l.dims (conditions_of (members_in false l.together (map condition_in l.filters)))
 
 abbrev pub invariant-some_matches-loop-filter : goal.invariant-some_matches-loop-filter
 invariant-some_matches-loop-filter l =
-    some_matches l.time l.dims (conditions_in (drop l.filter-index l.filters)) ≡ some_matches l.time l.dims (conditions_of (members_of (selects true) l.selectors (members_of ranges l.bounds (map condition_in l.filters))))
+    some_matches l.time l.dims (conditions_in (drop l.filter-index l.filters)) ≡ some_matches l.time l.dims (conditions_of (members_in true l.together (map condition_in l.filters)))

@@ -1,6 +1,6 @@
 use Rattle.std.proofs.Common.{◌∙◌, ap}
 use Rattle.dr_having.specs.Compared.{lie_in_all, IsEveryOf}
-use Rattle.dr_having.proofs.Together.{narrowed-there, narrowed-behind}
+use Rattle.dr_having.proofs.AskedTogether.{narrowed-there, narrowed-behind}
 use Rattle.dr_having.proofs.every_comparison.narrow.Goals as goal
 
 pub returns-in-Some : goal.returns-in-Some

@@ -1,5 +1,5 @@
 use Rattle.dr_having.specs.Compared.{IsSomeOf}
-use Rattle.dr_having.proofs.Together.{widened-there}
+use Rattle.dr_having.proofs.AskedTogether.{widened-there}
 use Rattle.dr_having.proofs.some_comparison.widen.Goals as goal
 
 pub returns-in-Some : goal.returns-in-Some

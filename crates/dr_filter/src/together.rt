@@ -1,0 +1,39 @@
+ghost use Rattle.std.specs.Prelude.{◌≡◌};
+ghost use Rattle.dr_filter.specs.Together.{one_holds as one_holds_of, all_hold as all_hold_of};
+
+use crate::every_bound::EveryBound;
+use crate::every_text::EveryText;
+use crate::selectors::Selectors;
+use crate::some_bound::SomeBound;
+use dr_base::Text;
+
+/// The members of an `and` or an `or` that are asked together, dimension by dimension.
+#[derive(Drop)]
+pub struct Together {
+    /// The `selector`s and `in`s of an `or`, or those of which an `and` has the `not`.
+    pub some_texts: Selectors,
+    /// The `bound`s of an `or`, or those of which an `and` has the `not`.
+    pub some_bounds: SomeBound,
+    /// The `selector`s and `in`s of an `and`, or those of which an `or` has the `not`.
+    pub every_text: EveryText,
+    /// The `bound`s of an `and`, or those of which an `or` has the `not`.
+    pub every_bound: EveryBound,
+}
+
+impl Together {
+    /// Whether one of the texts is the value of its dimension in a row with these dimension values, or one of the bounds holds of
+    /// which one is to hold. It takes no memory, and time as [`Selectors::hold_of`] and [`SomeBound::hold_of`].
+    pub fn one_holds(&self, dims: &[Text]) -> bool
+        ensures { result ≡ one_holds_of dims.now self.now }
+    {
+        self.some_texts.hold_of(dims) || self.some_bounds.hold_of(dims)
+    }
+
+    /// Whether all the texts are the values of their dimensions, and all the bounds hold, that are all to hold. It takes no memory,
+    /// and time as [`EveryText::hold_of`] and [`EveryBound::hold_of`].
+    pub fn all_hold(&self, dims: &[Text]) -> bool
+        ensures { result ≡ all_hold_of dims.now self.now }
+    {
+        self.every_text.hold_of(dims) && self.every_bound.hold_of(dims)
+    }
+}
