@@ -1,7 +1,7 @@
-ghost use Rattle.std.specs.Prelude.{◌≡◌, ◌<◌, ◌&&◌, ℕ, false, true, not, length, map, get_or, OnOk, IfOk};
+ghost use Rattle.std.specs.Prelude.{◌≡◌, ◌<◌, ◌&&◌, ℕ, false, true, not, length, map, get_or, option_map, OnOk, IfOk};
 ghost use Rattle.dr_time.specs.Union.{union_holds};
 ghost use Rattle.dr_filter.specs.Condition.{condition_in, conditions_in, conditions_of, members_in, every_matches, some_matches};
-ghost use Rattle.dr_filter.specs.LookUps.{every_holds, some_holds};
+ghost use Rattle.dr_filter.specs.LookUps.{every_holds, is_held, some_holds};
 ghost use Rattle.dr_filter.specs.Match.{holds_of, passes};
 ghost use Rattle.dr_filter.specs.Together.{all_hold, one_holds};
 ghost use Rattle.dr_image.specs.Checked.{column_at};
@@ -16,9 +16,9 @@ use std::alloc::{AllocError, Global};
 
 /// Makes false what is told of the rows of an image that a filter doesn't keep. A test of a dimension is asked once for each value
 /// of the dimension's dictionary, and the time of a row once for each run of equal times. The only error is that memory ran out.
-/// It takes time by the tests of the filter, each by the rows and as [`ValueTest::passes`] by the values; the selectors among the
-/// members of one `or`, those of which one `and` has the `not`, and the bounds among the members of one `and` or of one `or`, or of
-/// which it has the `not`, count as one test each for each dimension that they name.
+/// It takes time by the tests of the filter, each by the rows and as [`ValueTest::passes`] by the values; the selectors and `in`s
+/// among the members of one `and` or `or`, its bounds, and those of which it has the `not` count as one test each for each dimension
+/// that they name, and its intervals, and those of which it has the `not`, as one each.
 #[cycle(narrowing)]
 pub fn narrow(
     alloc: Global,
@@ -113,15 +113,15 @@ fn together_none(
     together: &Together,
 ) -> Result<Vec<bool>, AllocError>
     ensures count { IfOk result (λ none. length none.items ≡ length view.now.times) }
-    ensures each { IfOk result (λ none. (i : ℕ) → i < length view.now.times → get_or none.items i false ≡ (not (one_holds (key_at view.now i).dims together.now) && all_hold (key_at view.now i).dims together.now)) }
+    ensures each { IfOk result (λ none. (i : ℕ) → i < length view.now.times → get_or none.items i false ≡ (not (one_holds (key_at view.now i).time (key_at view.now i).dims together.now) && all_hold (key_at view.now i).time (key_at view.now i).dims together.now)) }
 {
     let mut none = all_true(alloc, view)?;
     narrow_together(alloc, view, together, none.as_mut_slice())?;
     Ok(none)
 }
 
-// Makes false what is told of the rows of which one holds of the texts and bounds of which one may hold, or not all that are all
-// to hold.
+// Makes false what is told of the rows of which one holds of the texts, bounds and intervals of which one may hold, or not all
+// that are all to hold.
 fn narrow_together(
     alloc: Global,
     view: &SegmentView<'_>,
@@ -129,14 +129,14 @@ fn narrow_together(
     told: &mut [bool],
 ) -> Result<(), AllocError>
     requires { length told.old ≡ length view.now.times }
-    ensures { OnOk result (Narrows (λ i. not (one_holds (key_at view.now i).dims together.now) && all_hold (key_at view.now i).dims together.now) told.old told.new) }
+    ensures { OnOk result (Narrows (λ i. not (one_holds (key_at view.now i).time (key_at view.now i).dims together.now) && all_hold (key_at view.now i).time (key_at view.now i).dims together.now) told.old told.new) }
 {
     drop_one(alloc, view, together, told)?;
     keep_all(alloc, view, together, told)?;
     Ok(())
 }
 
-// Makes false what is told of the rows of which one holds of the texts and bounds of which one may hold.
+// Makes false what is told of the rows of which one holds of the texts, bounds and intervals of which one may hold.
 fn drop_one(
     alloc: Global,
     view: &SegmentView<'_>,
@@ -144,24 +144,26 @@ fn drop_one(
     told: &mut [bool],
 ) -> Result<(), AllocError>
     requires { length told.old ≡ length view.now.times }
-    ensures { OnOk result (Narrows (λ i. not (one_holds (key_at view.now i).dims together.now)) told.old told.new) }
+    ensures { OnOk result (Narrows (λ i. not (one_holds (key_at view.now i).time (key_at view.now i).dims together.now)) told.old told.new) }
 {
     drop_passing(alloc, view, together.some_texts.look_ups(), told)?;
     drop_passing(alloc, view, together.some_bounds.look_ups(), told)?;
+    drop_held(alloc, view, together.some_time.times(), told)?;
     Ok(())
 }
 
-// Makes false what is told of the rows of which not all hold of the texts and bounds that are all to hold.
+// Makes false what is told of the rows of which not all hold of the texts, bounds and intervals that are all to hold.
 fn keep_all(
     alloc: Global,
     view: &SegmentView<'_>,
     together: &Together,
     told: &mut [bool],
 ) -> Result<(), AllocError>
-    ensures { OnOk result (Narrows (λ i. all_hold (key_at view.now i).dims together.now) told.old told.new) }
+    ensures { OnOk result (Narrows (λ i. all_hold (key_at view.now i).time (key_at view.now i).dims together.now) told.old told.new) }
 {
     keep_passing_all(alloc, view, together.every_text.look_ups(), told)?;
     keep_passing_all(alloc, view, together.every_bound.look_ups(), told)?;
+    keep_held_all(view, together.every_time.times(), told);
     Ok(())
 }
 
@@ -248,6 +250,35 @@ pub fn keep_held(view: &SegmentView<'_>, union: &Union, told: &mut [bool])
         held = is_held(union, time, held, next);
         time = next;
         told[i] = both(told[i], held);
+    }
+}
+
+// Makes false what is told of the rows whose time lies in one of some intervals.
+fn drop_held(
+    alloc: Global,
+    view: &SegmentView<'_>,
+    union: &Union,
+    told: &mut [bool],
+) -> Result<(), AllocError>
+    requires { length told.old ≡ length view.now.times }
+    ensures { OnOk result (Narrows (λ i. not (union_holds union.now (key_at view.now i).time)) told.old told.new) }
+{
+    if union.intervals().is_empty() {
+        return Ok(());
+    }
+    let mut held = all_true(alloc, view)?;
+    keep_held(view, union, held.as_mut_slice());
+    drop_where(told, held.as_slice());
+    Ok(())
+}
+
+// Makes false what is told of the rows whose time lies in none of some intervals, where there are any to ask.
+fn keep_held_all(view: &SegmentView<'_>, union: Option<&Union>, told: &mut [bool])
+    ensures { Narrows (λ i. is_held (key_at view.now i).time (option_map (λ u. u.now) union)) told.old told.new }
+{
+    match union {
+        Some(union) => keep_held(view, union, told),
+        None => (),
     }
 }
 

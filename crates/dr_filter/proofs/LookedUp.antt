@@ -3,13 +3,15 @@ use Rattle.std.proofs.Common.{◌≡◌, ◌∙◌, sym, refl, ap, ℕ, zero, su
 use Rattle.std.specs.List.{list_any, list_all}
 use Rattle.std.proofs.lemmas.List.{map-append}
 use Rattle.std.proofs.lemmas.List.Folds.{list_any-append, list_all-append}
+use Rattle.dr_time.specs.declared.interval.Interval.{Interval}
+use Rattle.dr_time.specs.Union.{union_holds}
 use Rattle.dr_filter.specs.declared.bound.Bound.{Bound}
 use Rattle.dr_filter.specs.declared.dimension_test.DimensionTest.{DimensionTest}
 use Rattle.dr_filter.specs.declared.filter.Filter.{Filter}
 use Rattle.dr_filter.specs.declared.together.Together.{Together}
 use Rattle.dr_filter.specs.declared.value_test.ValueTest.{ValueTest}
-use Rattle.dr_filter.specs.Condition.{Condition, condition_in, conditions_of, matches, every_matches, some_matches, members_of, members_in, selects, ranges}
-use Rattle.dr_filter.specs.LookUps.{as_range, tests_in, some_holds, every_holds, AreLookedUp, IsTestOf}
+use Rattle.dr_filter.specs.Condition.{Condition, condition_in, conditions_of, matches, every_matches, some_matches, members_of, members_in, selects, ranges, during}
+use Rattle.dr_filter.specs.LookUps.{as_range, tests_in, some_holds, some_held, every_holds, every_held, IsTestOf}
 use Rattle.dr_filter.specs.Members.{others_in, PutsBehind}
 use Rattle.dr_filter.specs.Together.{one_holds, all_hold}
 use Rattle.dr_filter.specs.Match.{lies_within, passes, value_at, holds_of}
@@ -82,91 +84,122 @@ module _ {A : Type 0} where
 
 -- ---- rows
 
+-- what one of some tests tells of each or of all, and a rest
+none_or : (x y z p q r rest : Bool) → (x || (y || (z || (not p || (not q || (not r || rest)))))) ≡ ((x || (y || z)) || (not (p && (q && r)) || rest))
+none_or true y z p q r rest = refl
+none_or false true z p q r rest = refl
+none_or false false true p q r rest = refl
+none_or false false false true true r rest = refl
+none_or false false false true false r rest = refl
+none_or false false false false q r rest = refl
+
+none_and : (x y z p q r rest : Bool) → (not x && (not y && (not z && (p && (q && (r && rest)))))) ≡ (not (x || (y || z)) && ((p && (q && r)) && rest))
+none_and true y z p q r rest = refl
+none_and false true z p q r rest = refl
+none_and false false true p q r rest = refl
+none_and false false false true true r rest = refl
+none_and false false false true false r rest = refl
+none_and false false false false q r rest = refl
+
 -- not both of two, or a third
 either_not : (a b c : Bool) → (not a || (not b || c)) ≡ (not (a && b) || c)
 either_not true b c = refl
 either_not false b c = refl
 
--- members that mean tests, and what matches of them and the others
-module _ (time : ℤ) (dims : List (List ℕ)) {A : Type 0} (test : A → DimensionTest) where
-  some_matches-tests : (ms : List (Option A)) (cs : List Condition) → some_matches time dims (conditions_of (members_of (λ m. selects true (test m)) ms cs)) ≡ (some_holds dims (tests_in test ms) || some_matches time dims (conditions_of cs))
+-- members that mean tests, what a test asks for or denies, and what it tells of a row
+module _ (time : ℤ) (dims : List (List ℕ)) {B : Type 0} (asks : Bool → B → Condition) (tells : B → Bool) (yes : (b : B) → matches time dims (asks true b) ≡ tells b) (no : (b : B) → matches time dims (asks false b) ≡ not (tells b)) {A : Type 0} (test : A → B) where
+  some_matches-tests : (ms : List (Option A)) (cs : List Condition) → some_matches time dims (conditions_of (members_of (λ m. asks true (test m)) ms cs)) ≡ (list_any tells (tests_in test ms) || some_matches time dims (conditions_of cs))
   some_matches-tests [] cs = refl
   some_matches-tests (Some m ∷ ms) cs =
-      ap (λ b. holds_of (test m) dims || b) (some_matches-tests ms cs) ∙ or_regroups (holds_of (test m) dims) (some_holds dims (tests_in test ms)) (some_matches time dims (conditions_of cs))
+      (λ k. yes (test m) k || some_matches-tests ms cs k) ∙ or_regroups (tells (test m)) (list_any tells (tests_in test ms)) (some_matches time dims (conditions_of cs))
   some_matches-tests (None ∷ ms) [] = some_matches-tests ms []
   some_matches-tests (None ∷ ms) (c ∷ cs) =
-      ap (λ b. matches time dims c || b) (some_matches-tests ms cs) ∙ or_moves (matches time dims c) (some_holds dims (tests_in test ms)) (some_matches time dims (conditions_of cs))
+      ap (λ b. matches time dims c || b) (some_matches-tests ms cs) ∙ or_moves (matches time dims c) (list_any tells (tests_in test ms)) (some_matches time dims (conditions_of cs))
 
-  some_matches-denied : (ms : List (Option A)) (cs : List Condition) → some_matches time dims (conditions_of (members_of (λ m. selects false (test m)) ms cs)) ≡ (not (every_holds dims (tests_in test ms)) || some_matches time dims (conditions_of cs))
+  some_matches-denied : (ms : List (Option A)) (cs : List Condition) → some_matches time dims (conditions_of (members_of (λ m. asks false (test m)) ms cs)) ≡ (not (list_all tells (tests_in test ms)) || some_matches time dims (conditions_of cs))
   some_matches-denied [] cs = refl
   some_matches-denied (Some m ∷ ms) cs =
-      ap (λ b. not (holds_of (test m) dims) || b) (some_matches-denied ms cs) ∙ either_not (holds_of (test m) dims) (every_holds dims (tests_in test ms)) (some_matches time dims (conditions_of cs))
+      (λ k. no (test m) k || some_matches-denied ms cs k) ∙ either_not (tells (test m)) (list_all tells (tests_in test ms)) (some_matches time dims (conditions_of cs))
   some_matches-denied (None ∷ ms) [] = some_matches-denied ms []
   some_matches-denied (None ∷ ms) (c ∷ cs) =
-      ap (λ b. matches time dims c || b) (some_matches-denied ms cs) ∙ or_moves (matches time dims c) (not (every_holds dims (tests_in test ms))) (some_matches time dims (conditions_of cs))
+      ap (λ b. matches time dims c || b) (some_matches-denied ms cs) ∙ or_moves (matches time dims c) (not (list_all tells (tests_in test ms))) (some_matches time dims (conditions_of cs))
 
-  every_matches-tests : (ms : List (Option A)) (cs : List Condition) → every_matches time dims (conditions_of (members_of (λ m. selects true (test m)) ms cs)) ≡ (every_holds dims (tests_in test ms) && every_matches time dims (conditions_of cs))
+  every_matches-tests : (ms : List (Option A)) (cs : List Condition) → every_matches time dims (conditions_of (members_of (λ m. asks true (test m)) ms cs)) ≡ (list_all tells (tests_in test ms) && every_matches time dims (conditions_of cs))
   every_matches-tests [] cs = refl
   every_matches-tests (Some m ∷ ms) cs =
-      ap (λ b. holds_of (test m) dims && b) (every_matches-tests ms cs) ∙ and_regroups (holds_of (test m) dims) (every_holds dims (tests_in test ms)) (every_matches time dims (conditions_of cs))
+      (λ k. yes (test m) k && every_matches-tests ms cs k) ∙ and_regroups (tells (test m)) (list_all tells (tests_in test ms)) (every_matches time dims (conditions_of cs))
   every_matches-tests (None ∷ ms) [] = every_matches-tests ms []
   every_matches-tests (None ∷ ms) (c ∷ cs) =
-      ap (λ b. matches time dims c && b) (every_matches-tests ms cs) ∙ and_moves (matches time dims c) (every_holds dims (tests_in test ms)) (every_matches time dims (conditions_of cs))
+      ap (λ b. matches time dims c && b) (every_matches-tests ms cs) ∙ and_moves (matches time dims c) (list_all tells (tests_in test ms)) (every_matches time dims (conditions_of cs))
 
-  every_matches-denied : (ms : List (Option A)) (cs : List Condition) → every_matches time dims (conditions_of (members_of (λ m. selects false (test m)) ms cs)) ≡ (not (some_holds dims (tests_in test ms)) && every_matches time dims (conditions_of cs))
+  every_matches-denied : (ms : List (Option A)) (cs : List Condition) → every_matches time dims (conditions_of (members_of (λ m. asks false (test m)) ms cs)) ≡ (not (list_any tells (tests_in test ms)) && every_matches time dims (conditions_of cs))
   every_matches-denied [] cs = refl
   every_matches-denied (Some m ∷ ms) cs =
-      ap (λ b. not (holds_of (test m) dims) && b) (every_matches-denied ms cs) ∙ neither_and (holds_of (test m) dims) (some_holds dims (tests_in test ms)) (every_matches time dims (conditions_of cs))
+      (λ k. no (test m) k && every_matches-denied ms cs k) ∙ neither_and (tells (test m)) (list_any tells (tests_in test ms)) (every_matches time dims (conditions_of cs))
   every_matches-denied (None ∷ ms) [] = every_matches-denied ms []
   every_matches-denied (None ∷ ms) (c ∷ cs) =
-      ap (λ b. matches time dims c && b) (every_matches-denied ms cs) ∙ and_moves (matches time dims c) (not (some_holds dims (tests_in test ms))) (every_matches time dims (conditions_of cs))
+      ap (λ b. matches time dims c && b) (every_matches-denied ms cs) ∙ and_moves (matches time dims c) (not (list_any tells (tests_in test ms))) (every_matches time dims (conditions_of cs))
 
 module _ (time : ℤ) (dims : List (List ℕ)) (t : Together) (cs : List Condition) where
   -- some member of an `or` matches where one of those asked together holds, or not all that are denied together, or one of the others matches
-  pub some_matches-members : some_matches time dims (conditions_of (members_in true t cs)) ≡ (one_holds dims t || (not (all_hold dims t) || some_matches time dims (conditions_of cs)))
+  pub some_matches-members : some_matches time dims (conditions_of (members_in true t cs)) ≡ (one_holds time dims t || (not (all_hold time dims t) || some_matches time dims (conditions_of cs)))
   some_matches-members =
-      let bounds = members_of (ranges false) t.every_bound cs in
+      let holds = λ (x : DimensionTest). holds_of x dims in
+      let held = λ (u : List Interval). union_holds u time in
+      let during_none = members_of (during false) t.every_time cs in
+      let bounds = members_of (ranges false) t.every_bound during_none in
       let denied = members_of (selects false) t.every_text bounds in
-      let left = some_matches time dims (conditions_of cs) in
-      some_matches-tests time dims (λ x. x) t.some_texts (members_of (ranges true) t.some_bounds denied)
-      ∙ ap (λ b. some_holds dims (tests_in (λ x. x) t.some_texts) || b)
-      (some_matches-tests time dims as_range t.some_bounds denied
-      ∙ ap (λ b. some_holds dims (tests_in as_range t.some_bounds) || b)
-      (some_matches-denied time dims (λ x. x) t.every_text bounds ∙ ap (λ b. not (every_holds dims (tests_in (λ x. x) t.every_text)) || b) (some_matches-denied time dims as_range t.every_bound cs)
-      ∙ either_not (every_holds dims (tests_in (λ x. x) t.every_text)) (every_holds dims (tests_in as_range t.every_bound)) left))
-      ∙ or_regroups (some_holds dims (tests_in (λ x. x) t.some_texts)) (some_holds dims (tests_in as_range t.some_bounds)) (not (all_hold dims t) || left)
+      let times = members_of (during true) t.some_time denied in
+      some_matches-tests time dims selects holds (λ b. refl) (λ b. refl) (λ x. x) t.some_texts (members_of (ranges true) t.some_bounds times)
+      ∙ (λ k. some_holds dims (tests_in (λ x. x) t.some_texts) || some_matches-tests time dims selects holds (λ b. refl) (λ b. refl) as_range t.some_bounds times k)
+      ∙ (λ k. some_holds dims (tests_in (λ x. x) t.some_texts) || (some_holds dims (tests_in as_range t.some_bounds) || some_matches-tests time dims during held (λ b. refl) (λ b. refl) (λ x. x) t.some_time denied k))
+      ∙ (λ k. some_holds dims (tests_in (λ x. x) t.some_texts) || (some_holds dims (tests_in as_range t.some_bounds) || (some_held time (tests_in (λ x. x) t.some_time)
+      || some_matches-denied time dims selects holds (λ b. refl) (λ b. refl) (λ x. x) t.every_text bounds k)))
+      ∙ (λ k. some_holds dims (tests_in (λ x. x) t.some_texts) || (some_holds dims (tests_in as_range t.some_bounds) || (some_held time (tests_in (λ x. x) t.some_time)
+      || (not (every_holds dims (tests_in (λ x. x) t.every_text)) || some_matches-denied time dims selects holds (λ b. refl) (λ b. refl) as_range t.every_bound during_none k))))
+      ∙ (λ k. some_holds dims (tests_in (λ x. x) t.some_texts) || (some_holds dims (tests_in as_range t.some_bounds) || (some_held time (tests_in (λ x. x) t.some_time)
+      || (not (every_holds dims (tests_in (λ x. x) t.every_text)) || (not (every_holds dims (tests_in as_range t.every_bound)) || some_matches-denied time dims during held (λ b. refl) (λ b. refl) (λ x. x) t.every_time cs k)))))
+      ∙ none_or (some_holds dims (tests_in (λ x. x) t.some_texts)) (some_holds dims (tests_in as_range t.some_bounds)) (some_held time (tests_in (λ x. x) t.some_time))
+      (every_holds dims (tests_in (λ x. x) t.every_text)) (every_holds dims (tests_in as_range t.every_bound)) (every_held time (tests_in (λ x. x) t.every_time)) (some_matches time dims (conditions_of cs))
 
   -- every member of an `and` matches where none of those denied together holds, all that are asked together, and all the others match
-  pub every_matches-members : every_matches time dims (conditions_of (members_in false t cs)) ≡ (not (one_holds dims t) && (all_hold dims t && every_matches time dims (conditions_of cs)))
+  pub every_matches-members : every_matches time dims (conditions_of (members_in false t cs)) ≡ (not (one_holds time dims t) && (all_hold time dims t && every_matches time dims (conditions_of cs)))
   every_matches-members =
-      let bounds = members_of (ranges true) t.every_bound cs in
+      let holds = λ (x : DimensionTest). holds_of x dims in
+      let held = λ (u : List Interval). union_holds u time in
+      let during_all = members_of (during true) t.every_time cs in
+      let bounds = members_of (ranges true) t.every_bound during_all in
       let asked = members_of (selects true) t.every_text bounds in
-      let left = every_matches time dims (conditions_of cs) in
-      every_matches-denied time dims (λ x. x) t.some_texts (members_of (ranges false) t.some_bounds asked)
-      ∙ ap (λ b. not (some_holds dims (tests_in (λ x. x) t.some_texts)) && b)
-      (every_matches-denied time dims as_range t.some_bounds asked
-      ∙ ap (λ b. not (some_holds dims (tests_in as_range t.some_bounds)) && b)
-      (every_matches-tests time dims (λ x. x) t.every_text bounds ∙ ap (λ b. every_holds dims (tests_in (λ x. x) t.every_text) && b) (every_matches-tests time dims as_range t.every_bound cs)
-      ∙ and_regroups (every_holds dims (tests_in (λ x. x) t.every_text)) (every_holds dims (tests_in as_range t.every_bound)) left))
-      ∙ neither_and (some_holds dims (tests_in (λ x. x) t.some_texts)) (some_holds dims (tests_in as_range t.some_bounds)) (all_hold dims t && left)
+      let times = members_of (during false) t.some_time asked in
+      every_matches-denied time dims selects holds (λ b. refl) (λ b. refl) (λ x. x) t.some_texts (members_of (ranges false) t.some_bounds times)
+      ∙ (λ k. not (some_holds dims (tests_in (λ x. x) t.some_texts)) && every_matches-denied time dims selects holds (λ b. refl) (λ b. refl) as_range t.some_bounds times k)
+      ∙ (λ k. not (some_holds dims (tests_in (λ x. x) t.some_texts)) && (not (some_holds dims (tests_in as_range t.some_bounds)) && every_matches-denied time dims during held (λ b. refl) (λ b. refl) (λ x. x) t.some_time asked k))
+      ∙ (λ k. not (some_holds dims (tests_in (λ x. x) t.some_texts)) && (not (some_holds dims (tests_in as_range t.some_bounds)) && (not (some_held time (tests_in (λ x. x) t.some_time))
+      && every_matches-tests time dims selects holds (λ b. refl) (λ b. refl) (λ x. x) t.every_text bounds k)))
+      ∙ (λ k. not (some_holds dims (tests_in (λ x. x) t.some_texts)) && (not (some_holds dims (tests_in as_range t.some_bounds)) && (not (some_held time (tests_in (λ x. x) t.some_time))
+      && (every_holds dims (tests_in (λ x. x) t.every_text) && every_matches-tests time dims selects holds (λ b. refl) (λ b. refl) as_range t.every_bound during_all k))))
+      ∙ (λ k. not (some_holds dims (tests_in (λ x. x) t.some_texts)) && (not (some_holds dims (tests_in as_range t.some_bounds)) && (not (some_held time (tests_in (λ x. x) t.some_time))
+      && (every_holds dims (tests_in (λ x. x) t.every_text) && (every_holds dims (tests_in as_range t.every_bound) && every_matches-tests time dims during held (λ b. refl) (λ b. refl) (λ x. x) t.every_time cs k)))))
+      ∙ none_and (some_holds dims (tests_in (λ x. x) t.some_texts)) (some_holds dims (tests_in as_range t.some_bounds)) (some_held time (tests_in (λ x. x) t.some_time))
+      (every_holds dims (tests_in (λ x. x) t.every_text)) (every_holds dims (tests_in as_range t.every_bound)) (every_held time (tests_in (λ x. x) t.every_time)) (every_matches time dims (conditions_of cs))
 
-  pub some-one : one_holds dims t ≡ true → some_matches time dims (conditions_of (members_in true t cs)) ≡ true
-  some-one one = some_matches-members ∙ ap (λ b. b || (not (all_hold dims t) || some_matches time dims (conditions_of cs))) one
+  pub some-one : one_holds time dims t ≡ true → some_matches time dims (conditions_of (members_in true t cs)) ≡ true
+  some-one one = some_matches-members ∙ ap (λ b. b || (not (all_hold time dims t) || some_matches time dims (conditions_of cs))) one
 
-  pub some-not_all : one_holds dims t ≡ false → all_hold dims t ≡ false → some_matches time dims (conditions_of (members_in true t cs)) ≡ true
-  some-not_all one all = some_matches-members ∙ ap (λ b. b || (not (all_hold dims t) || some_matches time dims (conditions_of cs))) one ∙ ap (λ b. not b || some_matches time dims (conditions_of cs)) all
+  pub some-not_all : one_holds time dims t ≡ false → all_hold time dims t ≡ false → some_matches time dims (conditions_of (members_in true t cs)) ≡ true
+  some-not_all one all = some_matches-members ∙ ap (λ b. b || (not (all_hold time dims t) || some_matches time dims (conditions_of cs))) one ∙ ap (λ b. not b || some_matches time dims (conditions_of cs)) all
 
-  pub some-others : one_holds dims t ≡ false → all_hold dims t ≡ true → some_matches time dims (conditions_of (members_in true t cs)) ≡ some_matches time dims (conditions_of cs)
-  some-others one all = some_matches-members ∙ ap (λ b. b || (not (all_hold dims t) || some_matches time dims (conditions_of cs))) one ∙ ap (λ b. not b || some_matches time dims (conditions_of cs)) all
+  pub some-others : one_holds time dims t ≡ false → all_hold time dims t ≡ true → some_matches time dims (conditions_of (members_in true t cs)) ≡ some_matches time dims (conditions_of cs)
+  some-others one all = some_matches-members ∙ ap (λ b. b || (not (all_hold time dims t) || some_matches time dims (conditions_of cs))) one ∙ ap (λ b. not b || some_matches time dims (conditions_of cs)) all
 
-  pub every-one : one_holds dims t ≡ true → every_matches time dims (conditions_of (members_in false t cs)) ≡ false
-  every-one one = every_matches-members ∙ ap (λ b. not b && (all_hold dims t && every_matches time dims (conditions_of cs))) one
+  pub every-one : one_holds time dims t ≡ true → every_matches time dims (conditions_of (members_in false t cs)) ≡ false
+  every-one one = every_matches-members ∙ ap (λ b. not b && (all_hold time dims t && every_matches time dims (conditions_of cs))) one
 
-  pub every-not_all : one_holds dims t ≡ false → all_hold dims t ≡ false → every_matches time dims (conditions_of (members_in false t cs)) ≡ false
-  every-not_all one all = every_matches-members ∙ ap (λ b. not b && (all_hold dims t && every_matches time dims (conditions_of cs))) one ∙ ap (λ b. b && every_matches time dims (conditions_of cs)) all
+  pub every-not_all : one_holds time dims t ≡ false → all_hold time dims t ≡ false → every_matches time dims (conditions_of (members_in false t cs)) ≡ false
+  every-not_all one all = every_matches-members ∙ ap (λ b. not b && (all_hold time dims t && every_matches time dims (conditions_of cs))) one ∙ ap (λ b. b && every_matches time dims (conditions_of cs)) all
 
-  pub every-others : one_holds dims t ≡ false → all_hold dims t ≡ true → every_matches time dims (conditions_of (members_in false t cs)) ≡ every_matches time dims (conditions_of cs)
-  every-others one all = every_matches-members ∙ ap (λ b. not b && (all_hold dims t && every_matches time dims (conditions_of cs))) one ∙ ap (λ b. b && every_matches time dims (conditions_of cs)) all
+  pub every-others : one_holds time dims t ≡ false → all_hold time dims t ≡ true → every_matches time dims (conditions_of (members_in false t cs)) ≡ every_matches time dims (conditions_of cs)
+  every-others one all = every_matches-members ∙ ap (λ b. not b && (all_hold time dims t && every_matches time dims (conditions_of cs))) one ∙ ap (λ b. b && every_matches time dims (conditions_of cs)) all
 
 -- ---- the members of a list of filters in turn
 

@@ -52,6 +52,11 @@ selects false t = opposite (dimension t)
 abbrev pub ranges : Bool → Bound → Condition
 ranges holds b = selects holds (as_range b)
 
+-- and what intervals of time do
+abbrev pub during : Bool → List Interval → Condition
+during true intervals = interval intervals
+during false intervals = opposite (interval intervals)
+
 -- the members of an `and` or an `or` in their order: those that are asked together, and the others, which stand apart
 abbrev pub members_of : {A : Type 0} → (A → Condition) → List (Option A) → List Condition → List Condition
 members_of meant [] cs = cs
@@ -59,11 +64,11 @@ members_of meant (Some m ∷ ms) cs = meant m ∷ members_of meant ms cs
 members_of meant (None ∷ ms) [] = members_of meant ms []
 members_of meant (None ∷ ms) (c ∷ cs) = c ∷ members_of meant ms cs
 
--- all members of an `or`, where one of some texts and bounds is to hold or not all of others, or of an `and`, where none of the ones is to hold and all of the others
+-- all members of an `or`, where one of some texts, bounds and intervals is to hold or not all of others, or of an `and`, where none of the ones is to hold and all of the others
 abbrev pub members_in : Bool → Together → List Condition → List Condition
 members_in holds t cs =
-    members_of (selects holds) t.some_texts (members_of (ranges holds) t.some_bounds
-    (members_of (selects (not holds)) t.every_text (members_of (ranges (not holds)) t.every_bound cs)))
+    members_of (selects holds) t.some_texts (members_of (ranges holds) t.some_bounds (members_of (during holds) t.some_time
+    (members_of (selects (not holds)) t.every_text (members_of (ranges (not holds)) t.every_bound (members_of (during (not holds)) t.every_time cs)))))
 
 -- one level, with the filters inside already seen as conditions
 abbrev pub condition_step : Filter-F Condition → Condition

@@ -1,17 +1,20 @@
 ghost use Rattle.std.specs.Prelude.{◌≡◌, true, false, map, IfOk, MatchResult, OnOk};
-ghost use Rattle.dr_filter.specs.Condition.{condition_in, conditions_of, members_of, members_in, every, some, selects, ranges};
+ghost use Rattle.dr_filter.specs.Condition.{condition_in, conditions_of, members_of, members_in, every, some, selects, ranges, during};
 ghost use Rattle.dr_filter.specs.Members.{PutsBehind};
 
 use crate::bound::Bound;
 use crate::dimension_test::DimensionTest;
 use crate::every_bound::EveryBound;
 use crate::every_text::EveryText;
+use crate::every_time::EveryTime;
 use crate::filter::Filter;
 use crate::selectors::Selectors;
 use crate::some_bound::SomeBound;
+use crate::some_time::SomeTime;
 use crate::text_test::TextTest;
 use crate::together::Together;
 use crate::value_test::ValueTest;
+use dr_time::Union;
 use std::alloc::{AllocError, Global};
 
 /// The `and` of some filters, in their order. The only error is that memory ran out.
@@ -40,13 +43,17 @@ fn apart(
 {
     let (some_texts, rest) = texts_apart(alloc, filters, holds)?;
     let (some_bounds, rest) = bounds_apart(alloc, rest, holds)?;
+    let (some_time, rest) = times_apart(alloc, rest, holds)?;
     let (every_text, rest) = texts_apart(alloc, rest, !holds)?;
-    let (every_bound, others) = bounds_apart(alloc, rest, !holds)?;
+    let (every_bound, rest) = bounds_apart(alloc, rest, !holds)?;
+    let (every_time, others) = times_apart(alloc, rest, !holds)?;
     let together = Together {
         some_texts: Selectors::of(alloc, some_texts)?,
         some_bounds: SomeBound::of(alloc, some_bounds)?,
+        some_time: SomeTime::of(alloc, some_time)?,
         every_text: EveryText::of(alloc, every_text)?,
         every_bound: EveryBound::of(alloc, every_bound)?,
+        every_time: EveryTime::of(every_time)?,
     };
     Ok((together, others))
 }
@@ -115,6 +122,42 @@ fn put_bound(
 {
     match bound_taken(alloc, filter, holds)? {
         Ok(bound) => members.push(Some(bound))?,
+        Err(other) => {
+            members.push(None)?;
+            others.push(other)?;
+        }
+    }
+    Ok(())
+}
+
+// The intervals among some filters, or those of which the `not` is among them, and the other filters.
+fn times_apart(
+    alloc: Global,
+    filters: Vec<Filter>,
+    holds: bool,
+) -> Result<(Vec<Option<Union>>, Vec<Filter>), AllocError>
+    ensures { IfOk result (λ p. members_of (during holds) p.0.items (map condition_in p.1.items) ≡ map condition_in filters.items) }
+{
+    let mut members = Vec::new(alloc);
+    let mut others = Vec::new(alloc);
+    for filter in filters {
+        put_time(alloc, &mut members, &mut others, filter, holds)?;
+    }
+    Ok((members, others))
+}
+
+// Puts a filter behind some members, as intervals, or as one that stands apart.
+fn put_time(
+    alloc: Global,
+    members: &mut Vec<Option<Union>>,
+    others: &mut Vec<Filter>,
+    filter: Filter,
+    holds: bool,
+) -> Result<(), AllocError>
+    ensures { OnOk result (PutsBehind (during holds) members.old.items (map condition_in others.old.items) (condition_in filter) members.new.items (map condition_in others.new.items)) }
+{
+    match time_taken(alloc, filter, holds)? {
+        Ok(time) => members.push(Some(time))?,
         Err(other) => {
             members.push(None)?;
             others.push(other)?;
@@ -201,6 +244,43 @@ fn bound_in(filter: Filter) -> Result<Bound, Filter>
                 other => Err(Filter::Dimension(DimensionTest { place, test: other })),
             }
         }
+        other => Err(other),
+    }
+}
+
+// The intervals that a filter is, or of which it is the `not`; else the filter.
+fn time_taken(
+    alloc: Global,
+    filter: Filter,
+    holds: bool,
+) -> Result<Result<Union, Filter>, AllocError>
+    ensures { IfOk result (λ r. MatchResult r (λ u. condition_in filter ≡ during holds u) (λ f. condition_in f ≡ condition_in filter)) }
+{
+    if holds {
+        Ok(time_in(filter))
+    } else {
+        denied_time_in(alloc, filter)
+    }
+}
+
+fn denied_time_in(alloc: Global, filter: Filter) -> Result<Result<Union, Filter>, AllocError>
+    ensures { IfOk result (λ r. MatchResult r (λ u. condition_in filter ≡ during false u) (λ f. condition_in f ≡ condition_in filter)) }
+{
+    match filter {
+        Filter::Not(denied) => match time_in(Box::into_inner(denied)) {
+            Ok(time) => Ok(Ok(time)),
+            Err(other) => Ok(Err(Filter::Not(Box::new(alloc, other)?))),
+        },
+        other => Ok(Err(other)),
+    }
+}
+
+// The intervals that a filter is; else the filter.
+fn time_in(filter: Filter) -> Result<Union, Filter>
+    ensures { MatchResult result (λ u. condition_in filter ≡ during true u) (λ f. condition_in f ≡ condition_in filter) }
+{
+    match filter {
+        Filter::Interval(union) => Ok(union),
         other => Err(other),
     }
 }

@@ -14,11 +14,11 @@ pub enum Filter {
     Dimension(DimensionTest),
     /// `interval`: the time lies in one of some intervals.
     Interval(Union),
-    /// `and`: all of these hold, as they do where there are none. Its bounds are asked together, and so are the selectors and the
-    /// bounds of which it has the `not` among its members; the others stand apart.
+    /// `and`: all of these hold, as they do where there are none. Its selectors, `in`s, bounds and intervals are asked together, and
+    /// so are those of which it has the `not` among its members; the others stand apart.
     And(Together, Vec<Filter>),
-    /// `or`: one of these holds, as none does where there are none. Its selectors and its bounds are asked together, and so are
-    /// the bounds of which it has the `not` among its members; the others stand apart.
+    /// `or`: one of these holds, as none does where there are none. Its selectors, `in`s, bounds and intervals are asked together,
+    /// and so are those of which it has the `not` among its members; the others stand apart.
     Or(Together, Vec<Filter>),
     /// `not`: this doesn't hold.
     Not(Box<Filter>),
@@ -56,10 +56,10 @@ impl Filter {
 fn every_matches(together: &Together, filters: &[Filter], time: i64, dims: &[Text]) -> bool
     ensures { result ≡ every_matches_of time dims.now (conditions_of (members_in false together.now (map condition_in filters.now))) }
 {
-    if together.one_holds(dims) {
+    if together.one_holds(time, dims) {
         return false;
     }
-    if !together.all_hold(dims) {
+    if !together.all_hold(time, dims) {
         return false;
     }
     for filter in filters {
@@ -76,10 +76,10 @@ fn every_matches(together: &Together, filters: &[Filter], time: i64, dims: &[Tex
 fn some_matches(together: &Together, filters: &[Filter], time: i64, dims: &[Text]) -> bool
     ensures { result ≡ some_matches_of time dims.now (conditions_of (members_in true together.now (map condition_in filters.now))) }
 {
-    if together.one_holds(dims) {
+    if together.one_holds(time, dims) {
         return true;
     }
-    if !together.all_hold(dims) {
+    if !together.all_hold(time, dims) {
         return true;
     }
     for filter in filters {

@@ -15,21 +15,17 @@ use Rattle.dr_ask.proofs.scan.Scan.TheSendSync as scan
 use Rattle.dr_ask.proofs.timeseries.Timeseries.TheSendSync as timeseries
 use Rattle.dr_time.proofs.union.Union.TheSendSync as union
 use Rattle.dr_filter.proofs.dimension_test.DimensionTest.TheSendSync as test
-use Rattle.dr_filter.proofs.selectors.Selectors.TheSendSync as selectors
-use Rattle.dr_filter.proofs.every_bound.EveryBound.TheSendSync as every_bound
-use Rattle.dr_filter.proofs.some_bound.SomeBound.TheSendSync as some_bound
+use Rattle.dr_filter.proofs.together.Together.TheSendSync as together
 use Rattle.dr_having.proofs.group_value.GroupValue.TheSendSync as group_value
 use Rattle.dr_having.proofs.dimension_value.DimensionValue.TheSendSync as dimension_value
-use Rattle.dr_having.proofs.every_comparison.EveryComparison.TheSendSync as every_comparison
-use Rattle.dr_having.proofs.some_comparison.SomeComparison.TheSendSync as some_comparison
-use Rattle.dr_having.proofs.selectors.Selectors.TheSendSync as having_selectors
+use Rattle.dr_having.proofs.together.Together.TheSendSync as having_together
 use Rattle.dr_gran.proofs.gran.Gran.TheSendSync as gran
 
 filter-sync : IsSync (Filter.the_field).row
-filter-sync = filter.sync-Filter test.the_field_sync union.the_sync selectors.the_sync every_bound.the_sync Vec-sync some_bound.the_sync Box-sync
+filter-sync = filter.sync-Filter test.the_field_sync union.the_sync together.the_field_sync Vec-sync Box-sync
 
 having-sync : IsSync (Having.the_field).row
-having-sync = having.sync-Having group_value.the_field_sync dimension_value.the_field_sync every_comparison.the_sync having_selectors.the_sync Vec-sync some_comparison.the_sync Box-sync
+having-sync = having.sync-Having group_value.the_field_sync dimension_value.the_field_sync having_together.the_field_sync Vec-sync Box-sync
 
 group-sync : IsSync (GroupBy.the_field).row
 group-sync = search (sendable, crosses, having-sync, limit.the_field_sync, dimensions.the_sync) depth 20

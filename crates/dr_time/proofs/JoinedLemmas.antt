@@ -1,6 +1,6 @@
 -- A search among intervals that rise and stand apart, and joining one more to them.
 use Rattle.std.proofs.Common.{◌≡◌, ◌∙◌, sym, refl, ap, ◌⊎◌, inl, inr, Bool, true, false, ◌&&◌, ◌||◌, ℕ, ◌+◌, ◌-◌, ◌<◌, ◌≤◌, zero, suc, List, [], ◌∷◌, ◌++◌, length, get_or, take, drop, slice_set, subst, ℤ, ◌≤ℤ◌, ◌<ℤ◌, int_le, int_lt, Option, Some, None, arith}
-use Rattle.std.specs.Int.{int_max}
+use Rattle.std.specs.Int.{int_max, int_min}
 use Rattle.std.specs.List.{AllByRecursion, AllWithin}
 use Rattle.std.specs.List.Sorted.{IsPartitionedBy, IsPermutation, IsSortedByKey}
 use Rattle.std.specs.Ordering.{int_cmp, is_lt}
@@ -11,7 +11,7 @@ use Rattle.std.proofs.lemmas.List.Folds.{list_any-append, list_any_more}
 use Rattle.std.proofs.lemmas.List.{drop_more}
 use Rattle.std.proofs.lemmas.List.Sorted.{list_any-IsPermutation}
 use Rattle.dr_time.specs.declared.interval.Interval.{Interval}
-use Rattle.dr_time.specs.Interval.{holds_time, is_empty, first_time, first_time_from}
+use Rattle.dr_time.specs.Interval.{holds_time, is_empty, first_time, first_time_from, shared_with}
 use Rattle.dr_time.specs.Union.{HoldsAll, union_holds}
 use Rattle.dr_time.specs.Joined.{AreApart, Rise, HoldSame, longer}
 use Rattle.dr_time.specs.Laws.{IsFirstTime}
@@ -415,3 +415,118 @@ some_started is least greatest rise high all = absurd (cc (sym (none_started lea
 
 pub not_behind : (greatest least : ℤ) → int_lt greatest least ≡ false → least ≤ℤ greatest
 not_behind greatest least h = grind (arith, ints)
+
+-- ---- the times that two of them share
+
+not_both : (a b : Bool) → (b ≡ true → a ≡ false) → a && b ≡ false
+not_both a true never = rw (never refl) refl
+not_both a false never = and_false a
+
+-- no time of an interval is held behind it
+disjoint : (i : Interval) (is : List Interval) (low t : ℤ) → i.end ≤ℤ low → AllByRecursion (λ j. low <ℤ j.start) is → holds_time i t && union_holds is t ≡ false
+disjoint i is low t le all =
+    not_both (holds_time i t) (union_holds is t) (λ h. let past = held-from is low t all h in above i.start i.end t (omega (arith, ints)))
+
+shared_held : (a b : Interval) (t : ℤ) → holds_time (shared_with a b) t ≡ holds_time a t && holds_time b t
+shared_held a b t = grind (arith, ints)
+
+left_ends : (x y X Y : Bool) → x && X ≡ false → x && Y ≡ false → (x || X) && (y || Y) ≡ (x && y) || (X && (y || Y))
+left_ends true y true Y e f = absurd (cc e)
+left_ends true y false true e f = absurd (cc f)
+left_ends true true false false e f = refl
+left_ends true false false false e f = refl
+left_ends false y X Y e f = refl
+
+right_ends : (x y X Y : Bool) → y && Y ≡ false → y && X ≡ false → (x || X) && (y || Y) ≡ (x && y) || ((x || X) && Y)
+right_ends x true X true e f = absurd (cc e)
+right_ends x true true false e f = absurd (cc f)
+right_ends true true false false e f = refl
+right_ends false true false false e f = refl
+right_ends true false true Y e f = refl
+right_ends true false false Y e f = refl
+right_ends false false true Y e f = refl
+right_ends false false false Y e f = refl
+
+-- the one that ends first shares no more time with those behind the other
+first_ends : (a b : Interval) (is js : List Interval) (t : ℤ) → AreApart (a ∷ is) → AreApart (b ∷ js) → a.end ≤ℤ b.end
+    → union_holds (a ∷ is) t && union_holds (b ∷ js) t ≡ holds_time (shared_with a b) t || (union_holds is t && union_holds (b ∷ js) t)
+first_ends a b is js t apart_a apart_b le =
+    rw (shared_held a b t) (left_ends (holds_time a t) (holds_time b t) (union_holds is t) (union_holds js t)
+    (disjoint a is a.end t (omega (arith, ints)) apart_a.1) (disjoint a js b.end t le apart_b.1))
+
+second_ends : (a b : Interval) (is js : List Interval) (t : ℤ) → AreApart (a ∷ is) → AreApart (b ∷ js) → b.end ≤ℤ a.end
+    → union_holds (a ∷ is) t && union_holds (b ∷ js) t ≡ holds_time (shared_with a b) t || (union_holds (a ∷ is) t && union_holds js t)
+second_ends a b is js t apart_a apart_b le =
+    rw (shared_held a b t) (right_ends (holds_time a t) (holds_time b t) (union_holds is t) (union_holds js t)
+    (disjoint b js b.end t (omega (arith, ints)) apart_b.1) (disjoint b is a.end t le apart_a.1))
+
+-- what some intervals share, and those that are left of both, hold all that both hold
+abbrev pub Share : List Interval → List Interval → List Interval → List Interval → List Interval → Type 0
+Share all others shared is js = (t : ℤ) → union_holds shared t || (union_holds is t && union_holds js t) ≡ union_holds all t && union_holds others t
+
+-- one more of what they share, behind which the intervals of one of them go on
+module _ (all others shared more : List Interval) (a b : Interval) (is js : List Interval) (held : (t : ℤ) → union_holds more t ≡ union_holds shared t || holds_time (shared_with a b) t) (share : Share all others shared (a ∷ is) (b ∷ js)) where
+  one_more_shared : (t : ℤ) (rest : Bool) → union_holds (a ∷ is) t && union_holds (b ∷ js) t ≡ holds_time (shared_with a b) t || rest → union_holds more t || rest ≡ union_holds all t && union_holds others t
+  one_more_shared t rest h =
+      (λ k. held t k || rest) ∙ sym (or_or (union_holds shared t) (holds_time (shared_with a b) t) rest) ∙ (λ k. union_holds shared t || sym h k) ∙ share t
+
+  first_left : AreApart (a ∷ is) → AreApart (b ∷ js) → a.end ≤ℤ b.end → Share all others more is (b ∷ js)
+  first_left apart_a apart_b le = λ t. one_more_shared t (union_holds is t && union_holds (b ∷ js) t) (first_ends a b is js t apart_a apart_b le)
+
+  second_left : AreApart (a ∷ is) → AreApart (b ∷ js) → b.end ≤ℤ a.end → Share all others more (a ∷ is) js
+  second_left apart_a apart_b le = λ t. one_more_shared t (union_holds (a ∷ is) t && union_holds js t) (second_ends a b is js t apart_a apart_b le)
+
+start_by : (low high : ℤ) (is : List Interval) → low ≤ℤ high → AllByRecursion (λ i. i.start ≤ℤ low) is → AllByRecursion (λ i. i.start ≤ℤ high) is
+start_by low high [] le all = tt
+start_by low high (i ∷ is) le all = let at = all.0 in (omega (arith, ints), start_by low high is le all.1)
+
+max_rises : (a b c : ℤ) → a ≤ℤ c → int_max a b ≤ℤ int_max c b
+max_rises a b c le = grind (arith, ints)
+
+max_rises_behind : (a b c : ℤ) → b ≤ℤ c → int_max a b ≤ℤ int_max a c
+max_rises_behind a b c le = grind (arith, ints)
+
+-- the intervals from some place on, and those that are left when both have been gone through
+module _ (d : Interval) where
+  -- what is shared starts not behind the two that are next
+  abbrev pub StartsBefore : List Interval → List Interval → List Interval → ℕ → ℕ → Type 0
+  StartsBefore shared all others i j = i < length all → j < length others → AllByRecursion (λ s. s.start ≤ℤ (shared_with (get_or all i d) (get_or others j d)).start) shared
+
+  abbrev pub Shares : List Interval → List Interval → List Interval → ℕ → ℕ → Type 0
+  Shares all others shared i j = AreApart (drop i all) × AreApart (drop j others) × Share all others shared (drop i all) (drop j others) × StartsBefore shared all others i j
+
+  module _ (all others shared more : List Interval) (i j : ℕ) (lt_i : i < length all) (lt_j : j < length others) (apart : AreApart all) (apart_others : AreApart others)
+      (rising : AllByRecursion (λ s. s.start ≤ℤ (shared_with (get_or all i d) (get_or others j d)).start) more)
+      (held : (t : ℤ) → union_holds more t ≡ union_holds shared t || holds_time (shared_with (get_or all i d) (get_or others j d)) t) (was : Shares all others shared i j) where
+    whole : Share all others shared (get_or all i d ∷ drop (i + 1) all) (get_or others j d ∷ drop (j + 1) others)
+    whole t = (λ k. union_holds shared t || (union_holds (sym (drop_more all i d lt_i) k) t && union_holds (sym (drop_more others j d lt_j) k) t)) ∙ was.2 t
+
+    whole_i : AreApart (get_or all i d ∷ drop (i + 1) all)
+    whole_i = subst AreApart (drop_more all i d lt_i) was.0
+
+    whole_j : AreApart (get_or others j d ∷ drop (j + 1) others)
+    whole_j = subst AreApart (drop_more others j d lt_j) was.1
+
+    pub first-done : (get_or all i d).end ≤ℤ (get_or others j d).end → Shares all others more (i + 1) j
+    first-done le = (
+      whole_i.2,
+      was.1,
+      (λ t. (λ k. union_holds more t || (union_holds (drop (i + 1) all) t && union_holds (drop_more others j d lt_j k) t))
+          ∙ first_left all others shared more (get_or all i d) (get_or others j d) (drop (i + 1) all) (drop (j + 1) others) held whole whole_i whole_j le t),
+      λ lt lt_js. start_by _ _ more (max_rises (get_or all i d).start (get_or others j d).start (get_or all (i + 1) d).start (starts-rise all i (i + 1) d apart (omega arith) lt)) rising,
+    )
+
+    pub second-done : (get_or others j d).end ≤ℤ (get_or all i d).end → Shares all others more i (j + 1)
+    second-done le = (
+      was.0,
+      whole_j.2,
+      (λ t. (λ k. union_holds more t || (union_holds (drop_more all i d lt_i k) t && union_holds (drop (j + 1) others) t))
+          ∙ second_left all others shared more (get_or all i d) (get_or others j d) (drop (i + 1) all) (drop (j + 1) others) held whole whole_i whole_j le t),
+      λ lt_is lt. start_by _ _ more (max_rises_behind (get_or all i d).start (get_or others j d).start (get_or others (j + 1) d).start (starts-rise others j (j + 1) d apart_others (omega arith) lt)) rising,
+    )
+
+pub not_after : (a b : ℤ) → int_le a b ≡ true → a ≤ℤ b
+not_after a b h = grind (arith, ints)
+
+pub not_before : (a b : ℤ) → int_le a b ≡ false → b ≤ℤ a
+not_before a b h = grind (arith, ints)

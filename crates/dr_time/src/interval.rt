@@ -1,6 +1,6 @@
 ghost use Rattle.std.specs.Prelude.{◌≡◌};
 ghost use Rattle.dr_time.specs.Instant.{instant_of};
-ghost use Rattle.dr_time.specs.Interval.{holds_time, is_empty as is_empty_of, interval_of, between_instants as between_instants_of, as_part, first_time, first_time_from};
+ghost use Rattle.dr_time.specs.Interval.{holds_time, is_empty as is_empty_of, interval_of, between_instants as between_instants_of, as_part, first_time, first_time_from, shared_with as shared_with_of};
 
 use crate::instant::parse_instant;
 use crate::time_error::TimeError;
@@ -32,6 +32,16 @@ impl Interval {
         ensures { result ≡ is_empty_of self.now }
     {
         self.end <= self.start
+    }
+
+    // The times that both hold.
+    pub(crate) fn shared_with(&self, other: &Interval) -> Interval
+        ensures { result ≡ shared_with_of self.now other.now }
+    {
+        Interval {
+            start: self.start.max(other.start),
+            end: self.end.min(other.end),
+        }
     }
 
     /// The start of an interval that isn't empty.

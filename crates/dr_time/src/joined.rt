@@ -2,7 +2,7 @@ ghost use Rattle.std.specs.Prelude.{◌≡◌, ◌≤ℤ◌, ◌||◌, ℤ, true
 ghost use Rattle.std.specs.List.{AllByRecursion};
 ghost use Rattle.dr_time.specs.Interval.{holds_time};
 ghost use Rattle.dr_time.specs.Joined.{AreApart, Rise, HoldSame, longer as longer_of};
-ghost use Rattle.dr_time.specs.Union.{HoldsAll, union_holds, union_start, union_first_from};
+ghost use Rattle.dr_time.specs.Union.{AreShared, HoldsAll, union_holds, union_start, union_first_from};
 
 use crate::interval::Interval;
 use std::alloc::{AllocError, Global};
@@ -40,6 +40,21 @@ impl Joined {
     {
         let copy = Vec::from_slice(*self.0.allocator(), self.0.as_slice())?;
         Ok(Joined(copy))
+    }
+
+    // The times that both hold. The only error is that memory ran out. It takes time and memory by the intervals of both.
+    pub fn intersection(&self, other: &Joined) -> Result<Joined, AllocError>
+        ensures { IfOk result (λ joined. AreShared self.now other.now joined) }
+    {
+        let shared = shared_of(*self.0.allocator(), self.0.as_slice(), other.0.as_slice())?;
+        Ok(Joined(shared))
+    }
+
+    // The intervals, which rise.
+    pub fn intervals(&self) -> &[Interval]
+        ensures { result.now ≡ self.now }
+    {
+        self.0.as_slice()
     }
 
     // Whether one of them holds this time, which is found in logarithmic time.
@@ -136,4 +151,29 @@ fn longer(interval: &Interval, next: &Interval) -> Option<Interval>
         start: interval.start,
         end: interval.end.max(next.end),
     })
+}
+
+// The times that some intervals and others hold: of each two that may overlap, what they share.
+fn shared_of(
+    alloc: Global,
+    some: &[Interval],
+    others: &[Interval],
+) -> Result<Vec<Interval>, AllocError>
+    requires some { AreApart some.now }
+    requires others { AreApart others.now }
+    ensures apart { IfOk result (λ shared. AreApart shared.items) }
+    ensures shared { IfOk result (λ shared. AreShared some.now others.now shared.items) }
+{
+    let mut shared = Vec::new(alloc);
+    let mut i = 0;
+    let mut j = 0;
+    while i < some.len() && j < others.len() {
+        join(&mut shared, some[i].shared_with(&others[j]))?;
+        if some[i].end <= others[j].end {
+            i += 1;
+        } else {
+            j += 1;
+        }
+    }
+    Ok(shared)
 }

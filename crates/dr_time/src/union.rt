@@ -1,5 +1,5 @@
 ghost use Rattle.std.specs.Prelude.{◌≡◌, true, IfOk};
-ghost use Rattle.dr_time.specs.Union.{HoldsAll, union_holds, union_start, union_first_from};
+ghost use Rattle.dr_time.specs.Union.{AreShared, HoldsAll, union_holds, union_start, union_first_from};
 
 use crate::interval::Interval;
 use crate::joined::Joined;
@@ -45,6 +45,18 @@ impl Union {
         Ok(Union {
             given: Vec::from_slice(*self.given.allocator(), self.intervals())?,
             joined: self.joined.copy()?,
+        })
+    }
+
+    /// The times that lie in both of two unions. The only error is that memory ran out. It takes time and memory by the intervals of
+    /// both.
+    pub fn intersection(&self, other: &Union) -> Result<Union, AllocError>
+        ensures { IfOk result (λ u. AreShared self.now other.now u) }
+    {
+        let joined = self.joined.intersection(&other.joined)?;
+        Ok(Union {
+            given: Vec::from_slice(*self.given.allocator(), joined.intervals())?,
+            joined,
         })
     }
 

@@ -15,7 +15,7 @@ meet_none-loop-filter-init t c =
       λ i lt.
           let key = key_at c.args.view.now i in
           let others = some_matches key.time key.dims (conditions_in c.args.filters.now) in
-          ap (λ b. b && not others) (c.in_ok-none.ensures.each i lt) ∙ none_of (one_holds key.dims members) (all_hold key.dims members) others
+          ap (λ b. b && not others) (c.in_ok-none.ensures.each i lt) ∙ none_of (one_holds key.time key.dims members) (all_hold key.time key.dims members) others
           ∙ sym (ap not (some_matches-members key.time key.dims members cs)),
     )
 
@@ -28,5 +28,5 @@ narrow_every-returns t c =
     (λ i.
     let key = key_at v i in
     every_matches-members key.time key.dims members cs
-    ∙ and_regroups (not (one_holds key.dims members)) (all_hold key.dims members) (every_matches key.time key.dims (conditions_in c.args.filters.now)))
+    ∙ and_regroups (not (one_holds key.time key.dims members)) (all_hold key.time key.dims members) (every_matches key.time key.dims (conditions_in c.args.filters.now)))
     c.in_ok-narrow_together.ensures c.in_ok-narrow_others.ensures
