@@ -5,7 +5,6 @@ use Rattle.std.proofs.lemmas.List.{map-append}
 use Rattle.std.proofs.lemmas.List.Folds.{list_any-append, list_all-append}
 use Rattle.dr_time.specs.declared.interval.Interval.{Interval}
 use Rattle.dr_time.specs.Union.{union_holds}
-use Rattle.dr_filter.specs.declared.bound.Bound.{Bound}
 use Rattle.dr_filter.specs.declared.dimension_test.DimensionTest.{DimensionTest}
 use Rattle.dr_filter.specs.declared.filter.Filter.{Filter}
 use Rattle.dr_filter.specs.declared.together.Together.{Together}
@@ -14,7 +13,7 @@ use Rattle.dr_filter.specs.Condition.{Condition, condition_in, conditions_of, ma
 use Rattle.dr_filter.specs.LookUps.{as_range, tests_in, some_holds, some_held, every_holds, every_held, IsTestOf}
 use Rattle.dr_filter.specs.Members.{others_in, PutsBehind}
 use Rattle.dr_filter.specs.Together.{one_holds, all_hold}
-use Rattle.dr_filter.specs.Match.{lies_within, passes, value_at, holds_of}
+use Rattle.dr_filter.specs.Match.{passes, value_at, holds_of}
 use Rattle.dr_base.proofs.Truths.{or_regroups, or_swaps, or_moves, or_ends, and_regroups, and_swaps, and_moves, and_ends, neither_and}
 
 -- ---- tests

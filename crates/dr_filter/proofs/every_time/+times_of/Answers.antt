@@ -18,7 +18,7 @@ pub returns : goal.returns
 returns t c =
     let ms = c.args.members.now in
     IfOk-weaker c.both_of.result _ (λ times. IsEveryTime times ms)
-    (λ times is time. is time ∙ (λ k. c.in_ok-front.ensures time k && c.in_ok-behind.ensures time k) 
+    (λ times is time. is time ∙ (λ k. c.in_ok-front.ensures time k && c.in_ok-behind.ensures time k)
     ∙ (λ k. every_held time (tests_in (λ (u : List Interval). u) (c.split_at.ensures.front k)) && every_held time (tests_in (λ (u : List Interval). u) (c.split_at.ensures.back k)))
     ∙ halves-held time _ ms)
     c.both_of.ensures
