@@ -11,9 +11,10 @@ use Rattle.std.proofs.lemmas.List.Folds.{list_any-append, list_any_more}
 use Rattle.std.proofs.lemmas.List.{drop_more}
 use Rattle.std.proofs.lemmas.List.Sorted.{list_any-IsPermutation}
 use Rattle.dr_time.specs.declared.interval.Interval.{Interval}
-use Rattle.dr_time.specs.Interval.{holds_time, is_empty, first_time, first_time_from, shared_with}
+use Rattle.dr_time.specs.Interval.{holds_time, is_empty, first_time, first_time_from}
 use Rattle.dr_time.specs.Union.{HoldsAll, union_holds}
 use Rattle.dr_time.specs.Joined.{AreApart, Rise, HoldSame, longer}
+use Rattle.dr_time.specs.Shared.{shared_with}
 use Rattle.dr_time.specs.Laws.{IsFirstTime}
 use Rattle.dr_time.proofs.UnionLemmas.{IsFirstTime-same, either}
 use Rattle.std.proofs.lemmas.Bool.{or_right}

@@ -1,6 +1,6 @@
 -- Intervals of time (ISO 8601, `start/end`). They are half open: the start is inside, and the end isn't.
 use Rattle.std.specs.Prelude.{ℕ, ◌==◌, nat_lt, Bool, ◌&&◌, if◌then◌else◌, List, length, ℤ, int_le, int_lt, Option, Some, None, Result, Ok, Err, bytes_eq}
-use Rattle.std.specs.Int.{int_max, int_min}
+use Rattle.std.specs.Int.{int_max}
 use Rattle.std.specs.List.{position_or_len, before_first, after_first}
 use Rattle.dr_base.specs.Reading.{◌>>=◌}
 use Rattle.dr_time.specs.declared.interval.Interval.{Interval}
@@ -16,10 +16,6 @@ holds_time interval t = int_le interval.start t && int_lt t interval.end
 -- the interval holds no time
 abbrev pub is_empty : Interval → Bool
 is_empty interval = int_le interval.end interval.start
-
--- the times that two intervals hold both
-abbrev pub shared_with : Interval → Interval → Interval
-shared_with a b = record { start = int_max a.start b.start; end = int_min a.end b.end }
 
 -- the start of an interval that isn't empty
 abbrev pub first_time : Interval → Option ℤ

@@ -8,5 +8,6 @@ pub mod Eternity
 pub mod Printed
 pub mod Interval
 pub mod Union
+pub mod Shared
 pub mod Laws
 pub mod Joined

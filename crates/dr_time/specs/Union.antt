@@ -1,6 +1,6 @@
 -- The union of intervals, as the list of them (Apache Druid documentation, native queries, intervals). A time counts once,
 -- however many of the intervals hold it.
-use Rattle.std.specs.Prelude.{◌≡◌, Bool, true, ◌&&◌, List, map, ℤ, ◌≤ℤ◌, Option, Some, None}
+use Rattle.std.specs.Prelude.{◌≡◌, Bool, true, List, map, ℤ, ◌≤ℤ◌, Option, Some, None}
 use Rattle.std.specs.Int.{int_min}
 use Rattle.std.specs.List.{list_any, fold}
 use Rattle.dr_time.specs.declared.interval.Interval.{Interval}
@@ -13,10 +13,6 @@ union_holds intervals t = list_any (λ i. holds_time i t) intervals
 -- each time from one to another, both inside, lies in the union
 abbrev pub HoldsAll : List Interval → ℤ → ℤ → Type 0
 HoldsAll intervals least greatest = (t : ℤ) → least ≤ℤ t → t ≤ℤ greatest → union_holds intervals t ≡ true
-
--- a union holds the times that two others hold both
-abbrev pub AreShared : List Interval → List Interval → List Interval → Type 0
-AreShared is js shared = (t : ℤ) → union_holds shared t ≡ union_holds is t && union_holds js t
 
 -- the earlier of two times, each of which may be missing
 abbrev pub earlier : Option ℤ → Option ℤ → Option ℤ

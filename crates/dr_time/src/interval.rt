@@ -1,6 +1,7 @@
 ghost use Rattle.std.specs.Prelude.{◌≡◌};
 ghost use Rattle.dr_time.specs.Instant.{instant_of};
-ghost use Rattle.dr_time.specs.Interval.{holds_time, is_empty as is_empty_of, interval_of, between_instants as between_instants_of, as_part, first_time, first_time_from, shared_with as shared_with_of};
+ghost use Rattle.dr_time.specs.Interval.{holds_time, is_empty as is_empty_of, interval_of, between_instants as between_instants_of, as_part, first_time, first_time_from};
+ghost use Rattle.dr_time.specs.Shared.{shared_with as shared_with_of};
 
 use crate::instant::parse_instant;
 use crate::time_error::TimeError;

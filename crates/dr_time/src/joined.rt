@@ -2,7 +2,8 @@ ghost use Rattle.std.specs.Prelude.{◌≡◌, ◌≤ℤ◌, ◌||◌, ℤ, true
 ghost use Rattle.std.specs.List.{AllByRecursion};
 ghost use Rattle.dr_time.specs.Interval.{holds_time};
 ghost use Rattle.dr_time.specs.Joined.{AreApart, Rise, HoldSame, longer as longer_of};
-ghost use Rattle.dr_time.specs.Union.{AreShared, HoldsAll, union_holds, union_start, union_first_from};
+ghost use Rattle.dr_time.specs.Shared.{AreShared};
+ghost use Rattle.dr_time.specs.Union.{HoldsAll, union_holds, union_start, union_first_from};
 
 use crate::interval::Interval;
 use std::alloc::{AllocError, Global};

@@ -1,5 +1,6 @@
 ghost use Rattle.std.specs.Prelude.{◌≡◌, true, IfOk};
-ghost use Rattle.dr_time.specs.Union.{AreShared, HoldsAll, union_holds, union_start, union_first_from};
+ghost use Rattle.dr_time.specs.Shared.{AreShared};
+ghost use Rattle.dr_time.specs.Union.{HoldsAll, union_holds, union_start, union_first_from};
 
 use crate::interval::Interval;
 use crate::joined::Joined;

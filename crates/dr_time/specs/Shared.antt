@@ -1,0 +1,13 @@
+-- The times that lie in both of two intervals, or of two unions of them.
+use Rattle.std.specs.Prelude.{◌≡◌, ◌&&◌, List, ℤ}
+use Rattle.std.specs.Int.{int_max, int_min}
+use Rattle.dr_time.specs.declared.interval.Interval.{Interval}
+use Rattle.dr_time.specs.Union.{union_holds}
+
+-- the times that two intervals hold both
+abbrev pub shared_with : Interval → Interval → Interval
+shared_with a b = record { start = int_max a.start b.start; end = int_min a.end b.end }
+
+-- a union holds the times that two others hold both
+abbrev pub AreShared : List Interval → List Interval → List Interval → Type 0
+AreShared is js shared = (t : ℤ) → union_holds shared t ≡ union_holds is t && union_holds js t
