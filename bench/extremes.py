@@ -154,9 +154,27 @@ def no_selector(it):
     return {"type": "not", "field": {"type": "selector", "dimension": "page", "value": f"x{it}"}}
 
 
+def denied(filter):
+    return {"type": "not", "field": filter}
+
+
+def within(begin, end):
+    return {"type": "interval", "dimension": "__time", "intervals": [f"{begin}/{end}"]}
+
+
+def moments(it):
+    """A millisecond of the day."""
+    return f"2024-01-01T{it // 3600000:02d}:{it // 60000 % 60:02d}:{it // 1000 % 60:02d}.{it % 1000:03d}Z"
+
+
 LONG_OR_OF_BOUNDS = groups(filter={"type": "or", "fields": [bound(it) for it in range(14000)]})
 LONG_OR_OF_INS = groups(filter={"type": "or", "fields": [{"type": "in", "dimension": "page", "values": [f"x{it}"]} for it in range(15000)]})
 LONG_AND_OF_NOTS = groups(filter={"type": "and", "fields": [no_selector(it) for it in range(12000)]}, limitSpec={"type": "default", "limit": 1})
+LONG_AND_OF_DENIED_BOUNDS = series(filter={"type": "and", "fields": [denied(bound(it)) for it in range(11000)]})
+LONG_AND_OF_SELECTORS = series(filter={"type": "and", "fields": [{"type": "selector", "dimension": "none", "value": ""}] * 17000})
+LONG_OR_OF_INTERVALS = series(filter={"type": "or", "fields": [within(moments(it * 9), moments(it * 9 + 1)) for it in range(8000)]})
+LONG_AND_OF_INTERVALS = series(filter={"type": "and", "fields": [within("2024-01-01", moments(86000000 + it)) for it in range(8000)]})
+LONG_HAVING_OF_DENIED = groups(having={"type": "and", "havingSpecs": [{"type": "not", "havingSpec": {"type": "greaterThan", "aggregation": "v", "value": it}} for it in range(10, 10000)]}, limitSpec={"type": "default", "limit": 1})
 LONG_HAVING_OF_TEXTS = groups(having={"type": "or", "havingSpecs": [{"type": "dimSelector", "dimension": "page", "value": f"x{it}"} for it in range(17000)]})
 MANY_SUMS = series(aggregations=[{"type": "longSum", "name": f"v{it}", "fieldName": "v"} for it in range(19000)])
 ONE_DIMENSION = [{"type": "default", "dimension": "none", "outputName": f"o{it}"} for it in range(16000)]
@@ -278,6 +296,11 @@ INPUTS = {
     "rows under an or of 15,000 ins of one value": (asked_of_texts(LONG_OR_OF_INS), 100000),
     "rows under an or of 14,000 bounds": (asked_of_texts(LONG_OR_OF_BOUNDS), 100000),
     "rows under an and of 12,000 selectors that don't hold": (asked_of_texts(LONG_AND_OF_NOTS), 100000),
+    "rows under an and of 11,000 bounds that don't hold": (asked_of_texts(LONG_AND_OF_DENIED_BOUNDS), 100000),
+    "rows under an and of 17,000 selectors": (asked_of_texts(LONG_AND_OF_SELECTORS), 100000),
+    "rows under an or of 8,000 intervals": (asked_of_texts(LONG_OR_OF_INTERVALS), 100000),
+    "rows under an and of 8,000 intervals": (asked_of_texts(LONG_AND_OF_INTERVALS), 100000),
+    "groups under a having of 9,990 comparisons that don't hold": (asked_of_texts(LONG_HAVING_OF_DENIED), 100000),
     "groups under a having of 14,000 comparisons": (long_having, 100000),
     "groups under a having of 17,000 dimension values": (asked_of_texts(LONG_HAVING_OF_TEXTS), 100000),
     "groups ordered by one column 240,000 times": (order_columns, 100000),
