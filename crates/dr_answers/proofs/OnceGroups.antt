@@ -13,8 +13,8 @@ use Rattle.dr_base.specs.Order.{key_cmp}
 use Rattle.dr_agg.specs.declared.kind.Kind.{Kind}
 use Rattle.dr_agg.specs.declared.kind.Kind.TheVariants.{Count, LongSum, LongMin, LongMax}
 use Rattle.dr_agg.specs.Combination.{fold_of}
-use Rattle.dr_filter.specs.Match.{value_at}
-use Rattle.dr_having.specs.Numbered.{numbers_by, texts_by}
+use Rattle.dr_predicate.specs.Match.{value_at}
+use Rattle.dr_outputs.specs.Numbered.{numbers_by, texts_by}
 use Rattle.dr_ask.specs.declared.aggregation.Aggregation.{Aggregation}
 use Rattle.dr_ask.specs.declared.column.Column.{Column}
 use Rattle.dr_ask.specs.declared.dimension.Dimension.{Dimension}

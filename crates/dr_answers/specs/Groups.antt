@@ -8,7 +8,7 @@ use Rattle.std.specs.Prelude.{◌&&◌, bytes_eq}
 use Rattle.dr_base.specs.declared.key.Key.{Key}
 use Rattle.dr_base.specs.declared.row.Row.{Row}
 use Rattle.dr_base.specs.Order.{key_cmp}
-use Rattle.dr_filter.specs.Match.{value_at}
+use Rattle.dr_predicate.specs.Match.{value_at}
 use Rattle.dr_gran.specs.Buckets as gran
 use Rattle.dr_ask.specs.declared.dimension.Dimension.{Dimension}
 use Rattle.dr_ask.specs.Asked.{Asked, AskedShape, timeseries, group_by, scan, dimensions_by}

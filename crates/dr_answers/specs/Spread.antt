@@ -1,6 +1,6 @@
 -- The groups of a query from those of the query that asks each dimension and each aggregation once.
 use Rattle.std.specs.Prelude.{List}
-use Rattle.dr_having.specs.Numbered.{numbers_by, texts_by}
+use Rattle.dr_outputs.specs.Numbered.{numbers_by, texts_by}
 use Rattle.dr_ask.specs.declared.aggregation.Aggregation.{Aggregation}
 use Rattle.dr_ask.specs.declared.dimension.Dimension.{Dimension}
 use Rattle.dr_ask.specs.Asked.{Asked, dimensions_by}

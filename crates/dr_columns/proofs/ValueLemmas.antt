@@ -6,8 +6,8 @@ use Rattle.std.proofs.lemmas.List.{length-map, get_or-map}
 use Rattle.std.proofs.lemmas.Option.{slice_get-get_or, slice_get_past, slice_get_within, get_or_from_slice_get, unwrap_or-slice_get}
 use Rattle.std.proofs.Math.ListN as same
 use Rattle.dr_agg.specs.Combination.{column}
-use Rattle.dr_filter.specs.declared.value_test.ValueTest.{ValueTest}
-use Rattle.dr_filter.specs.Match as match
+use Rattle.dr_predicate.specs.declared.value_test.ValueTest.{ValueTest}
+use Rattle.dr_predicate.specs.Match as match
 use Rattle.dr_image.specs.Table.{Table, no_column, row_at, value_at}
 use Rattle.dr_image.specs.Checked.{column_at}
 use Rattle.dr_columns.specs.Rows.{key_at, known_place}

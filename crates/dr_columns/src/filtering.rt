@@ -1,16 +1,18 @@
 ghost use Rattle.std.specs.Prelude.{◌≡◌, ◌<◌, ◌&&◌, ℕ, false, true, not, length, map, get_or, option_map, OnOk, IfOk};
 ghost use Rattle.dr_time.specs.Union.{union_holds};
 ghost use Rattle.dr_filter.specs.Condition.{condition_in, conditions_in, conditions_of, members_in, every_matches, some_matches};
-ghost use Rattle.dr_filter.specs.LookUps.{every_holds, is_held, some_holds};
-ghost use Rattle.dr_filter.specs.Match.{holds_of, passes};
+ghost use Rattle.dr_predicate.specs.LookUps.{every_holds, some_holds};
+ghost use Rattle.dr_filter.specs.Times.{is_held};
+ghost use Rattle.dr_predicate.specs.Match.{holds_of, passes};
 ghost use Rattle.dr_filter.specs.Together.{all_hold, one_holds};
 ghost use Rattle.dr_image.specs.Checked.{column_at};
 ghost use Rattle.dr_columns.specs.Rows.{Narrows, key_at, meets};
 
 use crate::cells::{known_place, value_at};
 use crate::telling::{all_true, drop_where, keep_true};
-use dr_filter::{DimensionTest, Filter, Together, ValueTest};
+use dr_filter::{Filter, Together};
 use dr_image::SegmentView;
+use dr_predicate::{DimensionTest, ValueTest};
 use dr_time::Union;
 use std::alloc::{AllocError, Global};
 
@@ -146,8 +148,8 @@ fn drop_one(
     requires { length told.old ≡ length view.now.times }
     ensures { OnOk result (Narrows (λ i. not (one_holds (key_at view.now i).time (key_at view.now i).dims together.now)) told.old told.new) }
 {
-    drop_passing(alloc, view, together.some_texts.look_ups(), told)?;
-    drop_passing(alloc, view, together.some_bounds.look_ups(), told)?;
+    drop_passing(alloc, view, together.some_text.look_ups(), told)?;
+    drop_passing(alloc, view, together.some_bound.look_ups(), told)?;
     drop_held(alloc, view, together.some_time.times(), told)?;
     Ok(())
 }
@@ -274,7 +276,7 @@ fn drop_held(
 
 // Makes false what is told of the rows whose time lies in none of some intervals, where there are any to ask.
 fn keep_held_all(view: &SegmentView<'_>, union: Option<&Union>, told: &mut [bool])
-    ensures { Narrows (λ i. is_held (key_at view.now i).time (option_map (λ u. u.now) union)) told.old told.new }
+    ensures { Narrows (λ i. is_held (key_at view.now i).time (option_map (λ u. u.now) union.entry)) told.old told.new }
 {
     match union {
         Some(union) => keep_held(view, union, told),

@@ -1,5 +1,5 @@
 ghost use Rattle.std.specs.Prelude.{◌≡◌, ◌<◌, ◌≤◌, ℕ, true, length, IfOk, OnOk};
-ghost use Rattle.dr_filter.specs.Match.{value_at};
+ghost use Rattle.dr_predicate.specs.Match.{value_at};
 ghost use Rattle.dr_answers.specs.Groups.{grouped_values};
 ghost use Rattle.dr_columns.specs.Rows.{key_at, number_in, same_numbers};
 

@@ -1,6 +1,3 @@
 pub mod DistinctValues
 pub mod Levels
-pub mod LookedUp
-pub mod Ends
-pub mod Reaching
-pub mod Gathering
+pub mod Members

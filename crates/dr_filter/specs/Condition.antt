@@ -2,13 +2,13 @@
 use Rattle.std.specs.Prelude.{ℕ, ℤ, Bool, true, false, not, ◌||◌, ◌&&◌, List, [], ◌∷◌, Option, Some, None, map, box_value}
 use Rattle.dr_time.specs.declared.interval.Interval.{Interval}
 use Rattle.dr_time.specs.Union.{union_holds}
-use Rattle.dr_filter.specs.declared.bound.Bound.{Bound}
-use Rattle.dr_filter.specs.declared.dimension_test.DimensionTest.{DimensionTest}
+use Rattle.dr_predicate.specs.declared.bound.Bound.{Bound}
+use Rattle.dr_predicate.specs.declared.dimension_test.DimensionTest.{DimensionTest}
 use Rattle.dr_filter.specs.declared.filter.Filter.{Filter, fold-Filter}
 use Rattle.dr_filter.specs.declared.filter.Filter.TheOpen.{Filter-F}
 use Rattle.dr_filter.specs.declared.together.Together.{Together}
-use Rattle.dr_filter.specs.LookUps.{as_range}
-use Rattle.dr_filter.specs.Match.{holds_of}
+use Rattle.dr_predicate.specs.LookUps.{as_range}
+use Rattle.dr_predicate.specs.Match.{holds_of}
 
 mutual
   -- a test of a dimension, intervals of time, all or one of some conditions, the opposite of one
@@ -67,7 +67,7 @@ members_of meant (None ∷ ms) (c ∷ cs) = c ∷ members_of meant ms cs
 -- all members of an `or`, where one of some texts, bounds and intervals is to hold or not all of others, or of an `and`, where none of the ones is to hold and all of the others
 abbrev pub members_in : Bool → Together → List Condition → List Condition
 members_in holds t cs =
-    members_of (selects holds) t.some_texts (members_of (ranges holds) t.some_bounds (members_of (during holds) t.some_time
+    members_of (selects holds) t.some_text (members_of (ranges holds) t.some_bound (members_of (during holds) t.some_time
     (members_of (selects (not holds)) t.every_text (members_of (ranges (not holds)) t.every_bound (members_of (during (not holds)) t.every_time cs)))))
 
 -- one level, with the filters inside already seen as conditions

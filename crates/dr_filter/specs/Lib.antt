@@ -1,10 +1,5 @@
 pub mod Refusal
-pub mod Within
-pub mod Ends
-pub mod Ranges
-pub mod Match
-pub mod LookUps
-pub mod Gathered
+pub mod Times
 pub mod Together
 pub mod Condition
 pub mod Members

@@ -4,11 +4,11 @@ use Rattle.serde_json.specs.Data.{Data, Members}
 use Rattle.dr_base.specs.Fields.{field, text_field, list_field}
 use Rattle.dr_base.specs.Reading.{◌>>=◌, passed}
 use Rattle.dr_schema.specs.declared.schema.Schema.{Schema}
-use Rattle.dr_filter.specs.declared.bounds.Bounds.{Bounds}
-use Rattle.dr_filter.specs.declared.dimension_test.DimensionTest.{DimensionTest}
+use Rattle.dr_predicate.specs.declared.bounds.Bounds.{Bounds}
+use Rattle.dr_predicate.specs.declared.dimension_test.DimensionTest.{DimensionTest}
 use Rattle.dr_filter.specs.declared.filter_error.FilterError.{FilterError}
 use Rattle.dr_filter.specs.declared.filter_error.FilterError.TheVariants.{Base, UnknownFilter}
-use Rattle.dr_filter.specs.declared.value_test.ValueTest.TheVariants.{Equals, Among, Within, Like}
+use Rattle.dr_predicate.specs.declared.value_test.ValueTest.TheVariants.{Equals, Among, Within, Like}
 use Rattle.dr_filter.specs.Fields.{dimension_of, strict_or_not, ordering_of, no_unlisted}
 use Rattle.dr_filter.specs.Values.{value_or_empty, value_or_none, distinct_values}
 

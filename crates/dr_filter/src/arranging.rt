@@ -2,18 +2,13 @@ ghost use Rattle.std.specs.Prelude.{◌≡◌, true, false, map, IfOk, MatchResu
 ghost use Rattle.dr_filter.specs.Condition.{condition_in, conditions_of, members_of, members_in, every, some, selects, ranges, during};
 ghost use Rattle.dr_filter.specs.Members.{PutsBehind};
 
-use crate::bound::Bound;
-use crate::dimension_test::DimensionTest;
-use crate::every_bound::EveryBound;
-use crate::every_text::EveryText;
 use crate::every_time::EveryTime;
 use crate::filter::Filter;
-use crate::selectors::Selectors;
-use crate::some_bound::SomeBound;
 use crate::some_time::SomeTime;
-use crate::text_test::TextTest;
 use crate::together::Together;
-use crate::value_test::ValueTest;
+use dr_predicate::{
+    Bound, DimensionTest, EveryBound, EveryText, SomeBound, SomeText, TextTest, ValueTest,
+};
 use dr_time::Union;
 use std::alloc::{AllocError, Global};
 
@@ -41,15 +36,15 @@ fn apart(
 ) -> Result<(Together, Vec<Filter>), AllocError>
     ensures { IfOk result (λ p. members_in holds p.0 (map condition_in p.1.items) ≡ map condition_in filters.items) }
 {
-    let (some_texts, rest) = texts_apart(alloc, filters, holds)?;
-    let (some_bounds, rest) = bounds_apart(alloc, rest, holds)?;
+    let (some_text, rest) = texts_apart(alloc, filters, holds)?;
+    let (some_bound, rest) = bounds_apart(alloc, rest, holds)?;
     let (some_time, rest) = times_apart(alloc, rest, holds)?;
     let (every_text, rest) = texts_apart(alloc, rest, !holds)?;
     let (every_bound, rest) = bounds_apart(alloc, rest, !holds)?;
     let (every_time, others) = times_apart(alloc, rest, !holds)?;
     let together = Together {
-        some_texts: Selectors::of(alloc, some_texts)?,
-        some_bounds: SomeBound::of(alloc, some_bounds)?,
+        some_text: SomeText::of(alloc, some_text)?,
+        some_bound: SomeBound::of(alloc, some_bound)?,
         some_time: SomeTime::of(alloc, some_time)?,
         every_text: EveryText::of(alloc, every_text)?,
         every_bound: EveryBound::of(alloc, every_bound)?,

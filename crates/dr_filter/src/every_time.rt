@@ -1,5 +1,6 @@
 ghost use Rattle.std.specs.Prelude.{◌≡◌, ◌<◌, ◌&&◌, ℤ, length, option_map, IfOk};
-ghost use Rattle.dr_filter.specs.LookUps.{tests_in, every_held, is_held, IsEveryTime};
+ghost use Rattle.dr_predicate.specs.LookUps.{tests_in};
+ghost use Rattle.dr_filter.specs.Times.{every_held, is_held, IsEveryTime};
 
 use dr_time::Union;
 use std::alloc::AllocError;
@@ -16,7 +17,7 @@ pub struct EveryTime {
 impl Model for EveryTime {
     ghost use Rattle.std.specs.Prelude.{List, Option};
     ghost use Rattle.dr_time.specs.declared.interval.Interval.{Interval};
-    ghost use Rattle.dr_filter.specs.LookUps.{IsEveryTime};
+    ghost use Rattle.dr_filter.specs.Times.{IsEveryTime};
 
     ghost Value = { List (Option (List Interval)) };
 

@@ -1,9 +1,9 @@
 ghost use Rattle.std.specs.Prelude.{◌≡◌, true, false, map};
 ghost use Rattle.dr_filter.specs.Condition.{condition_in, conditions_of, members_in, matches as matches_of, every_matches as every_matches_of, some_matches as some_matches_of};
 
-use crate::dimension_test::DimensionTest;
 use crate::together::Together;
 use dr_base::Text;
+use dr_predicate::DimensionTest;
 use dr_time::Union;
 
 /// A filter of rows, made for one schema (Apache Druid documentation, query filters): what is asked of the time and of the
@@ -27,12 +27,10 @@ pub enum Filter {
 impl Filter {
     /// Whether a row of this time, in milliseconds since the epoch, and these dimension values, in the order of the schema,
     /// meets the filter. It takes no memory, and time by the tests of the filter, each as
-    /// [`ValueTest::passes`](crate::ValueTest::passes), which says where a pattern takes more than the bytes of it and of the
-    /// value together. An `interval` takes time logarithmic in the number of its intervals. The selectors and `in`s among the
-    /// members of one `or` count as one test for each dimension that they name, and so do those of which one `and` has the `not`,
-    /// the bounds among the members of one `and`, and those of which one `or` has the `not`. The bounds among the members of one
-    /// `or`, and those of which one `and` has the `not`, are asked by one search for each dimension that they name, which takes
-    /// time by the bytes of its value times the logarithm of the number of these bounds.
+    /// [`ValueTest::passes`](dr_predicate::ValueTest::passes), which says where a pattern takes more than the bytes of it and of the
+    /// value together. An `interval` takes time logarithmic in the number of its intervals. Of the members of one `and` or `or`, and
+    /// of those of which it has the `not`, the selectors and `in`s count as one test for each dimension that they name, and so do
+    /// the bounds, each as one search by the bytes of the value times the logarithm of their number, and all intervals as one.
     #[cycle(matching)]
     pub fn matches(&self, time: i64, dims: &[Text]) -> bool
         ensures { result ≡ matches_of time dims.now (condition_in self.now) }

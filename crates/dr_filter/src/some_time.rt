@@ -1,5 +1,6 @@
 ghost use Rattle.std.specs.Prelude.{◌≡◌, IfOk};
-ghost use Rattle.dr_filter.specs.LookUps.{tests_in, some_held, IsSomeTime};
+ghost use Rattle.dr_predicate.specs.LookUps.{tests_in};
+ghost use Rattle.dr_filter.specs.Times.{some_held, IsSomeTime};
 
 use dr_time::Union;
 use std::alloc::{AllocError, Global};
@@ -16,7 +17,7 @@ pub struct SomeTime {
 impl Model for SomeTime {
     ghost use Rattle.std.specs.Prelude.{List, Option};
     ghost use Rattle.dr_time.specs.declared.interval.Interval.{Interval};
-    ghost use Rattle.dr_filter.specs.LookUps.{IsSomeTime};
+    ghost use Rattle.dr_filter.specs.Times.{IsSomeTime};
 
     ghost Value = { List (Option (List Interval)) };
 

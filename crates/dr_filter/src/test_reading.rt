@@ -2,13 +2,11 @@ ghost use Rattle.serde_json.specs.View.{view, members_view};
 ghost use Rattle.dr_filter.specs.Refusal.{Gives};
 ghost use Rattle.dr_filter.specs.TestOf.{selector_of, in_of, bounds_of, bound_of, like_of, test_by};
 
-use crate::bounds::Bounds;
-use crate::dimension_test::DimensionTest;
 use crate::fields::{dimension, no_unlisted, ordering, strict};
 use crate::filter_error::FilterError;
-use crate::value_test::ValueTest;
 use crate::values::{distinct_values, value_or_empty, value_or_none};
 use dr_base::{Text, field, list_field, text_field};
+use dr_predicate::{Bounds, DimensionTest, ValueTest};
 use dr_schema::Schema;
 use serde_json::{Map, Value};
 use std::alloc::Global;

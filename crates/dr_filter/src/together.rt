@@ -1,21 +1,18 @@
 ghost use Rattle.std.specs.Prelude.{◌≡◌};
 ghost use Rattle.dr_filter.specs.Together.{one_holds as one_holds_of, all_hold as all_hold_of};
 
-use crate::every_bound::EveryBound;
-use crate::every_text::EveryText;
 use crate::every_time::EveryTime;
-use crate::selectors::Selectors;
-use crate::some_bound::SomeBound;
 use crate::some_time::SomeTime;
 use dr_base::Text;
+use dr_predicate::{EveryBound, EveryText, SomeBound, SomeText};
 
 /// The members of an `and` or an `or` that are asked together: of each dimension, and of the time.
 #[derive(Drop)]
 pub struct Together {
     /// The `selector`s and `in`s of an `or`, or those of which an `and` has the `not`.
-    pub some_texts: Selectors,
+    pub some_text: SomeText,
     /// The `bound`s of an `or`, or those of which an `and` has the `not`.
-    pub some_bounds: SomeBound,
+    pub some_bound: SomeBound,
     /// The `interval`s of an `or`, or those of which an `and` has the `not`.
     pub some_time: SomeTime,
     /// The `selector`s and `in`s of an `and`, or those of which an `or` has the `not`.
@@ -29,13 +26,11 @@ pub struct Together {
 impl Together {
     /// Whether one of the texts is the value of its dimension in a row of this time, in milliseconds since the epoch, and these
     /// dimension values, or one of the bounds or of the intervals holds of which one is to hold. It takes no memory, and time as
-    /// [`Selectors::hold_of`], [`SomeBound::hold_of`] and [`SomeTime::holds`].
+    /// [`SomeText::hold_of`], [`SomeBound::hold_of`] and [`SomeTime::holds`].
     pub fn one_holds(&self, time: i64, dims: &[Text]) -> bool
         ensures { result ≡ one_holds_of time dims.now self.now }
     {
-        self.some_texts.hold_of(dims)
-            || self.some_bounds.hold_of(dims)
-            || self.some_time.holds(time)
+        self.some_text.hold_of(dims) || self.some_bound.hold_of(dims) || self.some_time.holds(time)
     }
 
     /// Whether all the texts are the values of their dimensions, and all the bounds and all the intervals hold, that are all to

@@ -6,7 +6,7 @@ use Rattle.dr_ask.specs.declared.dimension.Dimension.{Dimension}
 use Rattle.dr_ask.specs.Firsts.{numbers_of, is_same_aggregation}
 use Rattle.dr_answers.specs.Given.{is_kept}
 use Rattle.dr_having.specs.Condition.{Condition, meets}
-use Rattle.dr_having.specs.Numbered.{numbers_by}
+use Rattle.dr_outputs.specs.Numbered.{numbers_by}
 use Rattle.dr_finish.specs.RowOrder.{spread_row}
 
 module _ (f g : Row → Bool) (same : (r : Row) → f r ≡ g r) where

@@ -8,8 +8,8 @@ use Rattle.std.specs.declared.cmp.Ordering.{Ordering}
 use Rattle.std.specs.declared.cmp.Ordering.TheVariants.{Less, Equal, Greater}
 use Rattle.std.proofs.lemmas.List.{take-map, map-append, reverse-append, length-append, length-map, take_more}
 use Rattle.std.proofs.lemmas.List.Folds.{list_any-append}
-use Rattle.dr_having.specs.Meeting.{number_at, text_at}
-use Rattle.dr_having.specs.Numbered.{numbers_by, texts_by}
+use Rattle.dr_outputs.specs.Numbered.{number_at, text_at}
+use Rattle.dr_outputs.specs.Numbered.{numbers_by, texts_by}
 use Rattle.dr_base.specs.declared.row.Row.{Row}
 use Rattle.dr_ask.specs.declared.aggregation.Aggregation.{Aggregation}
 use Rattle.dr_ask.specs.declared.dimension.Dimension.{Dimension}

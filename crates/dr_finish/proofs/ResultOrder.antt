@@ -5,7 +5,7 @@ use Rattle.std.specs.declared.cmp.Ordering.TheVariants.{Less, Equal, Greater}
 use Rattle.std.specs.Ordering.{ordering_reverse}
 use Rattle.std.specs.Cmp.{IsTotalOrder, on_total, then_total, back_total, int_cmp_total}
 use Rattle.std.specs.Cmp.Lexicographic.{lists_total, nat_list_cmp_total}
-use Rattle.dr_having.specs.Meeting.{number_at, text_at}
+use Rattle.dr_outputs.specs.Numbered.{number_at, text_at}
 use Rattle.dr_order.specs.declared.output.Output.{Output}
 use Rattle.dr_order.specs.declared.output.Output.TheVariants.{Dimension, Aggregation}
 use Rattle.dr_order.specs.declared.order_column.OrderColumn.{OrderColumn}

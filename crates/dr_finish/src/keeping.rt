@@ -5,7 +5,8 @@ ghost use Rattle.dr_finish.specs.RowOrder.{spread_row};
 
 use dr_ask::{Aggregations, GroupBy};
 use dr_base::Row;
-use dr_having::{Having, OutputNumbers, OutputTexts};
+use dr_having::Having;
+use dr_outputs::{OutputNumbers, OutputTexts};
 use std::alloc::AllocError;
 
 /// The groups that a `having` keeps, as they come; all of them where there is none. No group is copied. The only error is

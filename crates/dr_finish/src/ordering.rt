@@ -3,13 +3,13 @@ ghost use Rattle.std.specs.Cmp.Lexicographic.{slice_cmp};
 ghost use Rattle.std.specs.List.Sorted.{IsSortedBy, IsStableBy};
 ghost use Rattle.std.specs.Ordering.{is_lt, nat_cmp, ordering_then};
 ghost use Rattle.dr_ask.specs.Firsts.{numbers_of, is_same_dimension};
-ghost use Rattle.dr_having.specs.Numbered.{texts_by};
+ghost use Rattle.dr_outputs.specs.Numbered.{texts_by};
 ghost use Rattle.dr_order.specs.Order.{groups_cmp};
 ghost use Rattle.dr_finish.specs.RowOrder.{numbers_from, row_cmp, spread_row};
 
 use dr_ask::{Aggregations, Dimensions, GroupBy};
 use dr_base::{Row, Text};
-use dr_having::{OutputNumbers, OutputTexts, text_at};
+use dr_outputs::{OutputNumbers, OutputTexts, text_at};
 use std::alloc::AllocError;
 use std::cmp::Ordering;
 

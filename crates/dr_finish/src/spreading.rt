@@ -1,13 +1,13 @@
 ghost use Rattle.std.specs.Prelude.{◌≡◌, [], true, IfOk, map};
-ghost use Rattle.dr_having.specs.Meeting.{text_at};
-ghost use Rattle.dr_having.specs.Numbered.{numbers_by, texts_by};
+ghost use Rattle.dr_outputs.specs.Numbered.{text_at};
+ghost use Rattle.dr_outputs.specs.Numbered.{numbers_by, texts_by};
 ghost use Rattle.dr_answers.specs.Spread.{spread_over};
 ghost use Rattle.dr_finish.specs.RowOrder.{numbers_from, spread_row};
 
 use dr_answers::ResultRow;
 use dr_ask::{Aggregations, Dimensions};
 use dr_base::{Numbers, Row, Text, Texts};
-use dr_having::number_at;
+use dr_outputs::number_at;
 use std::alloc::{AllocError, Global};
 
 /// Rows of a partial result as groups, each with a value for each dimension and each aggregation. Where these differ, nothing is

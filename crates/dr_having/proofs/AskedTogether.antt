@@ -11,7 +11,8 @@ use Rattle.dr_having.specs.Bounds.{lies_in, reaches, narrowed}
 use Rattle.dr_having.specs.Compared.{every_holds, some_holds, lies_in_at, lie_in_all, reaches_at, reach_some, IsEveryOf, IsSomeOf}
 use Rattle.dr_having.specs.Condition.{Condition, compared, selected, conditions_of, members_of, members_in, meets, meets_every, meets_some}
 use Rattle.dr_having.specs.LookUps.{some_selected, every_selected}
-use Rattle.dr_having.specs.Meeting.{compares, meets_value, meets_dimension, number_at}
+use Rattle.dr_having.specs.Meeting.{compares, meets_value, meets_dimension}
+use Rattle.dr_outputs.specs.Numbered.{number_at}
 use Rattle.dr_having.specs.Together.{one_holds, all_hold}
 use Rattle.dr_having.proofs.Narrowing.{lies_in-narrowed, place-narrowed}
 use Rattle.dr_base.proofs.Truths.{and_regroups, and_swaps, and_moves, and_ends, or_regroups, or_swaps, or_moves, or_ends, neither_and}
@@ -123,13 +124,13 @@ module _ (dims : List (List ℕ)) (values : List ℤ) where
         let texts = members_of (selected false) t.every_text cs in
         let denied = members_of (compared false) t.every_comparison texts in
         let left = meets_some dims values (conditions_of cs) in
-        some-comparisons t.some_comparisons (members_of (selected true) t.some_texts denied)
-        ∙ ap (λ b. some_holds values t.some_comparisons || b)
-        (some-texts t.some_texts denied
-        ∙ ap (λ b. some_selected dims t.some_texts || b)
+        some-comparisons t.some_comparison (members_of (selected true) t.some_text denied)
+        ∙ ap (λ b. some_holds values t.some_comparison || b)
+        (some-texts t.some_text denied
+        ∙ ap (λ b. some_selected dims t.some_text || b)
         (some-denied t.every_comparison texts ∙ ap (λ b. not (every_holds values t.every_comparison) || b) (some-texts_denied t.every_text cs)
         ∙ either_not (every_holds values t.every_comparison) (every_selected dims t.every_text) left))
-        ∙ or_regroups (some_holds values t.some_comparisons) (some_selected dims t.some_texts) (not (all_hold dims values t) || left)
+        ∙ or_regroups (some_holds values t.some_comparison) (some_selected dims t.some_text) (not (all_hold dims values t) || left)
 
     -- every member of an `and` is met where none of those denied together is, all that are asked together are, and all the others
     every-members : meets_every dims values (conditions_of (members_in false t cs)) ≡ (not (one_holds dims values t) && (all_hold dims values t && meets_every dims values (conditions_of cs)))
@@ -137,13 +138,13 @@ module _ (dims : List (List ℕ)) (values : List ℤ) where
         let texts = members_of (selected true) t.every_text cs in
         let asked = members_of (compared true) t.every_comparison texts in
         let left = meets_every dims values (conditions_of cs) in
-        every-denied t.some_comparisons (members_of (selected false) t.some_texts asked)
-        ∙ ap (λ b. not (some_holds values t.some_comparisons) && b)
-        (every-texts_denied t.some_texts asked
-        ∙ ap (λ b. not (some_selected dims t.some_texts) && b)
+        every-denied t.some_comparison (members_of (selected false) t.some_text asked)
+        ∙ ap (λ b. not (some_holds values t.some_comparison) && b)
+        (every-texts_denied t.some_text asked
+        ∙ ap (λ b. not (some_selected dims t.some_text) && b)
         (every-comparisons t.every_comparison texts ∙ ap (λ b. every_holds values t.every_comparison && b) (every-texts t.every_text cs)
         ∙ and_regroups (every_holds values t.every_comparison) (every_selected dims t.every_text) left))
-        ∙ neither_and (some_holds values t.some_comparisons) (some_selected dims t.some_texts) (all_hold dims values t && left)
+        ∙ neither_and (some_holds values t.some_comparison) (some_selected dims t.some_text) (all_hold dims values t && left)
 
     pub some-one : one_holds dims values t ≡ true → meets_some dims values (conditions_of (members_in true t cs)) ≡ true
     some-one one = some-members ∙ ap (λ b. b || (not (all_hold dims values t) || meets_some dims values (conditions_of cs))) one

@@ -4,4 +4,3 @@ pub mod AskedTogether
 pub mod Members
 pub mod Placing
 pub mod LookedUp
-pub mod Places

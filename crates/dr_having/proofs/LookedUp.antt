@@ -5,7 +5,8 @@ use Rattle.std.proofs.lemmas.List.Folds.{list_any-append}
 use Rattle.dr_having.specs.declared.dimension_value.DimensionValue.{DimensionValue}
 use Rattle.dr_having.specs.declared.text_look_up.TextLookUp.{TextLookUp}
 use Rattle.dr_having.specs.LookUps.{is_found, found_in_some, found_in_all, IsLookUpOf}
-use Rattle.dr_having.specs.Meeting.{meets_dimension, text_at}
+use Rattle.dr_having.specs.Meeting.{meets_dimension}
+use Rattle.dr_outputs.specs.Numbered.{text_at}
 use Rattle.dr_having.proofs.AskedTogether.{list_any-set, list_all-set}
 use Rattle.dr_base.proofs.Truths.{or_ends}
 

@@ -5,8 +5,9 @@ use Rattle.dr_having.specs.declared.group_value.GroupValue.{GroupValue}
 use Rattle.dr_having.specs.declared.having.Having.{Having}
 use Rattle.dr_having.specs.declared.together.Together.{Together}
 use Rattle.dr_having.specs.Condition.{condition_in, Condition, Conditions, aggregation, dimension, every, some, opposite, no_conditions, condition, conditions_of, members_of, members_in, compared, selected, meets, meets_every, meets_some}
-use Rattle.dr_having.specs.Meeting.{compares, number_at}
-use Rattle.dr_having.specs.Numbered.{numbers_by}
+use Rattle.dr_having.specs.Meeting.{compares}
+use Rattle.dr_outputs.specs.Numbered.{number_at}
+use Rattle.dr_outputs.specs.Numbered.{numbers_by}
 use Rattle.dr_having.specs.Placed.{place_in, value_placed, members_placed, together_placed, placed, all_placed, HaveNumbers}
 
 -- ---- members
@@ -42,10 +43,10 @@ module _ (places : List ℕ) where
   in-placed holds t cs =
       let texts = members_of (selected (not holds)) t.every_text cs in
       let every = members_of (compared (not holds)) t.every_comparison texts in
-      members-placed (compared holds) (value_placed places) (compared-placed holds) t.some_comparisons (members_of (selected holds) t.some_texts every)
-      ∙ ap (members_of (compared holds) (members_placed places t.some_comparisons))
-      (members-placed (selected holds) (λ d. d) (selected-placed holds) t.some_texts every
-      ∙ (λ k. members_of (selected holds) (same_members t.some_texts k)
+      members-placed (compared holds) (value_placed places) (compared-placed holds) t.some_comparison (members_of (selected holds) t.some_text every)
+      ∙ ap (members_of (compared holds) (members_placed places t.some_comparison))
+      (members-placed (selected holds) (λ d. d) (selected-placed holds) t.some_text every
+      ∙ (λ k. members_of (selected holds) (same_members t.some_text k)
       ((members-placed (compared (not holds)) (value_placed places) (compared-placed (not holds)) t.every_comparison texts
       ∙ ap (members_of (compared (not holds)) (members_placed places t.every_comparison))
       (members-placed (selected (not holds)) (λ d. d) (selected-placed (not holds)) t.every_text cs

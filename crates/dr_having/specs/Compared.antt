@@ -5,7 +5,8 @@ use Rattle.dr_having.specs.declared.every_bound.EveryBound.{EveryBound}
 use Rattle.dr_having.specs.declared.group_value.GroupValue.{GroupValue}
 use Rattle.dr_having.specs.declared.some_bound.SomeBound.{SomeBound}
 use Rattle.dr_having.specs.Bounds.{lies_in, reaches}
-use Rattle.dr_having.specs.Meeting.{meets_value, number_at}
+use Rattle.dr_having.specs.Meeting.{meets_value}
+use Rattle.dr_outputs.specs.Numbered.{number_at}
 
 -- a group of these values meets all the comparisons among some members, or one of them
 abbrev pub every_holds : List ℤ → List (Option GroupValue) → Bool

@@ -60,7 +60,7 @@ selected false c = opposite (dimension c)
 -- all members of an `or`, where one of some comparisons and texts is to hold or not all of others, or of an `and`, where none of the ones is to hold and all of the others
 abbrev pub members_in : Bool → Together → List Condition → List Condition
 members_in holds t cs =
-    members_of (compared holds) t.some_comparisons (members_of (selected holds) t.some_texts
+    members_of (compared holds) t.some_comparison (members_of (selected holds) t.some_text
     (members_of (compared (not holds)) t.every_comparison (members_of (selected (not holds)) t.every_text cs)))
 
 -- one level, with the conditions inside already seen

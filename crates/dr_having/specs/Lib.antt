@@ -1,13 +1,11 @@
 pub mod Refusal
 pub mod Meeting
-pub mod Numbered
 pub mod Bounds
 pub mod Compared
 pub mod LookUps
 pub mod Together
 pub mod Condition
 pub mod Members
-pub mod Places
 pub mod LeafOf
 pub mod Placed
 pub mod HavingOf

@@ -3,7 +3,8 @@ use Rattle.std.specs.Prelude.{◌≡◌, ℕ, ◌<◌, Bool, true, false, ◌||�
 use Rattle.std.specs.List.{list_any, list_all}
 use Rattle.dr_having.specs.declared.dimension_value.DimensionValue.{DimensionValue}
 use Rattle.dr_having.specs.declared.text_look_up.TextLookUp.{TextLookUp}
-use Rattle.dr_having.specs.Meeting.{meets_dimension, text_at}
+use Rattle.dr_having.specs.Meeting.{meets_dimension}
+use Rattle.dr_outputs.specs.Numbered.{text_at}
 
 -- a group of these dimension values meets one of the conditions among some members
 abbrev pub some_selected : List (List ℕ) → List (Option DimensionValue) → Bool

@@ -1,6 +1,7 @@
 -- Which groups meet a condition on one of their values (Apache Druid documentation, groupBy queries: having).
-use Rattle.std.specs.Prelude.{ℕ, ℤ, pos, Bool, List, [], bytes_eq, int_lt, slice_get, unwrap_or}
+use Rattle.std.specs.Prelude.{ℕ, ℤ, Bool, List, bytes_eq, int_lt}
 use Rattle.std.specs.Ordering.{int_eq}
+use Rattle.dr_outputs.specs.Numbered.{number_at, text_at}
 use Rattle.dr_having.specs.declared.comparison.Comparison.{Comparison}
 use Rattle.dr_having.specs.declared.comparison.Comparison.TheVariants.{Equal, Greater, Less}
 use Rattle.dr_having.specs.declared.group_value.GroupValue.{GroupValue}
@@ -12,16 +13,8 @@ compares Equal value other = int_eq value other
 compares Greater value other = int_lt other value
 compares Less value other = int_lt value other
 
--- the value of an aggregation, 0 where there is none
-abbrev pub number_at : ℕ → List ℤ → ℤ
-number_at place values = unwrap_or (slice_get values place) (pos 0)
-
 abbrev pub meets_value : GroupValue → List ℤ → Bool
 meets_value c values = compares c.comparison (number_at c.place values) c.value
-
--- the value of a dimension, the empty text where there is none
-abbrev pub text_at : ℕ → List (List ℕ) → List ℕ
-text_at place dims = unwrap_or (slice_get dims place) []
 
 -- dimSelector
 abbrev pub meets_dimension : DimensionValue → List (List ℕ) → Bool

@@ -16,8 +16,8 @@ members_placed places ms = map (option_map (value_placed places)) ms
 
 abbrev pub together_placed : List ℕ → Together → Together
 together_placed places t = record {
-  some_comparisons = members_placed places t.some_comparisons;
-  some_texts = t.some_texts;
+  some_comparison = members_placed places t.some_comparison;
+  some_text = t.some_text;
   every_comparison = members_placed places t.every_comparison;
   every_text = t.every_text;
 }

@@ -6,7 +6,7 @@ use Rattle.dr_having.specs.LookUps.{some_selected, every_selected}
 
 -- the group meets one of the comparisons of which one is to hold, or one of the conditions on dimensions
 abbrev pub one_holds : List (List ℕ) → List ℤ → Together → Bool
-one_holds dims values t = some_holds values t.some_comparisons || some_selected dims t.some_texts
+one_holds dims values t = some_holds values t.some_comparison || some_selected dims t.some_text
 
 -- it meets all the comparisons and all the conditions on dimensions that are all to hold
 abbrev pub all_hold : List (List ℕ) → List ℤ → Together → Bool

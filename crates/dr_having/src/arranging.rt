@@ -7,8 +7,8 @@ use crate::every_comparison::EveryComparison;
 use crate::every_text::EveryText;
 use crate::group_value::GroupValue;
 use crate::having::Having;
-use crate::selectors::Selectors;
 use crate::some_comparison::SomeComparison;
+use crate::some_text::SomeText;
 use crate::together::Together;
 use std::alloc::{AllocError, Global};
 
@@ -36,13 +36,13 @@ fn apart(
 ) -> Result<(Together, Vec<Having>), AllocError>
     ensures { IfOk result (λ p. members_in holds p.0 (map condition_in p.1.items) ≡ map condition_in conditions.items) }
 {
-    let (some_comparisons, rest) = comparisons_apart(alloc, conditions, holds)?;
-    let (some_texts, rest) = selectors_apart(alloc, rest, holds)?;
+    let (some_comparison, rest) = comparisons_apart(alloc, conditions, holds)?;
+    let (some_text, rest) = selectors_apart(alloc, rest, holds)?;
     let (every_comparison, rest) = comparisons_apart(alloc, rest, !holds)?;
     let (every_text, others) = selectors_apart(alloc, rest, !holds)?;
     let together = Together {
-        some_comparisons: SomeComparison::of(alloc, some_comparisons)?,
-        some_texts: Selectors::of(alloc, some_texts)?,
+        some_comparison: SomeComparison::of(alloc, some_comparison)?,
+        some_text: SomeText::of(alloc, some_text)?,
         every_comparison: EveryComparison::of(alloc, every_comparison)?,
         every_text: EveryText::of(alloc, every_text)?,
     };

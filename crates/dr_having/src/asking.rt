@@ -1,6 +1,6 @@
 ghost use Rattle.std.specs.Prelude.{◌≡◌, ℕ, ℤ, List, map, slice_get, IfOk};
 ghost use Rattle.dr_having.specs.Condition.{condition_in, meets};
-ghost use Rattle.dr_having.specs.Numbered.{numbers_by};
+ghost use Rattle.dr_outputs.specs.Numbered.{numbers_by};
 ghost use Rattle.dr_having.specs.Placed.{placed, HaveNumbers};
 
 use crate::having::Having;

@@ -1,8 +1,8 @@
 ghost use Rattle.std.specs.Prelude.{◌≡◌, IfOk};
 ghost use Rattle.dr_having.specs.Meeting.{meets_dimension};
 
-use crate::output_texts::OutputTexts;
 use dr_base::Text;
+use dr_outputs::OutputTexts;
 use std::alloc::AllocError;
 
 /// A condition on the value of a dimension: its place among the dimensions of the query, from 0, and the text that it is.

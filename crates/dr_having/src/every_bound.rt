@@ -1,11 +1,12 @@
 ghost use Rattle.std.specs.Prelude.{◌≡◌, ℤ, List};
 ghost use Rattle.dr_having.specs.Bounds.{lies_in, narrowed, with_number};
-ghost use Rattle.dr_having.specs.Meeting.{meets_value, number_at as number_at_of};
+ghost use Rattle.dr_having.specs.Meeting.{meets_value};
+ghost use Rattle.dr_outputs.specs.Numbered.{number_at as number_at_of};
 
 use crate::comparison::Comparison;
 use crate::extremes::{higher, is_above, is_below, is_number, lower};
 use crate::group_value::GroupValue;
-use crate::output_numbers::OutputNumbers;
+use dr_outputs::OutputNumbers;
 
 /// What comparisons of one aggregation ask together: its value is above one number, below another, and is a third, as far as
 /// there are such numbers, and none is where two of the numbers that it shall be differ.

@@ -5,8 +5,8 @@ ghost use Rattle.dr_having.specs.Placed.{members_placed};
 
 use crate::every_bound::EveryBound;
 use crate::group_value::GroupValue;
-use crate::output_numbers::OutputNumbers;
 use crate::placed_members::placed_members;
+use dr_outputs::OutputNumbers;
 use indexmap::IndexMap;
 use std::alloc::{AllocError, Global};
 use std::marker::Model;

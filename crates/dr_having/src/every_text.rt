@@ -3,9 +3,9 @@ ghost use Rattle.dr_having.specs.LookUps.{every_selected, found_in_all, AreAllLo
 ghost use Rattle.dr_having.specs.Meeting.{meets_dimension};
 
 use crate::dimension_value::DimensionValue;
-use crate::output_texts::OutputTexts;
-use crate::selectors::{copied, place_among};
+use crate::some_text::{copied, place_among};
 use crate::text_look_up::TextLookUp;
+use dr_outputs::OutputTexts;
 use indexmap::IndexMap;
 use std::alloc::{AllocError, Global};
 use std::marker::Model;

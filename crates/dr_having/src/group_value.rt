@@ -3,7 +3,7 @@ ghost use Rattle.dr_having.specs.Meeting.{meets_value};
 ghost use Rattle.dr_having.specs.Placed.{place_in as place_in_of, value_placed};
 
 use crate::comparison::Comparison;
-use crate::output_numbers::OutputNumbers;
+use dr_outputs::OutputNumbers;
 
 /// A condition on the value of an aggregation: its place among the aggregations of the query, from 0, how it is compared,
 /// and with which number.

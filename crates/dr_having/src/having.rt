@@ -3,9 +3,8 @@ ghost use Rattle.dr_having.specs.Condition.{condition_in, conditions_of, members
 
 use crate::dimension_value::DimensionValue;
 use crate::group_value::GroupValue;
-use crate::output_numbers::OutputNumbers;
-use crate::output_texts::OutputTexts;
 use crate::together::Together;
+use dr_outputs::{OutputNumbers, OutputTexts};
 
 /// A condition on the groups of a groupBy (Apache Druid documentation, groupBy queries: having), made for the outputs of one
 /// query. Contracts see it as the condition that it stands for, `condition_in`.

@@ -7,8 +7,8 @@ use crate::comparison::Comparison;
 use crate::dimension_value::DimensionValue;
 use crate::group_value::GroupValue;
 use crate::having_error::HavingError;
-use crate::output_names::OutputNames;
 use dr_base::{Text, field, first_unlisted, int_field, text_field, text_value};
+use dr_outputs::OutputNames;
 use serde_json::{Map, Value};
 use std::alloc::Global;
 

@@ -9,8 +9,8 @@ use crate::arranging::{every_of, some_of};
 use crate::having::Having;
 use crate::having_error::HavingError;
 use crate::leaf_reading::{aggregation, comparison_of, dimension, no_unlisted};
-use crate::output_names::OutputNames;
 use dr_base::{Text, list_field, object, required, text_field};
+use dr_outputs::OutputNames;
 use serde_json::{Map, Value};
 use std::alloc::Global;
 

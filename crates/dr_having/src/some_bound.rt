@@ -1,12 +1,13 @@
 ghost use Rattle.std.specs.Prelude.{◌≡◌, ◌||◌, ℤ, List, OnOk, IfOk};
 ghost use Rattle.dr_having.specs.Bounds.{reaches};
-ghost use Rattle.dr_having.specs.Meeting.{compares, meets_value, number_at as number_at_of};
+ghost use Rattle.dr_having.specs.Meeting.{compares, meets_value};
+ghost use Rattle.dr_outputs.specs.Numbered.{number_at as number_at_of};
 
 use crate::comparison::Comparison;
 use crate::extremes::{goes_above, goes_below, higher, lower};
 use crate::group_value::GroupValue;
 use crate::number_set::NumberSet;
-use crate::output_numbers::OutputNumbers;
+use dr_outputs::OutputNumbers;
 use std::alloc::{AllocError, Global};
 
 /// What one of some comparisons of one aggregation lets through: its value is above one number, below another, or among some.

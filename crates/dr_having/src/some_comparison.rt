@@ -4,9 +4,9 @@ ghost use Rattle.dr_having.specs.Meeting.{meets_value};
 ghost use Rattle.dr_having.specs.Placed.{members_placed};
 
 use crate::group_value::GroupValue;
-use crate::output_numbers::OutputNumbers;
 use crate::placed_members::placed_members;
 use crate::some_bound::SomeBound;
+use dr_outputs::OutputNumbers;
 use indexmap::IndexMap;
 use std::alloc::{AllocError, Global};
 use std::marker::Model;

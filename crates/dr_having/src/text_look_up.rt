@@ -4,8 +4,8 @@ ghost use Rattle.dr_having.specs.LookUps.{is_found};
 ghost use Rattle.dr_having.specs.Meeting.{meets_dimension};
 
 use crate::dimension_value::DimensionValue;
-use crate::output_texts::OutputTexts;
 use dr_dict::TextSet;
+use dr_outputs::OutputTexts;
 use std::alloc::{AllocError, Global};
 
 /// The texts that some conditions on the value of one dimension name, and the place of the dimension.

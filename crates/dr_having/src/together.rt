@@ -4,19 +4,18 @@ ghost use Rattle.dr_having.specs.Together.{one_holds as one_holds_of, all_hold a
 
 use crate::every_comparison::EveryComparison;
 use crate::every_text::EveryText;
-use crate::output_numbers::OutputNumbers;
-use crate::output_texts::OutputTexts;
-use crate::selectors::Selectors;
 use crate::some_comparison::SomeComparison;
+use crate::some_text::SomeText;
+use dr_outputs::{OutputNumbers, OutputTexts};
 use std::alloc::{AllocError, Global};
 
 /// The members of an `and` or an `or` that are asked together, output by output.
 #[derive(Debug, Drop)]
 pub struct Together {
     /// The comparisons of an `or`, or those of which an `and` has the `not`.
-    pub some_comparisons: SomeComparison,
+    pub some_comparison: SomeComparison,
     /// The `dimSelector`s of an `or`, or those of which an `and` has the `not`.
-    pub some_texts: Selectors,
+    pub some_text: SomeText,
     /// The comparisons of an `and`, or those of which an `or` has the `not`.
     pub every_comparison: EveryComparison,
     /// The `dimSelector`s of an `and`, or those of which an `or` has the `not`.
@@ -25,11 +24,11 @@ pub struct Together {
 
 impl Together {
     /// Whether a group with these values meets one of the comparisons of which one is to hold, or one of the `dimSelector`s. It
-    /// takes no memory, and expected time as [`SomeComparison::hold_of`] and [`Selectors::hold_of`].
+    /// takes no memory, and expected time as [`SomeComparison::hold_of`] and [`SomeText::hold_of`].
     pub fn one_holds(&self, dims: &OutputTexts<'_>, values: &OutputNumbers<'_>) -> bool
         ensures { result ≡ one_holds_of dims.now values.now self.now }
     {
-        self.some_comparisons.hold_of(values) || self.some_texts.hold_of(dims)
+        self.some_comparison.hold_of(values) || self.some_text.hold_of(dims)
     }
 
     /// Whether a group with these values meets all the comparisons and all the `dimSelector`s that are all to hold. It takes no
@@ -45,8 +44,8 @@ impl Together {
         ensures { IfOk result (λ t. t ≡ together_placed places.now self.now) }
     {
         Ok(Together {
-            some_comparisons: self.some_comparisons.placed(alloc, places)?,
-            some_texts: self.some_texts.copy(alloc)?,
+            some_comparison: self.some_comparison.placed(alloc, places)?,
+            some_text: self.some_text.copy(alloc)?,
             every_comparison: self.every_comparison.placed(alloc, places)?,
             every_text: self.every_text.copy(alloc)?,
         })

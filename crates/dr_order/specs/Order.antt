@@ -5,7 +5,7 @@ use Rattle.std.specs.Ordering.{nat_cmp, int_cmp, ordering_then}
 use Rattle.std.specs.Cmp.Lexicographic.{slice_cmp}
 use Rattle.std.specs.declared.cmp.Ordering.{Ordering}
 use Rattle.std.specs.declared.cmp.Ordering.TheVariants.{Less, Equal, Greater}
-use Rattle.dr_having.specs.Meeting.{number_at, text_at}
+use Rattle.dr_outputs.specs.Numbered.{number_at, text_at}
 use Rattle.dr_order.specs.declared.output.Output.{Output}
 use Rattle.dr_order.specs.declared.output.Output.TheVariants.{Dimension, Aggregation}
 use Rattle.dr_order.specs.declared.order_column.OrderColumn.{OrderColumn}

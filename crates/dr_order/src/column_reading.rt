@@ -11,7 +11,7 @@ use crate::order_columns::OrderColumns;
 use crate::order_error::OrderError;
 use crate::output::Output;
 use dr_base::{Text, field, list_value, object, text_field, text_value, wrong_kind};
-use dr_having::OutputNames;
+use dr_outputs::OutputNames;
 use serde_json::{Map, Value};
 use std::alloc::Global;
 

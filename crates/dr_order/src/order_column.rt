@@ -2,7 +2,7 @@ ghost use Rattle.std.specs.Prelude.{◌≡◌};
 ghost use Rattle.dr_order.specs.Order.{column_cmp, directed as directed_of};
 
 use crate::output::Output;
-use dr_having::{OutputNumbers, OutputTexts};
+use dr_outputs::{OutputNumbers, OutputTexts};
 use std::cmp::Ordering;
 
 /// A column that groups are ordered by.

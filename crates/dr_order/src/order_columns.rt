@@ -5,7 +5,7 @@ ghost use Rattle.dr_order.specs.Order.{columns_cmp};
 
 use crate::order_column::OrderColumn;
 use crate::output::Output;
-use dr_having::{OutputNumbers, OutputTexts};
+use dr_outputs::{OutputNumbers, OutputTexts};
 use indexmap::IndexMap;
 use std::alloc::{AllocError, Global};
 use std::cmp::Ordering;

@@ -1,7 +1,7 @@
 ghost use Rattle.std.specs.Prelude.{◌≡◌, [], true, IfOk, OnOk, option_map, slice_get, unwrap_or};
 ghost use Rattle.dr_time.specs.Instant.{IsInstant};
 ghost use Rattle.dr_filter.specs.Condition.{condition_in};
-ghost use Rattle.dr_filter.specs.Match.{value_at};
+ghost use Rattle.dr_predicate.specs.Match.{value_at};
 ghost use Rattle.dr_ask.specs.Asked.{dimensions_by};
 ghost use Rattle.dr_ask.specs.Once.{asked_once};
 ghost use Rattle.dr_answers.specs.Groups.{bucket, grouped_values};

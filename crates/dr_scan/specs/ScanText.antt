@@ -8,7 +8,7 @@ use Rattle.serde_json.specs.Written.{compact_text}
 use Rattle.dr_agg.specs.Combination.{column}
 use Rattle.dr_answers.specs.Answer.{dimension_data}
 use Rattle.dr_base.specs.declared.row.Row.{Row}
-use Rattle.dr_filter.specs.Match.{value_at}
+use Rattle.dr_predicate.specs.Match.{value_at}
 use Rattle.dr_ask.specs.declared.column_source.ColumnSource.{ColumnSource}
 use Rattle.dr_ask.specs.declared.column_source.ColumnSource.TheVariants.{Time, Dimension, Metric, Unknown}
 use Rattle.dr_ask.specs.declared.result_format.ResultFormat.{ResultFormat}

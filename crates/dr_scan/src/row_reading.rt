@@ -1,7 +1,7 @@
 ghost use Rattle.std.specs.Prelude.{◌≡◌, IfOk, OnOk, Some};
 ghost use Rattle.dr_agg.specs.Combination.{column};
 ghost use Rattle.dr_filter.specs.Condition.{condition_in, matches};
-ghost use Rattle.dr_filter.specs.Match.{value_at};
+ghost use Rattle.dr_predicate.specs.Match.{value_at};
 
 use dr_base::Text;
 use dr_filter::Filter;

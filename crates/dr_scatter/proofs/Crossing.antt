@@ -14,7 +14,7 @@ use Rattle.dr_ask.proofs.aggregations.Aggregations.TheSendSync as aggregations
 use Rattle.dr_ask.proofs.scan.Scan.TheSendSync as scan
 use Rattle.dr_ask.proofs.timeseries.Timeseries.TheSendSync as timeseries
 use Rattle.dr_time.proofs.union.Union.TheSendSync as union
-use Rattle.dr_filter.proofs.dimension_test.DimensionTest.TheSendSync as test
+use Rattle.dr_predicate.proofs.dimension_test.DimensionTest.TheSendSync as test
 use Rattle.dr_filter.proofs.together.Together.TheSendSync as together
 use Rattle.dr_having.proofs.group_value.GroupValue.TheSendSync as group_value
 use Rattle.dr_having.proofs.dimension_value.DimensionValue.TheSendSync as dimension_value

@@ -1,6 +1,7 @@
 use dr_base::Text;
-use dr_having::{Having, OutputNumbers, OutputTexts};
+use dr_having::Having;
 use dr_order::LimitSpec;
+use dr_outputs::{OutputNumbers, OutputTexts};
 use serde_json::Value;
 use std::alloc::Global;
 use std::cmp::Ordering;

@@ -1,7 +1,7 @@
 use Rattle.std.proofs.Common.{◌∙◌, sym, ap, ◌&&◌, not, map}
 use Rattle.dr_filter.specs.Condition.{condition_in, conditions_in, every_matches, some_matches}
 use Rattle.dr_filter.specs.Together.{all_hold, one_holds}
-use Rattle.dr_filter.proofs.LookedUp.{some_matches-members, every_matches-members}
+use Rattle.dr_filter.proofs.Members.{some_matches-members, every_matches-members}
 use Rattle.dr_base.proofs.Truths.{and_regroups}
 use Rattle.dr_columns.specs.Rows.{key_at}
 use Rattle.dr_columns.proofs.NarrowLemmas.{narrowed-twice, none_of}

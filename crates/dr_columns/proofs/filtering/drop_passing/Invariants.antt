@@ -1,5 +1,5 @@
 use Rattle.std.proofs.Common.{not, drop}
-use Rattle.dr_filter.specs.LookUps.{some_holds}
+use Rattle.dr_predicate.specs.LookUps.{some_holds}
 use Rattle.dr_columns.specs.Rows.{key_at}
 use Rattle.dr_columns.proofs.NarrowLemmas.{ToNarrow}
 use Rattle.dr_columns.proofs.filtering.drop_passing.Given as goal

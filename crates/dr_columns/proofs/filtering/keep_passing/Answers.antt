@@ -1,5 +1,5 @@
 use Rattle.std.proofs.Common.{◌∙◌, sym, ap, []}
-use Rattle.dr_filter.specs.Match.{passes, holds_of}
+use Rattle.dr_predicate.specs.Match.{passes, holds_of}
 use Rattle.dr_columns.specs.Rows.{key_at, truth_in}
 use Rattle.dr_columns.proofs.NarrowLemmas.{same-test}
 use Rattle.dr_columns.proofs.ValueLemmas.{unknown, truth-known}

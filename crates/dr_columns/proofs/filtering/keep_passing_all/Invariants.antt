@@ -1,5 +1,5 @@
 use Rattle.std.proofs.Common.{drop}
-use Rattle.dr_filter.specs.LookUps.{every_holds}
+use Rattle.dr_predicate.specs.LookUps.{every_holds}
 use Rattle.dr_columns.specs.Rows.{key_at}
 use Rattle.dr_columns.proofs.NarrowLemmas.{ToNarrow}
 use Rattle.dr_columns.proofs.filtering.keep_passing_all.Given as goal

@@ -1,7 +1,7 @@
 use Rattle.std.proofs.Common.{◌∙◌, sym, ap, [], ◌∷◌, ◌++◌, arith}
 use Rattle.std.proofs.lemmas.List.{map_more}
 use Rattle.std.proofs.lemmas.Option.{get_or_from_slice_get}
-use Rattle.dr_filter.specs.Match.{passes}
+use Rattle.dr_predicate.specs.Match.{passes}
 use Rattle.dr_image.specs.Checked.{column_at}
 use Rattle.dr_columns.proofs.filtering.truths.Goals as goal
 

@@ -1,5 +1,5 @@
 use Rattle.std.proofs.Common.{◌≡◌, map, take}
-use Rattle.dr_filter.specs.Match.{passes}
+use Rattle.dr_predicate.specs.Match.{passes}
 use Rattle.dr_image.specs.Checked.{column_at}
 use Rattle.dr_columns.proofs.filtering.truths.Given as goal
 

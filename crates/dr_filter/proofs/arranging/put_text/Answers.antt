@@ -1,7 +1,7 @@
 use Rattle.std.proofs.Common.{◌≡◌, map, subst}
 use Rattle.dr_filter.specs.Condition.{condition_in, selects}
 use Rattle.dr_filter.specs.Members.{PutsBehind}
-use Rattle.dr_filter.proofs.LookedUp.{puts-found, puts-other}
+use Rattle.dr_filter.proofs.Members.{puts-found, puts-other}
 use Rattle.dr_filter.proofs.arranging.put_text.Goals as goal
 
 pub returns-in_ok-push-in-Ok : goal.returns-in_ok-push-in-Ok

@@ -1,7 +1,8 @@
 use Rattle.std.proofs.Common.{◌≡◌, ◌∙◌, sym, ap, [], ◌∷◌, length, map, append_assoc, append-nil, arith}
 use Rattle.std.specs.Vec.Iter.{into_iter_items}
 use Rattle.dr_filter.specs.Condition.{condition_in, during}
-use Rattle.dr_filter.proofs.LookedUp.{shown-behind, nothing_left}
+use Rattle.dr_filter.proofs.Members.{shown-behind}
+use Rattle.dr_predicate.proofs.LookedUp.{nothing_left}
 use Rattle.dr_filter.proofs.arranging.times_apart.Goals as goal
 
 pub loop-filter-preserved : goal.loop-filter-preserved

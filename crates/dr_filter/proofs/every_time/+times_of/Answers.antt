@@ -3,7 +3,8 @@ use Rattle.std.proofs.lemmas.Result.{IfOk-weaker}
 use Rattle.dr_base.proofs.Truths.{and_regroups}
 use Rattle.dr_time.specs.declared.interval.Interval.{Interval}
 use Rattle.dr_time.specs.Union.{union_holds}
-use Rattle.dr_filter.specs.LookUps.{tests_in, every_held, IsEveryTime}
+use Rattle.dr_predicate.specs.LookUps.{tests_in}
+use Rattle.dr_filter.specs.Times.{every_held, IsEveryTime}
 use Rattle.dr_filter.proofs.every_time.+times_of.Goals as goal
 
 -- all of both halves hold a time where all hold it

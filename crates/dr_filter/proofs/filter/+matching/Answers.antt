@@ -1,7 +1,7 @@
 use Rattle.std.proofs.Common.{rules, ◌∙◌, sym, map, FitsSigned, w64}
 use Rattle.std.proofs.lemmas.Int.{to_z-of_z}
 use Rattle.dr_filter.specs.Condition.{condition_in}
-use Rattle.dr_filter.proofs.LookedUp.{some-one, some-not_all, some-others, every-one, every-not_all, every-others}
+use Rattle.dr_filter.proofs.Members.{some-one, some-not_all, some-others, every-one, every-not_all, every-others}
 use Rattle.dr_filter.proofs.filter.+matching.Goals as goal
 
 pub some_matches-returns-then-one_holds : goal.some_matches-returns-then-one_holds

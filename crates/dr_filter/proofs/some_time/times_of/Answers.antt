@@ -3,7 +3,8 @@ use Rattle.std.proofs.lemmas.List.{drop_all}
 use Rattle.std.proofs.lemmas.Result.{IfOk-weaker}
 use Rattle.dr_time.specs.declared.interval.Interval.{Interval}
 use Rattle.dr_time.specs.Union.{union_holds}
-use Rattle.dr_filter.specs.LookUps.{tests_in, some_held, IsSomeTime}
+use Rattle.dr_predicate.specs.LookUps.{tests_in}
+use Rattle.dr_filter.specs.Times.{some_held, IsSomeTime}
 use Rattle.dr_filter.proofs.some_time.times_of.Goals as goal
 
 or_false : (a : Bool) → (a || false) ≡ a

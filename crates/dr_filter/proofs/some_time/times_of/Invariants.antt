@@ -1,6 +1,7 @@
 use Rattle.std.proofs.Common.{◌≡◌, ◌||◌, ℤ, drop}
 use Rattle.dr_time.specs.Union.{union_holds}
-use Rattle.dr_filter.specs.LookUps.{tests_in, some_held}
+use Rattle.dr_predicate.specs.LookUps.{tests_in}
+use Rattle.dr_filter.specs.Times.{some_held}
 use Rattle.dr_filter.proofs.some_time.times_of.Given as goal
 
 abbrev pub invariant-loop-member : goal.invariant-loop-member

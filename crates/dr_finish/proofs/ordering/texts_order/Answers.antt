@@ -1,6 +1,6 @@
 use Rattle.std.proofs.Common.{◌≡◌, ◌∙◌, arith, nat_cmp}
 use Rattle.std.specs.Cmp.Lexicographic.{slice_cmp}
-use Rattle.dr_having.specs.Meeting.{text_at}
+use Rattle.dr_outputs.specs.Numbered.{text_at}
 use Rattle.dr_finish.proofs.Numbered.{is_other, is_tie, texts-differ, texts-tie, texts-end}
 use Rattle.dr_finish.proofs.ordering.texts_order.Goals as goal
 

@@ -1,7 +1,7 @@
 use Rattle.std.proofs.Common.{◌≡◌, ◌+◌, ℕ}
 use Rattle.std.specs.Cmp.Lexicographic.{slice_cmp}
 use Rattle.std.specs.Ordering.{nat_cmp}
-use Rattle.dr_having.specs.Numbered.{texts_by}
+use Rattle.dr_outputs.specs.Numbered.{texts_by}
 use Rattle.dr_finish.specs.RowOrder.{numbers_from}
 use Rattle.dr_finish.proofs.ordering.texts_order.Given as goal
 

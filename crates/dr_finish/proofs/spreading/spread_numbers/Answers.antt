@@ -1,6 +1,6 @@
 use Rattle.std.proofs.Common.{rules, ◌∙◌, sym, ap, ◌++◌, ◌∷◌, [], FitsSigned, w64}
 use Rattle.std.proofs.lemmas.Int.{to_z-of_z}
-use Rattle.dr_having.specs.Numbered.{numbers_by}
+use Rattle.dr_outputs.specs.Numbered.{numbers_by}
 use Rattle.dr_finish.specs.RowOrder.{numbers_from}
 use Rattle.dr_finish.proofs.Numbered.{numbers-all, numbers-taken}
 use Rattle.dr_finish.proofs.spreading.spread_numbers.Goals as goal

@@ -1,5 +1,5 @@
 use Rattle.std.proofs.Common.{◌≡◌, take}
-use Rattle.dr_having.specs.Numbered.{numbers_by}
+use Rattle.dr_outputs.specs.Numbered.{numbers_by}
 use Rattle.dr_finish.proofs.spreading.spread_numbers.Given as goal
 
 abbrev pub invariant-loop-number : goal.invariant-loop-number

@@ -1,5 +1,5 @@
 use Rattle.std.proofs.Common.{◌∙◌, sym, ap}
-use Rattle.dr_having.specs.Numbered.{texts_by}
+use Rattle.dr_outputs.specs.Numbered.{texts_by}
 use Rattle.dr_finish.specs.RowOrder.{numbers_from}
 use Rattle.dr_finish.proofs.Numbered.{texts-all}
 use Rattle.dr_finish.proofs.spreading.spread_texts.Goals as goal

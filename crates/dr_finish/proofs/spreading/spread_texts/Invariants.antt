@@ -1,5 +1,5 @@
 use Rattle.std.proofs.Common.{◌≡◌, take}
-use Rattle.dr_having.specs.Numbered.{texts_by}
+use Rattle.dr_outputs.specs.Numbered.{texts_by}
 use Rattle.dr_finish.proofs.spreading.spread_texts.Given as goal
 
 abbrev pub invariant-loop-number : goal.invariant-loop-number

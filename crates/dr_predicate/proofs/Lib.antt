@@ -1,0 +1,4 @@
+pub mod LookedUp
+pub mod Ends
+pub mod Reaching
+pub mod Gathering

@@ -1,0 +1,134 @@
+ghost use Rattle.std.specs.Prelude.{◌≡◌, ◌&&◌, ℕ, List, IfOk, OnOk};
+ghost use Rattle.dr_predicate.specs.Ends.{starts_behind as starts_behind_of, ends_before as ends_before_of};
+ghost use Rattle.dr_predicate.specs.Within.{lies_within, not_before as not_before_of, not_after as not_after_of, comes_after as comes_after_of};
+
+use dr_base::Text;
+use std::alloc::AllocError;
+use std::cmp::Ordering;
+
+/// The ends of a range of texts in the order of their UTF-8 bytes. An end that is absent bounds nothing, and a strict one
+/// isn't itself in the range.
+#[derive(Debug, Drop)]
+pub struct Bounds {
+    pub lower: Option<Text>,
+    pub upper: Option<Text>,
+    pub lower_strict: bool,
+    pub upper_strict: bool,
+}
+
+impl Bounds {
+    /// Whether a text lies in the range. It takes no memory, and time by the bytes of the text.
+    pub fn hold(&self, text: &str) -> bool
+        ensures { result ≡ lies_within self.now text.now }
+    {
+        not_before(&self.lower, self.lower_strict, text)
+            && not_after(&self.upper, self.upper_strict, text)
+    }
+
+    // An equal range.
+    pub(crate) fn copy(&self) -> Result<Bounds, AllocError>
+        ensures { IfOk result (λ b. b ≡ self.now) }
+    {
+        Ok(Bounds {
+            lower: copy_of(&self.lower)?,
+            upper: copy_of(&self.upper)?,
+            lower_strict: self.lower_strict,
+            upper_strict: self.upper_strict,
+        })
+    }
+
+    // Narrows the range to the texts that lie in another one too: the greater of the lower ends, and the smaller of the upper
+    // ends, strict where either of two equal ones is.
+    pub(crate) fn narrow(&mut self, other: &Bounds) -> Result<(), AllocError>
+        ensures { OnOk result ((text : List ℕ) → lies_within self.new text ≡ (lies_within self.old text && lies_within other.now text)) }
+    {
+        self.narrow_lower(other)?;
+        self.narrow_upper(other)?;
+        Ok(())
+    }
+
+    fn narrow_lower(&mut self, other: &Bounds) -> Result<(), AllocError>
+        ensures { OnOk result ((text : List ℕ) → lies_within self.new text ≡ (lies_within self.old text && not_before_of other.now.lower other.now.lower_strict text)) }
+    {
+        if !starts_behind(&other.lower, other.lower_strict, &self.lower) {
+            return Ok(());
+        }
+        self.lower = copy_of(&other.lower)?;
+        self.lower_strict = other.lower_strict;
+        Ok(())
+    }
+
+    fn narrow_upper(&mut self, other: &Bounds) -> Result<(), AllocError>
+        ensures { OnOk result ((text : List ℕ) → lies_within self.new text ≡ (lies_within self.old text && not_after_of other.now.upper other.now.upper_strict text)) }
+    {
+        if !ends_before(&other.upper, other.upper_strict, &self.upper) {
+            return Ok(());
+        }
+        self.upper = copy_of(&other.upper)?;
+        self.upper_strict = other.upper_strict;
+        Ok(())
+    }
+}
+
+fn copy_of(end: &Option<Text>) -> Result<Option<Text>, AllocError>
+    ensures { IfOk result (λ e. e ≡ end.now) }
+{
+    match end {
+        Some(text) => Ok(Some(text.copy()?)),
+        None => Ok(None),
+    }
+}
+
+// Whether a lower end asks more than another one, or as much.
+fn starts_behind(lower: &Option<Text>, strict: bool, other: &Option<Text>) -> bool
+    ensures { result ≡ starts_behind_of lower.now strict other.now }
+{
+    let Some(lower) = lower else {
+        return false;
+    };
+    match other {
+        Some(other) => comes_after(lower.as_str().cmp(other.as_str()), !strict),
+        None => true,
+    }
+}
+
+// Whether an upper end asks more than another one, or as much.
+pub(crate) fn ends_before(upper: &Option<Text>, strict: bool, other: &Option<Text>) -> bool
+    ensures { result ≡ ends_before_of upper.now strict other.now }
+{
+    let Some(upper) = upper else {
+        return false;
+    };
+    match other {
+        Some(other) => comes_after(other.as_str().cmp(upper.as_str()), !strict),
+        None => true,
+    }
+}
+
+pub(crate) fn not_before(lower: &Option<Text>, strict: bool, text: &str) -> bool
+    ensures { result ≡ not_before_of lower.now strict text.now }
+{
+    match lower {
+        Some(lower) => comes_after(text.cmp(lower.as_str()), strict),
+        None => true,
+    }
+}
+
+pub(crate) fn not_after(upper: &Option<Text>, strict: bool, text: &str) -> bool
+    ensures { result ≡ not_after_of upper.now strict text.now }
+{
+    match upper {
+        Some(upper) => comes_after(upper.as_str().cmp(text), strict),
+        None => true,
+    }
+}
+
+fn comes_after(order: Ordering, strict: bool) -> bool
+    ensures { result ≡ comes_after_of order strict }
+{
+    match order {
+        Ordering::Less => false,
+        Ordering::Equal => !strict,
+        Ordering::Greater => true,
+    }
+}

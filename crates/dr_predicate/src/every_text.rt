@@ -1,0 +1,108 @@
+ghost use Rattle.std.specs.Prelude.{◌≡◌, ◌&&◌, ℕ, List, true, false, IfOk, OnOk};
+ghost use Rattle.dr_predicate.specs.LookUps.{tests_in, every_holds, AreAllLookedUp};
+ghost use Rattle.dr_predicate.specs.Match.{holds_of};
+
+use crate::dimension_test::{DimensionTest, place_among};
+use crate::text_test::TextTest;
+use dr_base::Text;
+use std::alloc::{AllocError, Global};
+use std::marker::Model;
+
+/// The `selector`s and `in`s among the members of an `and`, or those of which an `or` has the `not` among its members, looked up by
+/// hashing, dimension by dimension. A contract sees of each member in turn the test that it is or that it denies, or none where it
+/// is another filter.
+#[derive(Drop)]
+pub struct EveryText {
+    members: Vec<Option<TextTest>>,
+    look_ups: Vec<DimensionTest>,
+}
+
+impl Model for EveryText {
+    ghost use Rattle.std.specs.Prelude.{List, Option};
+    ghost use Rattle.dr_predicate.specs.declared.dimension_test.DimensionTest.{DimensionTest};
+    ghost use Rattle.dr_predicate.specs.LookUps.{AreAllLookedUp};
+
+    ghost Value = { List (Option DimensionTest) };
+
+    ghost view = { λ t. t.members.items };
+
+    ghost invariant = { λ t. AreAllLookedUp t.look_ups.items t.members.items };
+}
+
+impl EveryText {
+    /// The tests among some members, in their order. The only error is that memory ran out. It takes expected time and memory by the
+    /// members and the bytes of their texts.
+    pub fn of(alloc: Global, members: Vec<Option<TextTest>>) -> Result<EveryText, AllocError>
+        ensures { IfOk result (λ t. t ≡ members.items) }
+    {
+        let look_ups = look_ups_of(alloc, members.as_slice())?;
+        Ok(EveryText { members, look_ups })
+    }
+
+    /// The tests that tell the same as all these together, one for each dimension that they name: whether the value is one of the
+    /// texts that each of them asks for. It takes constant time.
+    pub fn look_ups(&self) -> &[DimensionTest]
+        ensures { AreAllLookedUp result.now self.now }
+    {
+        self.look_ups.as_slice()
+    }
+
+    /// Whether all the tests hold of a row with these dimension values. It takes no memory, and expected time by the bytes of the
+    /// values in the dimensions that the tests name, however many tests there are.
+    pub fn hold_of(&self, dims: &[Text]) -> bool
+        ensures { result ≡ every_holds dims.now (tests_in (λ t. t) self.now) }
+    {
+        every_hold_of(self.look_ups(), dims)
+    }
+}
+
+fn every_hold_of(tests: &[DimensionTest], dims: &[Text]) -> bool
+    ensures { result ≡ every_holds dims.now tests.now }
+{
+    tests.iter().all(|test| test.holds_of(dims))
+}
+
+// Tests that tell what those among some members tell.
+fn look_ups_of(
+    alloc: Global,
+    members: &[Option<TextTest>],
+) -> Result<Vec<DimensionTest>, AllocError>
+    ensures { IfOk result (λ tests. AreAllLookedUp tests.items members.now) }
+{
+    let mut look_ups = Vec::new(alloc);
+    for member in members {
+        match member {
+            Some(test) => narrow(alloc, &mut look_ups, test)?,
+            None => (),
+        }
+    }
+    Ok(look_ups)
+}
+
+// Adds a test to the others: to the test of its dimension, where there is one.
+fn narrow(
+    alloc: Global,
+    look_ups: &mut Vec<DimensionTest>,
+    test: &TextTest,
+) -> Result<(), AllocError>
+    ensures { OnOk result ((dims : List (List ℕ)) → every_holds dims look_ups.new.items ≡ (every_holds dims look_ups.old.items && holds_of test.now dims)) }
+{
+    let look_up = test.look_up(alloc)?;
+    if keep_at(look_ups, &look_up)? {
+        return Ok(());
+    }
+    look_ups.push(look_up)?;
+    Ok(())
+}
+
+// Lets only those texts pass the first test of its dimension that a look-up lets pass too, and tells whether there is one.
+fn keep_at(look_ups: &mut Vec<DimensionTest>, look_up: &DimensionTest) -> Result<bool, AllocError>
+    ensures kept { IfOk result (λ kept. kept ≡ true → (dims : List (List ℕ)) → every_holds dims look_ups.new.items ≡ (every_holds dims look_ups.old.items && holds_of look_up.now dims)) }
+    ensures same { IfOk result (λ kept. kept ≡ false → look_ups.new.items ≡ look_ups.old.items) }
+{
+    let Some(i) = place_among(look_ups.as_slice(), look_up.place) else {
+        return Ok(false);
+    };
+    let there = &mut look_ups[i];
+    there.test.keep(&look_up.test)
+}

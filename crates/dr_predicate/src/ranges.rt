@@ -1,0 +1,122 @@
+ghost use Rattle.std.specs.Prelude.{◌≡◌, ℕ, List, IfOk, OnOk};
+ghost use Rattle.dr_predicate.specs.Ranges.{start_text as start_text_of, start_strict as start_strict_of, start_order as start_order_of, ends_within as ends_within_of, with_outer, Rise, Reach};
+ghost use Rattle.dr_predicate.specs.Within.{some_within};
+
+use crate::bounds::{Bounds, ends_before, not_after, not_before};
+use dr_base::Text;
+use std::alloc::{AllocError, Global};
+use std::cmp::Ordering;
+use std::marker::Model;
+
+/// Ranges of texts in the order of their lower ends, without those that lie within one before them, so that the last one that has
+/// begun tells of all of them whether one holds a text. A contract sees the list of them.
+#[derive(Drop)]
+pub struct Ranges(Vec<Bounds>);
+
+impl Model for Ranges {
+    ghost use Rattle.std.specs.Prelude.{List};
+    ghost use Rattle.dr_predicate.specs.declared.bounds.Bounds.{Bounds};
+    ghost use Rattle.dr_predicate.specs.Ranges.{Rise, Reach};
+
+    ghost Value = { List Bounds };
+
+    ghost view = { λ r. r.0.items };
+
+    ghost invariant = { λ r. Rise r.0.items × Reach r.0.items };
+}
+
+impl Ranges {
+    // Ranges that hold the texts that these hold. They are sorted once.
+    pub(crate) fn of(alloc: Global, bounds: Vec<Bounds>) -> Result<Ranges, AllocError>
+        ensures { IfOk result (λ r. (text : List ℕ) → some_within r text ≡ some_within bounds.items text) }
+    {
+        let mut sorted = bounds;
+        sorted.sort_unstable_by(
+            |a: &Bounds, b: &Bounds| -> Ordering
+                ensures { result ≡ start_order_of a.now b.now }
+            { start_order(a, b) },
+        );
+        Ok(Ranges(outer(alloc, sorted.as_slice())?))
+    }
+
+    /// Whether a text lies in one of the ranges. It takes no memory, and time by the bytes of the text times the logarithm of the
+    /// number of ranges.
+    pub fn hold(&self, text: &str) -> bool
+        ensures { result ≡ some_within self.now text.now }
+    {
+        let place = self.0.partition_point(|bounds| not_before(
+            &bounds.lower,
+            bounds.lower_strict,
+            text,
+        ));
+        if place == 0 {
+            return false;
+        }
+        let last = &self.0[place - 1];
+        not_after(&last.upper, last.upper_strict, text)
+    }
+}
+
+fn start_order(a: &Bounds, b: &Bounds) -> Ordering
+    ensures { result ≡ start_order_of a.now b.now }
+{
+    let texts = start_text(&a.lower).cmp(start_text(&b.lower));
+    let a_strict = start_strict(&a.lower, a.lower_strict);
+    let b_strict = start_strict(&b.lower, b.lower_strict);
+    texts.then(a_strict.cmp(&b_strict))
+}
+
+fn start_text(lower: &Option<Text>) -> &str
+    ensures { result.now ≡ start_text_of lower.now }
+{
+    match lower {
+        Some(lower) => lower.as_str(),
+        None => "",
+    }
+}
+
+fn start_strict(lower: &Option<Text>, strict: bool) -> bool
+    ensures { result ≡ start_strict_of lower.now strict }
+{
+    match lower {
+        Some(_) => strict,
+        None => false,
+    }
+}
+
+// Those of some ranges that end behind all that stand before them: each of the others lies within one before it.
+fn outer(alloc: Global, sorted: &[Bounds]) -> Result<Vec<Bounds>, AllocError>
+    requires { Rise sorted.now }
+    ensures rise { IfOk result (λ r. Rise r.items) }
+    ensures reach { IfOk result (λ r. Reach r.items) }
+    ensures same { IfOk result (λ r. (text : List ℕ) → some_within r.items text ≡ some_within sorted.now text) }
+{
+    let mut outer = Vec::new(alloc);
+    for bounds in sorted {
+        add_outer(&mut outer, bounds)?;
+    }
+    Ok(outer)
+}
+
+// Adds a range, if it ends behind those that are there.
+fn add_outer(outer: &mut Vec<Bounds>, bounds: &Bounds) -> Result<(), AllocError>
+    ensures { OnOk result (outer.new.items ≡ with_outer outer.old.items bounds.now) }
+{
+    if ends_within(outer.as_slice(), bounds) {
+        return Ok(());
+    }
+    outer.push(bounds.copy()?)?;
+    Ok(())
+}
+
+// Whether a range ends no later than the last of some ranges.
+fn ends_within(outer: &[Bounds], bounds: &Bounds) -> bool
+    ensures { result ≡ ends_within_of outer.now bounds.now }
+{
+    let len = outer.len();
+    if len == 0 {
+        return false;
+    }
+    let last = &outer[len - 1];
+    ends_before(&bounds.upper, bounds.upper_strict, &last.upper)
+}

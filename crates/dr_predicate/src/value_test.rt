@@ -1,0 +1,123 @@
+ghost use Rattle.std.specs.Prelude.{◌≡◌, ◌||◌, ◌&&◌, ℕ, List, true, false, IfOk, bytes_eq};
+ghost use Rattle.std.specs.List.{list_any};
+ghost use Rattle.dr_predicate.specs.LookUps.{is_texts as is_texts_of};
+ghost use Rattle.dr_predicate.specs.Match.{lies_within, passes as passes_of};
+
+use crate::bounds::Bounds;
+use crate::ranges::Ranges;
+use dr_base::Text;
+use dr_dict::TextSet;
+use dr_like::fits;
+use std::alloc::AllocError;
+
+/// What is asked of the value of a dimension (Apache Druid documentation, query filters).
+#[derive(Drop)]
+pub enum ValueTest {
+    /// `selector`: it is this text.
+    Equals(Text),
+    /// `in`: it is one of these texts.
+    Among(TextSet),
+    /// `bound`: it lies in this range.
+    Within(Bounds),
+    /// `bound`s of one `or`: it lies in one of these ranges.
+    WithinOne(Ranges),
+    /// `like`: it fits this pattern, in which `%` is any run of characters and `_` one Unicode scalar value.
+    Like(Text),
+}
+
+impl ValueTest {
+    /// Whether a value passes. It takes no memory, and expected time by the bytes of the value; the number of texts of an `in`
+    /// doesn't count, and the number of ranges that are asked together counts by its logarithm. For a pattern it takes time by
+    /// the bytes of the pattern and of the value together, but for a piece between two `%` that has a `_` behind its first other
+    /// character: at worst such a piece takes its own bytes times those of the value.
+    pub fn passes(&self, value: &str) -> bool
+        ensures { result ≡ passes_of self.now value.now }
+    {
+        match self {
+            ValueTest::Equals(text) => value == text.as_str(),
+            ValueTest::Among(texts) => texts.contains(value),
+            ValueTest::Within(bounds) => bounds.hold(value),
+            ValueTest::WithinOne(ranges) => ranges.hold(value),
+            ValueTest::Like(pattern) => fits(pattern.as_str(), value),
+        }
+    }
+
+    // Whether it asks for one of some texts.
+    pub(crate) fn is_texts(&self) -> bool
+        ensures { result ≡ is_texts_of self.now }
+    {
+        match self {
+            ValueTest::Equals(_) | ValueTest::Among(_) => true,
+            _ => false,
+        }
+    }
+
+    // Lets those texts of an `in` pass that another test lets pass too, and tells whether both ask for texts.
+    pub(crate) fn add(&mut self, other: &ValueTest) -> Result<bool, AllocError>
+        ensures added { IfOk result (λ added. added ≡ true → (value : List ℕ) → passes_of self.new value ≡ (passes_of self.old value || passes_of other.now value)) }
+        ensures same { IfOk result (λ added. added ≡ false → self.new ≡ self.old) }
+    {
+        match self {
+            ValueTest::Among(texts) => add_texts(texts, other),
+            _ => Ok(false),
+        }
+    }
+
+    // Lets only those texts of an `in` pass that another `in` lets pass too, and tells whether both are that.
+    pub(crate) fn keep(&mut self, other: &ValueTest) -> Result<bool, AllocError>
+        ensures kept { IfOk result (λ kept. kept ≡ true → (value : List ℕ) → passes_of self.new value ≡ (passes_of self.old value && passes_of other.now value)) }
+        ensures same { IfOk result (λ kept. kept ≡ false → self.new ≡ self.old) }
+    {
+        match self {
+            ValueTest::Among(texts) => keep_texts(texts, other),
+            _ => Ok(false),
+        }
+    }
+
+    // Narrows the range of a `bound` to what lies in another one too, and tells whether it is one.
+    pub(crate) fn narrow(&mut self, bounds: &Bounds) -> Result<bool, AllocError>
+        ensures narrowed { IfOk result (λ narrowed. narrowed ≡ true → (value : List ℕ) → passes_of self.new value ≡ (passes_of self.old value && lies_within bounds.now value)) }
+        ensures same { IfOk result (λ narrowed. narrowed ≡ false → self.new ≡ self.old) }
+    {
+        match self {
+            ValueTest::Within(within) => {
+                within.narrow(bounds)?;
+                Ok(true)
+            }
+            _ => Ok(false),
+        }
+    }
+}
+
+// Adds the texts that a test asks for, and tells whether it asks for texts.
+pub fn add_texts(texts: &mut TextSet, test: &ValueTest) -> Result<bool, AllocError>
+    ensures is { IfOk result (λ added. added ≡ is_texts_of test.now) }
+    ensures added { IfOk result (λ added. added ≡ true → (value : List ℕ) → list_any (bytes_eq value) texts.new ≡ (list_any (bytes_eq value) texts.old || passes_of test.now value)) }
+    ensures same { IfOk result (λ added. added ≡ false → texts.new ≡ texts.old) }
+{
+    match test {
+        ValueTest::Equals(text) => {
+            texts.add(text)?;
+            Ok(true)
+        }
+        ValueTest::Among(others) => {
+            texts.add_all(others)?;
+            Ok(true)
+        }
+        _ => Ok(false),
+    }
+}
+
+// Keeps the texts that an `in` asks for too, and tells whether the test is one.
+fn keep_texts(texts: &mut TextSet, test: &ValueTest) -> Result<bool, AllocError>
+    ensures kept { IfOk result (λ kept. kept ≡ true → (value : List ℕ) → list_any (bytes_eq value) texts.new ≡ (list_any (bytes_eq value) texts.old && passes_of test.now value)) }
+    ensures same { IfOk result (λ kept. kept ≡ false → texts.new ≡ texts.old) }
+{
+    match test {
+        ValueTest::Among(others) => {
+            texts.keep_all(others)?;
+            Ok(true)
+        }
+        _ => Ok(false),
+    }
+}
