@@ -74,8 +74,8 @@ members_in holds t cs =
 abbrev pub condition_step : Filter-F Condition → Condition
 condition_step (Filter-F.Dimension test) = dimension test
 condition_step (Filter-F.Interval union) = interval union
-condition_step (Filter-F.And together filters) = every (conditions_of (members_in false together filters.items))
-condition_step (Filter-F.Or together filters) = some (conditions_of (members_in true together filters.items))
+condition_step (Filter-F.And together filters) = every (conditions_of (members_in false (box_value together) filters.items))
+condition_step (Filter-F.Or together filters) = some (conditions_of (members_in true (box_value together) filters.items))
 condition_step (Filter-F.Not filter) = opposite (box_value filter)
 
 -- the condition that a filter stands for

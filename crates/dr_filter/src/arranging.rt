@@ -1,9 +1,10 @@
-ghost use Rattle.std.specs.Prelude.{◌≡◌, true, false, map, IfOk, MatchResult, OnOk};
+ghost use Rattle.std.specs.Prelude.{◌≡◌, true, false, box_value, map, IfOk, MatchResult, OnOk};
 ghost use Rattle.dr_filter.specs.Condition.{condition_in, conditions_of, members_of, members_in, every, some, selects, ranges, during};
 ghost use Rattle.dr_filter.specs.Members.{PutsBehind};
 
 use crate::every_time::EveryTime;
 use crate::filter::Filter;
+use crate::parts::Parts;
 use crate::some_time::SomeTime;
 use crate::together::Together;
 use dr_predicate::{
@@ -33,24 +34,74 @@ fn apart(
     alloc: Global,
     filters: Vec<Filter>,
     holds: bool,
-) -> Result<(Together, Vec<Filter>), AllocError>
-    ensures { IfOk result (λ p. members_in holds p.0 (map condition_in p.1.items) ≡ map condition_in filters.items) }
+) -> Result<(Box<Together>, Vec<Filter>), AllocError>
+    ensures { IfOk result (λ p. members_in holds (box_value p.0) (map condition_in p.1.items) ≡ map condition_in filters.items) }
 {
-    let (some_text, rest) = texts_apart(alloc, filters, holds)?;
-    let (some_bound, rest) = bounds_apart(alloc, rest, holds)?;
-    let (some_time, rest) = times_apart(alloc, rest, holds)?;
-    let (every_text, rest) = texts_apart(alloc, rest, !holds)?;
-    let (every_bound, rest) = bounds_apart(alloc, rest, !holds)?;
-    let (every_time, others) = times_apart(alloc, rest, !holds)?;
-    let together = Together {
-        some_text: SomeText::of(alloc, some_text)?,
-        some_bound: SomeBound::of(alloc, some_bound)?,
-        some_time: SomeTime::of(alloc, some_time)?,
-        every_text: EveryText::of(alloc, every_text)?,
-        every_bound: EveryBound::of(alloc, every_bound)?,
-        every_time: EveryTime::of(every_time)?,
-    };
+    let (ones, rest) = parts_apart(alloc, filters, holds)?;
+    let (all, others) = parts_apart(alloc, rest, !holds)?;
+    let together = together_of(alloc, ones, all)?;
     Ok((together, others))
+}
+
+// The members of which one is to hold, and those that are all to hold, asked together.
+fn together_of(alloc: Global, ones: Parts, all: Parts) -> Result<Box<Together>, AllocError>
+    ensures some_text { IfOk result (λ t. (box_value t).some_text ≡ ones.texts.items) }
+    ensures some_bound { IfOk result (λ t. (box_value t).some_bound ≡ ones.bounds.items) }
+    ensures some_time { IfOk result (λ t. (box_value t).some_time ≡ ones.times.items) }
+    ensures every_text { IfOk result (λ t. (box_value t).every_text ≡ all.texts.items) }
+    ensures every_bound { IfOk result (λ t. (box_value t).every_bound ≡ all.bounds.items) }
+    ensures every_time { IfOk result (λ t. (box_value t).every_time ≡ all.times.items) }
+{
+    let (some_text, some_bound, some_time) = ones_of(alloc, ones)?;
+    let (every_text, every_bound, every_time) = all_of(alloc, all)?;
+    let together = Together {
+        some_text,
+        some_bound,
+        some_time,
+        every_text,
+        every_bound,
+        every_time,
+    };
+    Ok(Box::new(alloc, together)?)
+}
+
+fn ones_of(alloc: Global, ones: Parts) -> Result<(SomeText, SomeBound, SomeTime), AllocError>
+    ensures { IfOk result (λ p. (p.0 ≡ ones.texts.items) × (p.1 ≡ ones.bounds.items) × (p.2 ≡ ones.times.items)) }
+{
+    let some_text = SomeText::of(alloc, ones.texts)?;
+    let some_bound = SomeBound::of(alloc, ones.bounds)?;
+    let some_time = SomeTime::of(alloc, ones.times)?;
+    Ok((some_text, some_bound, some_time))
+}
+
+fn all_of(alloc: Global, all: Parts) -> Result<(EveryText, EveryBound, EveryTime), AllocError>
+    ensures { IfOk result (λ p. (p.0 ≡ all.texts.items) × (p.1 ≡ all.bounds.items) × (p.2 ≡ all.times.items)) }
+{
+    let every_text = EveryText::of(alloc, all.texts)?;
+    let every_bound = EveryBound::of(alloc, all.bounds)?;
+    let every_time = EveryTime::of(all.times)?;
+    Ok((every_text, every_bound, every_time))
+}
+
+// The texts, bounds and intervals among some filters, or those of which the `not` is among them, and the other filters.
+fn parts_apart(
+    alloc: Global,
+    filters: Vec<Filter>,
+    holds: bool,
+) -> Result<(Parts, Vec<Filter>), AllocError>
+    ensures { IfOk result (λ p. members_of (selects holds) p.0.texts.items (members_of (ranges holds) p.0.bounds.items (members_of (during holds) p.0.times.items (map condition_in p.1.items))) ≡ map condition_in filters.items) }
+{
+    let (texts, rest) = texts_apart(alloc, filters, holds)?;
+    let (bounds, rest) = bounds_apart(alloc, rest, holds)?;
+    let (times, others) = times_apart(alloc, rest, holds)?;
+    Ok((
+        Parts {
+            texts,
+            bounds,
+            times,
+        },
+        others,
+    ))
 }
 
 // The selectors and `in`s among some filters, or those of which the `not` is among them, and the other filters.
@@ -82,8 +133,8 @@ fn put_text(
     match text_taken(alloc, filter, holds)? {
         Ok(text) => members.push(Some(text))?,
         Err(other) => {
-            members.push(None)?;
             others.push(other)?;
+            members.push(None)?;
         }
     }
     Ok(())
@@ -118,8 +169,8 @@ fn put_bound(
     match bound_taken(alloc, filter, holds)? {
         Ok(bound) => members.push(Some(bound))?,
         Err(other) => {
-            members.push(None)?;
             others.push(other)?;
+            members.push(None)?;
         }
     }
     Ok(())
@@ -154,8 +205,8 @@ fn put_time(
     match time_taken(alloc, filter, holds)? {
         Ok(time) => members.push(Some(time))?,
         Err(other) => {
-            members.push(None)?;
             others.push(other)?;
+            members.push(None)?;
         }
     }
     Ok(())

@@ -16,10 +16,10 @@ pub enum Filter {
     Interval(Union),
     /// `and`: all of these hold, as they do where there are none. Its selectors, `in`s, bounds and intervals are asked together, and
     /// so are those of which it has the `not` among its members; the others stand apart.
-    And(Together, Vec<Filter>),
+    And(Box<Together>, Vec<Filter>),
     /// `or`: one of these holds, as none does where there are none. Its selectors, `in`s, bounds and intervals are asked together,
     /// and so are those of which it has the `not` among its members; the others stand apart.
-    Or(Together, Vec<Filter>),
+    Or(Box<Together>, Vec<Filter>),
     /// `not`: this doesn't hold.
     Not(Box<Filter>),
 }

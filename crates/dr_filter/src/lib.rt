@@ -7,6 +7,7 @@ mod every_time;
 mod fields;
 mod filter;
 mod filter_error;
+mod parts;
 mod reading;
 mod some_time;
 mod test_reading;

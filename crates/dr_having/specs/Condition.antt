@@ -67,8 +67,8 @@ members_in holds t cs =
 abbrev pub condition_step : Having-F Condition → Condition
 condition_step (Having-F.Aggregation c) = aggregation c
 condition_step (Having-F.Dimension c) = dimension c
-condition_step (Having-F.And together others) = every (conditions_of (members_in false together others.items))
-condition_step (Having-F.Or together others) = some (conditions_of (members_in true together others.items))
+condition_step (Having-F.And together others) = every (conditions_of (members_in false (box_value together) others.items))
+condition_step (Having-F.Or together others) = some (conditions_of (members_in true (box_value together) others.items))
 condition_step (Having-F.Not inner) = opposite (box_value inner)
 
 -- the condition that a `having` stands for

@@ -1,4 +1,4 @@
-ghost use Rattle.std.specs.Prelude.{◌≡◌, true, false, map, IfOk, MatchResult, OnOk};
+ghost use Rattle.std.specs.Prelude.{◌≡◌, true, false, box_value, map, IfOk, MatchResult, OnOk};
 ghost use Rattle.dr_having.specs.Condition.{compared, selected, condition_in, conditions_of, members_of, members_in, every, some};
 ghost use Rattle.dr_having.specs.Members.{PutsBehind};
 
@@ -33,8 +33,8 @@ fn apart(
     alloc: Global,
     conditions: Vec<Having>,
     holds: bool,
-) -> Result<(Together, Vec<Having>), AllocError>
-    ensures { IfOk result (λ p. members_in holds p.0 (map condition_in p.1.items) ≡ map condition_in conditions.items) }
+) -> Result<(Box<Together>, Vec<Having>), AllocError>
+    ensures { IfOk result (λ p. members_in holds (box_value p.0) (map condition_in p.1.items) ≡ map condition_in conditions.items) }
 {
     let (some_comparison, rest) = comparisons_apart(alloc, conditions, holds)?;
     let (some_text, rest) = selectors_apart(alloc, rest, holds)?;
@@ -46,7 +46,7 @@ fn apart(
         every_comparison: EveryComparison::of(alloc, every_comparison)?,
         every_text: EveryText::of(alloc, every_text)?,
     };
-    Ok((together, others))
+    Ok((Box::new(alloc, together)?, others))
 }
 
 // The comparisons of aggregations among some conditions, or those of which the `not` is among them, and the other conditions.

@@ -16,10 +16,10 @@ pub enum Having {
     Dimension(DimensionValue),
     /// `and`: all of these hold, as they do where there are none. The comparisons of aggregations among its members are asked
     /// together, and so are the comparisons and `dimSelector`s that a `not` turns round; the others stand apart.
-    And(Together, Vec<Having>),
+    And(Box<Together>, Vec<Having>),
     /// `or`: one of these holds, as none does where there are none. Its comparisons of aggregations and its `dimSelector`s are
     /// asked together, and so are the comparisons that a `not` turns round; the others stand apart.
-    Or(Together, Vec<Having>),
+    Or(Box<Together>, Vec<Having>),
     /// `not`: this doesn't hold.
     Not(Box<Having>),
 }

@@ -1,4 +1,4 @@
-ghost use Rattle.std.specs.Prelude.{◌≡◌, IfOk};
+ghost use Rattle.std.specs.Prelude.{◌≡◌, box_value, IfOk};
 ghost use Rattle.dr_having.specs.Placed.{together_placed};
 ghost use Rattle.dr_having.specs.Together.{one_holds as one_holds_of, all_hold as all_hold_of};
 
@@ -40,14 +40,19 @@ impl Together {
     }
 
     // The same conditions of outputs at other places.
-    pub(crate) fn placed(&self, alloc: Global, places: &[usize]) -> Result<Together, AllocError>
-        ensures { IfOk result (λ t. t ≡ together_placed places.now self.now) }
+    pub(crate) fn placed(
+        &self,
+        alloc: Global,
+        places: &[usize],
+    ) -> Result<Box<Together>, AllocError>
+        ensures { IfOk result (λ t. box_value t ≡ together_placed places.now self.now) }
     {
-        Ok(Together {
+        let together = Together {
             some_comparison: self.some_comparison.placed(alloc, places)?,
             some_text: self.some_text.copy(alloc)?,
             every_comparison: self.every_comparison.placed(alloc, places)?,
             every_text: self.every_text.copy(alloc)?,
-        })
+        };
+        Ok(Box::new(alloc, together)?)
     }
 }

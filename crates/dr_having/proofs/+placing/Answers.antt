@@ -1,4 +1,4 @@
-use Rattle.std.proofs.Common.{◌≡◌, ◌∙◌, sym, ap, map}
+use Rattle.std.proofs.Common.{◌≡◌, ◌∙◌, sym, ap, map, box_value}
 use Rattle.dr_having.specs.Condition.{Condition, condition_in, condition_step}
 use Rattle.dr_having.specs.Placed.{placed}
 use Rattle.dr_having.specs.declared.having.Having.TheOpen.Having-F.{And, Or}
@@ -15,7 +15,7 @@ having::Having::placed-returns-in_ok-all_placed-in-And t c =
     let cs = map condition_in at.others.items in
     let others : map condition_in made.items ≡ map (placed places) cs = rw c.as_slice.ensures.value at c.in_ok-all_placed-in-And.ensures in
     fold-roll-Having Condition condition_step (And c.in_ok-placed-in-And.field-0 made)
-    ∙ every-placed places at.together c.in_ok-placed-in-And.field-0 cs (map condition_in made.items) c.in_ok-placed-in-And.ensures others
+    ∙ every-placed places (box_value at.together) (box_value c.in_ok-placed-in-And.field-0) cs (map condition_in made.items) (rw c.deref.ensures at c.in_ok-placed-in-And.ensures) others
     ∙ ap (placed places) (sym (ap condition_in at.is ∙ fold-roll-Having Condition condition_step (And at.together at.others)))
 
 pub having::Having::placed-returns-in_ok-all_placed-in-Or : goal.having::Having::placed-returns-in_ok-all_placed-in-Or
@@ -27,5 +27,5 @@ having::Having::placed-returns-in_ok-all_placed-in-Or t c =
     let cs = map condition_in at.others.items in
     let others : map condition_in made.items ≡ map (placed places) cs = rw c.as_slice-in-Or.ensures.value at c.in_ok-all_placed-in-Or.ensures in
     fold-roll-Having Condition condition_step (Or c.in_ok-placed-in-Or.field-0 made)
-    ∙ some-placed places at.together c.in_ok-placed-in-Or.field-0 cs (map condition_in made.items) c.in_ok-placed-in-Or.ensures others
+    ∙ some-placed places (box_value at.together) (box_value c.in_ok-placed-in-Or.field-0) cs (map condition_in made.items) (rw c.deref-in-Or.ensures at c.in_ok-placed-in-Or.ensures) others
     ∙ ap (placed places) (sym (ap condition_in at.is ∙ fold-roll-Having Condition condition_step (Or at.together at.others)))

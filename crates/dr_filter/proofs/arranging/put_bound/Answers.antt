@@ -12,5 +12,5 @@ returns-in_ok-push-in-Ok c =
 pub returns-in_ok-push-in-Err-2 : goal.returns-in_ok-push-in-Err-2
 returns-in_ok-push-in-Err-2 c =
     let told : condition_in c.in-Err.other ≡ condition_in c.args.filter = rw c.in-Err.is at c.in_ok-bound.ensures in
-    subst (λ x. PutsBehind (ranges c.args.holds) c.args.members.now.items (map condition_in c.args.others.now.items) x c.push-in-Err.new.self.items (map condition_in c.push-in-Err-2.new.self.items)) told
-    (puts-other (ranges c.args.holds) c.args.members.now.items c.args.others.now.items _ c.in-Err.other _ c.in_ok-push-in-Err.ensures.items c.in_ok-push-in-Err-2.ensures.items)
+    subst (λ x. PutsBehind (ranges c.args.holds) c.args.members.now.items (map condition_in c.args.others.now.items) x c.push-in-Err-2.new.self.items (map condition_in c.push-in-Err.new.self.items)) told
+    (puts-other (ranges c.args.holds) c.args.members.now.items c.args.others.now.items _ c.in-Err.other _ c.in_ok-push-in-Err-2.ensures.items c.in_ok-push-in-Err.ensures.items)
