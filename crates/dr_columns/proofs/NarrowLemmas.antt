@@ -61,14 +61,6 @@ pub narrowed-thrice : (f g h whole : ℕ → Bool) (first second third last : Li
 narrowed-thrice f g h whole first second third last is a b c =
     narrowed-twice f (λ i. g i && h i) whole first second last is a (narrowed-twice g h (λ i. g i && h i) second third last (λ i. refl) b c)
 
-and_true : (a : Bool) → a ≡ (a && true)
-and_true true = refl
-and_true false = refl
-
--- a test that all pass leaves all as it is
-pub narrowed-none : (test : ℕ → Bool) (xs : List Bool) → ((i : ℕ) → test i ≡ true) → Narrows test xs xs
-narrowed-none test xs all = record { count = refl; each = λ i lt. and_true (get_or xs i false) ∙ ap (λ b. get_or xs i false && b) (sym (all i)) }
-
 -- neither one of some holds, nor not all of others, nor a third
 pub none_of : (one all third : Bool) → ((not one && all) && not third) ≡ not (one || (not all || third))
 none_of true all third = refl
