@@ -22,10 +22,10 @@ use Rattle.dr_having.proofs.together.Together.TheSendSync as having_together
 use Rattle.dr_gran.proofs.gran.Gran.TheSendSync as gran
 
 filter-sync : IsSync (Filter.the_field).row
-filter-sync = filter.sync-Filter test.the_field_sync union.the_sync together.the_field_sync Vec-sync Box-sync
+filter-sync = filter.sync-Filter test.the_field_sync union.the_sync (Box-sync _ together.the_sync) Vec-sync Box-sync
 
 having-sync : IsSync (Having.the_field).row
-having-sync = having.sync-Having group_value.the_field_sync dimension_value.the_field_sync having_together.the_field_sync Vec-sync Box-sync
+having-sync = having.sync-Having group_value.the_field_sync dimension_value.the_field_sync (Box-sync _ having_together.the_sync) Vec-sync Box-sync
 
 group-sync : IsSync (GroupBy.the_field).row
 group-sync = search (sendable, crosses, having-sync, limit.the_field_sync, dimensions.the_sync) depth 20
