@@ -88,7 +88,10 @@ class Writer:
         kinds = ["selector", "in", "bound", "like", "interval"] + (["and", "or", "not"] if depth < 3 else [])
         kind, value = r.choice(kinds), lambda: r.choice([*TEXTS, None, 10])
         if kind in ("and", "or"):
-            return {"type": kind, "fields": [self.filter(depth + 1) for _ in range(r.randint(0, 3))]}
+            # Few of any kind, or many of the kinds that are asked together, as they stand or denied.
+            many = [self.filter(3) for _ in range(r.randint(4, 9))] if r.random() < 0.3 else []
+            fields = [{"type": "not", "field": it} if r.random() < 0.5 else it for it in many]
+            return {"type": kind, "fields": fields or [self.filter(depth + 1) for _ in range(r.randint(0, 3))]}
         if kind == "not":
             return {"type": kind, "field": self.filter(depth + 1)}
         if kind == "interval":
@@ -121,7 +124,9 @@ class Writer:
         kinds += ["equalTo", "greaterThan", "lessThan"] * (2 if aggs else 0) + ["dimSelector"] * (2 if dims else 0)
         kind = r.choice(kinds)
         if kind in ("and", "or"):
-            return {"type": kind, "havingSpecs": [self.having(dims, aggs, depth + 1) for _ in range(r.randint(0, 2) * (depth < 3))]}
+            many = [self.having(dims, aggs, 3) for _ in range(r.randint(3, 7))] if depth < 3 and r.random() < 0.3 else []
+            specs = [{"type": "not", "havingSpec": it} if r.random() < 0.5 else it for it in many]
+            return {"type": kind, "havingSpecs": specs or [self.having(dims, aggs, depth + 1) for _ in range(r.randint(0, 2) * (depth < 3))]}
         if kind == "not":
             return {"type": kind, "havingSpec": self.having(dims, aggs, depth + 1)}
         if kind == "dimSelector":
