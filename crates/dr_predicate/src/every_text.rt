@@ -87,22 +87,26 @@ fn narrow(
 ) -> Result<(), AllocError>
     ensures { OnOk result ((dims : List (List ℕ)) → every_holds dims look_ups.new.items ≡ (every_holds dims look_ups.old.items && holds_of test.now dims)) }
 {
-    let look_up = test.look_up(alloc)?;
-    if keep_at(look_ups, &look_up)? {
+    if keep_at(alloc, look_ups, test.test())? {
         return Ok(());
     }
-    look_ups.push(look_up)?;
+    look_ups.push(test.look_up(alloc)?)?;
     Ok(())
 }
 
-// Lets only those texts pass the first test of its dimension that a look-up lets pass too, and tells whether there is one.
-fn keep_at(look_ups: &mut Vec<DimensionTest>, look_up: &DimensionTest) -> Result<bool, AllocError>
-    ensures kept { IfOk result (λ kept. kept ≡ true → (dims : List (List ℕ)) → every_holds dims look_ups.new.items ≡ (every_holds dims look_ups.old.items && holds_of look_up.now dims)) }
+// Lets only those texts pass the first test of its dimension that a test lets pass too, and tells whether there is one that takes
+// them.
+fn keep_at(
+    alloc: Global,
+    look_ups: &mut Vec<DimensionTest>,
+    test: &DimensionTest,
+) -> Result<bool, AllocError>
+    ensures kept { IfOk result (λ kept. kept ≡ true → (dims : List (List ℕ)) → every_holds dims look_ups.new.items ≡ (every_holds dims look_ups.old.items && holds_of test.now dims)) }
     ensures same { IfOk result (λ kept. kept ≡ false → look_ups.new.items ≡ look_ups.old.items) }
 {
-    let Some(i) = place_among(look_ups.as_slice(), look_up.place) else {
+    let Some(i) = place_among(look_ups.as_slice(), test.place) else {
         return Ok(false);
     };
-    let there = &mut look_ups[i];
-    there.test.keep(&look_up.test)
+    let look_up = &mut look_ups[i];
+    look_up.test.keep(alloc, &test.test)
 }

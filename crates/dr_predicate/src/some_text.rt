@@ -87,7 +87,7 @@ fn widen(
 ) -> Result<(), AllocError>
     ensures { OnOk result ((dims : List (List ℕ)) → some_holds dims look_ups.new.items ≡ (some_holds dims look_ups.old.items || holds_of test.now dims)) }
 {
-    if add_at(look_ups, test.test())? {
+    if add_at(alloc, look_ups, test.test())? {
         return Ok(());
     }
     look_ups.push(test.look_up(alloc)?)?;
@@ -95,7 +95,11 @@ fn widen(
 }
 
 // Adds the texts of a test to the first test of its dimension, and tells whether there is one that takes them.
-fn add_at(look_ups: &mut Vec<DimensionTest>, test: &DimensionTest) -> Result<bool, AllocError>
+fn add_at(
+    alloc: Global,
+    look_ups: &mut Vec<DimensionTest>,
+    test: &DimensionTest,
+) -> Result<bool, AllocError>
     ensures added { IfOk result (λ added. added ≡ true → (dims : List (List ℕ)) → some_holds dims look_ups.new.items ≡ (some_holds dims look_ups.old.items || holds_of test.now dims)) }
     ensures same { IfOk result (λ added. added ≡ false → look_ups.new.items ≡ look_ups.old.items) }
 {
@@ -103,5 +107,5 @@ fn add_at(look_ups: &mut Vec<DimensionTest>, test: &DimensionTest) -> Result<boo
         return Ok(false);
     };
     let look_up = &mut look_ups[i];
-    look_up.test.add(&test.test)
+    look_up.test.add(alloc, &test.test)
 }

@@ -1,6 +1,6 @@
 ghost use Rattle.std.specs.Prelude.{◌≡◌, true, ℕ, List, IfOk, MatchResult};
 ghost use Rattle.dr_predicate.specs.LookUps.{is_texts};
-ghost use Rattle.dr_predicate.specs.Match.{holds_of};
+ghost use Rattle.dr_predicate.specs.Match.{holds_of, passes};
 
 use crate::dimension_test::DimensionTest;
 use crate::value_test::{ValueTest, add_texts};
@@ -58,10 +58,21 @@ fn look_up_of(alloc: Global, test: &DimensionTest) -> Result<DimensionTest, Allo
     ensures place { IfOk result (λ t. t.place ≡ test.now.place) }
     ensures holds { IfOk result (λ t. (dims : List (List ℕ)) → holds_of t dims ≡ holds_of test.now dims) }
 {
-    let mut texts = TextSet::new(alloc);
-    add_texts(&mut texts, &test.test)?;
     Ok(DimensionTest {
         place: test.place,
-        test: ValueTest::Among(texts),
+        test: texts_of(alloc, &test.test)?,
     })
+}
+
+// A test for the same texts: one text is compared, and only more are looked up by hashing.
+fn texts_of(alloc: Global, test: &ValueTest) -> Result<ValueTest, AllocError>
+    requires { is_texts test.now ≡ true }
+    ensures { IfOk result (λ t. (value : List ℕ) → passes t value ≡ passes test.now value) }
+{
+    if let ValueTest::Equals(text) = test {
+        return Ok(ValueTest::Equals(text.copy()?));
+    }
+    let mut texts = TextSet::new(alloc);
+    add_texts(&mut texts, test)?;
+    Ok(ValueTest::Among(texts))
 }

@@ -1,4 +1,4 @@
-ghost use Rattle.std.specs.Prelude.{◌≡◌, ◌||◌, ◌&&◌, ℕ, List, true, false, IfOk, bytes_eq};
+ghost use Rattle.std.specs.Prelude.{◌≡◌, ◌||◌, ◌&&◌, ℕ, List, true, false, IfOk, IfSome, bytes_eq};
 ghost use Rattle.std.specs.List.{list_any};
 ghost use Rattle.dr_predicate.specs.LookUps.{is_texts as is_texts_of};
 ghost use Rattle.dr_predicate.specs.Match.{lies_within, passes as passes_of};
@@ -8,7 +8,7 @@ use crate::ranges::Ranges;
 use dr_base::Text;
 use dr_dict::TextSet;
 use dr_like::fits;
-use std::alloc::AllocError;
+use std::alloc::{AllocError, Global};
 
 /// What is asked of the value of a dimension (Apache Druid documentation, query filters).
 #[derive(Drop)]
@@ -52,24 +52,40 @@ impl ValueTest {
         }
     }
 
-    // Lets those texts of an `in` pass that another test lets pass too, and tells whether both ask for texts.
-    pub(crate) fn add(&mut self, other: &ValueTest) -> Result<bool, AllocError>
+    // Lets those texts pass too that another test asks for, and tells whether both ask for texts.
+    pub(crate) fn add(&mut self, alloc: Global, other: &ValueTest) -> Result<bool, AllocError>
         ensures added { IfOk result (λ added. added ≡ true → (value : List ℕ) → passes_of self.new value ≡ (passes_of self.old value || passes_of other.now value)) }
         ensures same { IfOk result (λ added. added ≡ false → self.new ≡ self.old) }
     {
         match self {
             ValueTest::Among(texts) => add_texts(texts, other),
+            ValueTest::Equals(text) => {
+                let Some(texts) = with_text(alloc, text, other)? else {
+                    return Ok(false);
+                };
+                *self = ValueTest::Among(texts);
+                Ok(true)
+            }
             _ => Ok(false),
         }
     }
 
-    // Lets only those texts of an `in` pass that another `in` lets pass too, and tells whether both are that.
-    pub(crate) fn keep(&mut self, other: &ValueTest) -> Result<bool, AllocError>
+    // Lets only those texts pass that another test asks for too, and tells whether both ask for texts.
+    pub(crate) fn keep(&mut self, alloc: Global, other: &ValueTest) -> Result<bool, AllocError>
         ensures kept { IfOk result (λ kept. kept ≡ true → (value : List ℕ) → passes_of self.new value ≡ (passes_of self.old value && passes_of other.now value)) }
         ensures same { IfOk result (λ kept. kept ≡ false → self.new ≡ self.old) }
     {
         match self {
-            ValueTest::Among(texts) => keep_texts(texts, other),
+            ValueTest::Among(texts) => keep_texts(alloc, texts, other),
+            ValueTest::Equals(text) => {
+                if !other.is_texts() {
+                    return Ok(false);
+                }
+                if !other.passes(text.as_str()) {
+                    *self = ValueTest::Among(TextSet::new(alloc));
+                }
+                Ok(true)
+            }
             _ => Ok(false),
         }
     }
@@ -108,12 +124,31 @@ pub fn add_texts(texts: &mut TextSet, test: &ValueTest) -> Result<bool, AllocErr
     }
 }
 
-// Keeps the texts that an `in` asks for too, and tells whether the test is one.
-fn keep_texts(texts: &mut TextSet, test: &ValueTest) -> Result<bool, AllocError>
+// A text and those that a test asks for; none where it asks for no texts.
+fn with_text(alloc: Global, text: &Text, test: &ValueTest) -> Result<Option<TextSet>, AllocError>
+    ensures { IfOk result (λ texts. IfSome texts (λ texts. (value : List ℕ) → list_any (bytes_eq value) texts ≡ (bytes_eq value text.now || passes_of test.now value))) }
+{
+    let mut both = TextSet::new(alloc);
+    both.add(text)?;
+    if add_texts(&mut both, test)? {
+        Ok(Some(both))
+    } else {
+        Ok(None)
+    }
+}
+
+// Keeps the texts that a test asks for too, and tells whether it asks for texts.
+fn keep_texts(alloc: Global, texts: &mut TextSet, test: &ValueTest) -> Result<bool, AllocError>
     ensures kept { IfOk result (λ kept. kept ≡ true → (value : List ℕ) → list_any (bytes_eq value) texts.new ≡ (list_any (bytes_eq value) texts.old && passes_of test.now value)) }
     ensures same { IfOk result (λ kept. kept ≡ false → texts.new ≡ texts.old) }
 {
     match test {
+        ValueTest::Equals(text) => {
+            let mut one = TextSet::new(alloc);
+            one.add(text)?;
+            texts.keep_all(&one)?;
+            Ok(true)
+        }
         ValueTest::Among(others) => {
             texts.keep_all(others)?;
             Ok(true)
