@@ -1,8 +1,7 @@
 -- Lists of truths that are narrowed.
-use Rattle.std.proofs.Common.{inl, inr, ◌≡◌, ◌∙◌, sym, refl, ap, subst, ℕ, ◌+◌, ◌<◌, ◌≤◌, ◌&&◌, ◌||◌, not, Bool, true, false, List, length, get_or, set, arith}
+use Rattle.std.proofs.Common.{inl, inr, ◌≡◌, ◌∙◌, sym, refl, ap, subst, ℕ, ◌+◌, ◌<◌, ◌≤◌, ◌&&◌, Bool, true, false, List, length, get_or, set, arith}
 use Rattle.std.proofs.lemmas.List.{length-set, get_or-set_same, get_or-set_other}
 use Rattle.std.proofs.lemmas.Bool.{cases_lt}
-use Rattle.dr_base.proofs.Truths.{and_regroups}
 use Rattle.dr_columns.specs.Rows.{Narrows}
 
 -- narrowed up to a place
@@ -41,28 +40,3 @@ pub record ToNarrow (whole left : ℕ → Bool) (before after : List Bool) : Typ
 
 pub same-test : (f g : ℕ → Bool) (before after : List Bool) → ((i : ℕ) → i < length before → f i ≡ g i) → Narrows f before after → Narrows g before after
 same-test f g before after same h = record { count = h.count; each = λ i lt. h.each i lt ∙ ap (λ b. get_or before i false && b) (same i lt) }
-
-pub neither : (a b : Bool) → (not a && not b) ≡ not (a || b)
-neither true b = refl
-neither false b = refl
-
--- narrowed by two tests in turn, which together are one
-pub narrowed-twice : (f g whole : ℕ → Bool) (first second last : List Bool) → ((i : ℕ) → whole i ≡ (f i && g i)) → Narrows f first second → Narrows g second last → Narrows whole first last
-narrowed-twice f g whole first second last is a b = record {
-  count = b.count ∙ a.count;
-  each = λ i lt.
-      b.each i (omega (arith, lt, a.count))
-      ∙ ap (λ x. x && g i) (a.each i lt)
-      ∙ sym (and_regroups (get_or first i false) (f i) (g i)) ∙ ap (λ x. get_or first i false && x) (sym (is i));
-}
-
--- and by three
-pub narrowed-thrice : (f g h whole : ℕ → Bool) (first second third last : List Bool) → ((i : ℕ) → whole i ≡ (f i && (g i && h i))) → Narrows f first second → Narrows g second third → Narrows h third last → Narrows whole first last
-narrowed-thrice f g h whole first second third last is a b c =
-    narrowed-twice f (λ i. g i && h i) whole first second last is a (narrowed-twice g h (λ i. g i && h i) second third last (λ i. refl) b c)
-
--- neither one of some holds, nor not all of others, nor a third
-pub none_of : (one all third : Bool) → ((not one && all) && not third) ≡ not (one || (not all || third))
-none_of true all third = refl
-none_of false true third = refl
-none_of false false third = refl

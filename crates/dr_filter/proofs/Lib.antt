@@ -1,3 +1,3 @@
 pub mod DistinctValues
+pub mod EveryMember
 pub mod Levels
-pub mod Members

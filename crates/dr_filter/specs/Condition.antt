@@ -1,13 +1,10 @@
 -- The condition that a filter stands for, and the rows that it keeps (Apache Druid documentation, query filters).
-use Rattle.std.specs.Prelude.{ℕ, ℤ, Bool, true, false, not, ◌||◌, ◌&&◌, List, [], ◌∷◌, Option, Some, None, map, box_value}
+use Rattle.std.specs.Prelude.{ℕ, ℤ, Bool, true, false, not, ◌||◌, ◌&&◌, List, [], ◌∷◌, map, box_value}
 use Rattle.dr_time.specs.declared.interval.Interval.{Interval}
 use Rattle.dr_time.specs.Union.{union_holds}
-use Rattle.dr_predicate.specs.declared.bound.Bound.{Bound}
 use Rattle.dr_predicate.specs.declared.dimension_test.DimensionTest.{DimensionTest}
-use Rattle.dr_filter.specs.declared.filter.Filter.{Filter, fold-Filter}
-use Rattle.dr_filter.specs.declared.filter.Filter.TheOpen.{Filter-F}
-use Rattle.dr_filter.specs.declared.together.Together.{Together}
-use Rattle.dr_predicate.specs.LookUps.{as_range}
+use Rattle.dr_filter.specs.declared.filter_tree.FilterTree.{FilterTree, fold-FilterTree}
+use Rattle.dr_filter.specs.declared.filter_tree.FilterTree.TheOpen.{FilterTree-F}
 use Rattle.dr_predicate.specs.Match.{holds_of}
 
 mutual
@@ -44,43 +41,17 @@ abbrev mutual
   some_matches time dims no_conditions = false
   some_matches time dims (condition c cs) = matches time dims c || some_matches time dims cs
 
--- what a test of a dimension stands for where it is asked together with others: that it holds, or that it doesn't
-abbrev pub selects : Bool → DimensionTest → Condition
-selects true t = dimension t
-selects false t = opposite (dimension t)
-
-abbrev pub ranges : Bool → Bound → Condition
-ranges holds b = selects holds (as_range b)
-
--- and what intervals of time do
-abbrev pub during : Bool → List Interval → Condition
-during true intervals = interval intervals
-during false intervals = opposite (interval intervals)
-
--- the members of an `and` or an `or` in their order: those that are asked together, and the others, which stand apart
-abbrev pub members_of : {A : Type 0} → (A → Condition) → List (Option A) → List Condition → List Condition
-members_of meant [] cs = cs
-members_of meant (Some m ∷ ms) cs = meant m ∷ members_of meant ms cs
-members_of meant (None ∷ ms) [] = members_of meant ms []
-members_of meant (None ∷ ms) (c ∷ cs) = c ∷ members_of meant ms cs
-
--- all members of an `or`, where one of some texts, bounds and intervals is to hold or not all of others, or of an `and`, where none of the ones is to hold and all of the others
-abbrev pub members_in : Bool → Together → List Condition → List Condition
-members_in holds t cs =
-    members_of (selects holds) t.some_text (members_of (ranges holds) t.some_bound (members_of (during holds) t.some_time
-    (members_of (selects (not holds)) t.every_text (members_of (ranges (not holds)) t.every_bound (members_of (during (not holds)) t.every_time cs)))))
-
 -- one level, with the filters inside already seen as conditions
-abbrev pub condition_step : Filter-F Condition → Condition
-condition_step (Filter-F.Dimension test) = dimension test
-condition_step (Filter-F.Interval union) = interval union
-condition_step (Filter-F.And together filters) = every (conditions_of (members_in false (box_value together) filters.items))
-condition_step (Filter-F.Or together filters) = some (conditions_of (members_in true (box_value together) filters.items))
-condition_step (Filter-F.Not filter) = opposite (box_value filter)
+abbrev pub condition_step : FilterTree-F Condition → Condition
+condition_step (FilterTree-F.Dimension test) = dimension test
+condition_step (FilterTree-F.Interval union) = interval union
+condition_step (FilterTree-F.And filters) = every (conditions_of filters.items)
+condition_step (FilterTree-F.Or filters) = some (conditions_of filters.items)
+condition_step (FilterTree-F.Not filter) = opposite (box_value filter)
 
 -- the condition that a filter stands for
-abbrev pub condition_in : Filter → Condition
-condition_in = fold-Filter Condition condition_step
+abbrev pub condition_in : FilterTree → Condition
+condition_in = fold-FilterTree Condition condition_step
 
-abbrev pub conditions_in : List Filter → Conditions
+abbrev pub conditions_in : List FilterTree → Conditions
 conditions_in filters = conditions_of (map condition_in filters)

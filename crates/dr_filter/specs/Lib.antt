@@ -1,8 +1,8 @@
 pub mod Refusal
 pub mod Times
-pub mod Together
 pub mod Condition
-pub mod Members
+pub mod Same
+pub mod Parts
 pub mod Values
 pub mod Fields
 pub mod TestOf

@@ -2,20 +2,18 @@
 //! A filter looks at the time and the dimension values of a row; what is asked of one dimension is a test of `dr_predicate`.
 #![tactic(auto)]
 
-mod arranging;
-mod every_time;
+mod asking;
 mod fields;
 mod filter;
 mod filter_error;
+mod filter_tree;
+mod members;
 mod parts;
 mod reading;
-mod some_time;
 mod test_reading;
-mod together;
+mod times;
 mod values;
 
-pub use every_time::EveryTime;
 pub use filter::Filter;
 pub use filter_error::FilterError;
-pub use some_time::SomeTime;
-pub use together::Together;
+pub use filter_tree::FilterTree;

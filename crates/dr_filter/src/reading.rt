@@ -5,10 +5,10 @@ ghost use Rattle.dr_filter.specs.Condition.{condition_in};
 ghost use Rattle.dr_filter.specs.FilterOf.{only_time, interval_filter_of, simple_by, too_deep_of, fields_of, field_of, level_of, filter_at, filter_of};
 ghost use Rattle.dr_filter.specs.Refusal.{Gives};
 
-use crate::arranging::{every_of, one_of};
 use crate::fields::no_unlisted;
 use crate::filter::Filter;
 use crate::filter_error::FilterError;
+use crate::filter_tree::FilterTree;
 use crate::test_reading::read_test;
 use dr_base::{Text, list_field, object, required, text_field};
 use dr_intervals::intervals;
@@ -35,13 +35,16 @@ impl Filter {
     ///
     /// A field that is required and absent or null is 2 `Missing` with its name, and one of another kind 3 `WrongKind`. 0
     /// `NoMemory` may come in the place of any other answer. It takes memory for the texts of the value, and expected time by
-    /// its bytes and, for each filter of a dimension, by the columns of the schema; the bounds among the members of one `or` are
-    /// sorted, which takes time by their bytes times the logarithm of their number. A pattern is kept as it stands.
+    /// its bytes and, for each filter of a dimension, by the columns of the schema. Then it is made what [`Filter::asked`] gives,
+    /// in expected time and memory by the bytes of the value, but `bound`s and intervals, which are sorted and take theirs times the
+    /// logarithm of their number, and what stands in a nest that comes down to one test, which counts once for each such level. A
+    /// pattern is kept as it stands.
     #[tactic(auto, unfolding(crate::specs::FilterOf::filter_of))]
     pub fn parse(alloc: Global, value: &Value, schema: &Schema) -> Result<Filter, FilterError>
         ensures { Gives condition_in result (filter_of schema.now (view value.now)) }
     {
-        filter_at(alloc, value, schema, "filter", MOST_LEVELS)
+        let spelled = filter_at(alloc, value, schema, "filter", MOST_LEVELS)?;
+        Ok(Filter::of(alloc, spelled)?)
     }
 }
 
@@ -53,7 +56,7 @@ fn filter_at(
     schema: &Schema,
     name: &str,
     levels: usize,
-) -> Result<Filter, FilterError>
+) -> Result<FilterTree, FilterError>
     ensures { Gives condition_in result (filter_at levels schema.now name.now (view value.now)) }
 {
     if levels == 0 {
@@ -64,7 +67,7 @@ fn filter_at(
 }
 
 /// A filter that is nested too deep, whatever it is: 62, after 3 where it is no object.
-fn too_deep(alloc: Global, value: &Value, name: &str) -> Result<Filter, FilterError>
+fn too_deep(alloc: Global, value: &Value, name: &str) -> Result<FilterTree, FilterError>
     ensures { Gives condition_in result (too_deep_of name.now (view value.now)) }
 {
     object(alloc, value, name)?;
@@ -80,20 +83,20 @@ fn level(
     schema: &Schema,
     name: &str,
     inside: usize,
-) -> Result<Filter, FilterError>
+) -> Result<FilterTree, FilterError>
     ensures { Gives condition_in result (level_of (filter_at inside schema.now) schema.now name.now (view value.now)) }
 {
     let members = object(alloc, value, name)?;
     let kind = text_field(alloc, value, "type")?;
     if kind == "and" {
         let filters = fields(alloc, value, members, schema, inside)?;
-        Ok(every_of(alloc, filters)?)
+        Ok(FilterTree::And(filters))
     } else if kind == "or" {
         let filters = fields(alloc, value, members, schema, inside)?;
-        Ok(one_of(alloc, filters)?)
+        Ok(FilterTree::Or(filters))
     } else if kind == "not" {
         let filter = inner(alloc, value, members, schema, inside)?;
-        Ok(Filter::Not(Box::new(alloc, filter)?))
+        Ok(filter.denied(alloc)?)
     } else {
         simple(alloc, value, members, kind, schema)
     }
@@ -108,7 +111,7 @@ fn fields(
     members: &Map<String, Value>,
     schema: &Schema,
     inside: usize,
-) -> Result<Vec<Filter>, FilterError>
+) -> Result<Vec<FilterTree>, FilterError>
     ensures { Gives (λ v. map condition_in v.items) result (fields_of (filter_at inside schema.now) (view value.now) (members_view members.now.entries)) }
 {
     let items = list_field(alloc, value, "fields")?;
@@ -123,7 +126,7 @@ fn each(
     values: &[Value],
     schema: &Schema,
     inside: usize,
-) -> Result<Vec<Filter>, FilterError>
+) -> Result<Vec<FilterTree>, FilterError>
     ensures { Gives (λ v. map condition_in v.items) result (each (filter_at inside schema.now (codes "fields")) (items_view values.now)) }
 {
     let mut filters = Vec::new(alloc);
@@ -142,7 +145,7 @@ fn inner(
     members: &Map<String, Value>,
     schema: &Schema,
     inside: usize,
-) -> Result<Filter, FilterError>
+) -> Result<FilterTree, FilterError>
     ensures { Gives condition_in result (field_of (filter_at inside schema.now) (view value.now) (members_view members.now.entries)) }
 {
     let found = required(alloc, value, "field")?;
@@ -158,14 +161,14 @@ fn simple(
     members: &Map<String, Value>,
     kind: &str,
     schema: &Schema,
-) -> Result<Filter, FilterError>
+) -> Result<FilterTree, FilterError>
     ensures { Gives condition_in result (simple_by kind.now schema.now (view value.now) (members_view members.now.entries)) }
 {
     if kind == "interval" {
         interval_filter(alloc, value, members)
     } else {
         let test = read_test(alloc, value, members, kind, schema)?;
-        Ok(Filter::Dimension(test))
+        Ok(FilterTree::of_test(test))
     }
 }
 
@@ -174,14 +177,14 @@ fn interval_filter(
     alloc: Global,
     value: &Value,
     members: &Map<String, Value>,
-) -> Result<Filter, FilterError>
+) -> Result<FilterTree, FilterError>
     ensures { Gives condition_in result (interval_filter_of (view value.now) (members_view members.now.entries)) }
 {
     let name = text_field(alloc, value, "dimension")?;
     only_time(alloc, name)?;
     let union = intervals(alloc, value)?;
     no_unlisted(alloc, members, &["type", "dimension", "intervals"])?;
-    Ok(Filter::Interval(union))
+    Ok(FilterTree::of_intervals(union))
 }
 
 fn only_time(alloc: Global, name: &str) -> Result<(), FilterError>

@@ -1,4 +1,4 @@
-pub mod LookedUp
+pub mod Joining
 pub mod Ends
 pub mod Reaching
 pub mod Gathering

@@ -1,9 +1,7 @@
--- The bounds among the members of an `or`, dimension by dimension.
+-- Ranges of which one is to hold a value, dimension by dimension. No public contract cites this file.
 use Rattle.std.specs.Prelude.{◌≡◌, ℕ, ◌<◌, Bool, List, Option, length, get_or}
 use Rattle.std.specs.List.{list_any}
-use Rattle.dr_predicate.specs.declared.bound.Bound.{Bound}
 use Rattle.dr_predicate.specs.declared.dimension_bounds.DimensionBounds.{DimensionBounds}
-use Rattle.dr_predicate.specs.LookUps.{as_range, tests_in, some_holds}
 use Rattle.dr_predicate.specs.Match.{value_at}
 use Rattle.dr_predicate.specs.Within.{some_within}
 
@@ -14,10 +12,6 @@ holds_in g dims = some_within g.bounds.items (value_at g.place dims)
 abbrev pub some_gathered : List (List ℕ) → List DimensionBounds → Bool
 some_gathered dims groups = list_any (λ g. holds_in g dims) groups
 
--- they tell of all dimension values what the bounds tell, of which one is to hold
-abbrev pub AreGathered : List DimensionBounds → List (Option Bound) → Type 0
-AreGathered groups ms = (dims : List (List ℕ)) → some_gathered dims groups ≡ some_holds dims (tests_in as_range ms)
-
--- the bounds of a dimension stand at a place in a list
+-- the ranges of a dimension stand at a place in a list
 abbrev pub IsGroupOf : List DimensionBounds → ℕ → Option ℕ → Type 0
 IsGroupOf groups i place = (i < length groups) × ((g : DimensionBounds) → (get_or groups i g).place ≡ place)

@@ -2,5 +2,6 @@ pub mod Within
 pub mod Ends
 pub mod Ranges
 pub mod Match
-pub mod LookUps
+pub mod Tests
 pub mod Gathered
+pub mod Joined

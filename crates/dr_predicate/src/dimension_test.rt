@@ -1,9 +1,10 @@
-ghost use Rattle.std.specs.Prelude.{◌≡◌, IfSome};
-ghost use Rattle.dr_predicate.specs.LookUps.{IsTestOf};
+ghost use Rattle.std.specs.Prelude.{◌≡◌, ℕ, List, IfOk, IfSome};
 ghost use Rattle.dr_predicate.specs.Match.{holds_of, value_at as value_at_of};
+ghost use Rattle.dr_predicate.specs.Tests.{IsTestOf};
 
 use crate::value_test::ValueTest;
 use dr_base::Text;
+use std::alloc::{AllocError, Global};
 
 /// A test of one dimension: its place in the schema's list, from 0, and what is asked of its value. A column that the
 /// schema lacks has no place, and the empty text as its value in each row.
@@ -19,6 +20,17 @@ impl DimensionTest {
         ensures { result ≡ holds_of self.now dims.now }
     {
         self.test.passes(value_at(dims, self.place))
+    }
+
+    /// A test that holds of the same rows, in memory of its own. The only error is that memory ran out. It takes expected time and
+    /// memory by the bytes of the test.
+    pub fn copy(&self, alloc: Global) -> Result<DimensionTest, AllocError>
+        ensures { IfOk result (λ t. (dims : List (List ℕ)) → holds_of t dims ≡ holds_of self.now dims) }
+    {
+        Ok(DimensionTest {
+            place: self.place,
+            test: self.test.copy(alloc)?,
+        })
     }
 }
 
@@ -36,11 +48,11 @@ fn value_at(dims: &[Text], place: Option<usize>) -> &str
 }
 
 /// The place of the first test of a dimension among some tests.
-pub fn place_among(look_ups: &[DimensionTest], place: Option<usize>) -> Option<usize>
-    ensures { IfSome result (λ i. IsTestOf look_ups.now i place) }
+pub fn place_among(tests: &[DimensionTest], place: Option<usize>) -> Option<usize>
+    ensures { IfSome result (λ i. IsTestOf tests.now i place) }
 {
-    for i in 0..look_ups.len() {
-        if look_ups[i].place == place {
+    for i in 0..tests.len() {
+        if tests[i].place == place {
             return Some(i);
         }
     }

@@ -39,6 +39,13 @@ impl Ranges {
         Ok(Ranges(outer(alloc, sorted.as_slice())?))
     }
 
+    // Equal ranges.
+    pub(crate) fn copy(&self, alloc: Global) -> Result<Ranges, AllocError>
+        ensures { IfOk result (λ r. r ≡ self.now) }
+    {
+        Ok(Ranges(copied(alloc, self.0.as_slice())?))
+    }
+
     /// Whether a text lies in one of the ranges. It takes no memory, and time by the bytes of the text times the logarithm of the
     /// number of ranges.
     pub fn hold(&self, text: &str) -> bool
@@ -55,6 +62,16 @@ impl Ranges {
         let last = &self.0[place - 1];
         not_after(&last.upper, last.upper_strict, text)
     }
+}
+
+fn copied(alloc: Global, bounds: &[Bounds]) -> Result<Vec<Bounds>, AllocError>
+    ensures { IfOk result (λ copy. copy.items ≡ bounds.now) }
+{
+    let mut copy = Vec::with_capacity(alloc, bounds.len())?;
+    for one in bounds {
+        copy.push(one.copy()?)?;
+    }
+    Ok(copy)
 }
 
 fn start_order(a: &Bounds, b: &Bounds) -> Ordering

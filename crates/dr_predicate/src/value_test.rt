@@ -1,6 +1,5 @@
 ghost use Rattle.std.specs.Prelude.{◌≡◌, ◌||◌, ◌&&◌, ℕ, List, true, false, IfOk, IfSome, bytes_eq};
 ghost use Rattle.std.specs.List.{list_any};
-ghost use Rattle.dr_predicate.specs.LookUps.{is_texts as is_texts_of};
 ghost use Rattle.dr_predicate.specs.Match.{lies_within, passes as passes_of};
 
 use crate::bounds::Bounds;
@@ -19,7 +18,7 @@ pub enum ValueTest {
     Among(TextSet),
     /// `bound`: it lies in this range.
     Within(Bounds),
-    /// `bound`s of one `or`: it lies in one of these ranges.
+    /// `bound`s of which one is to hold: it lies in one of these ranges.
     WithinOne(Ranges),
     /// `like`: it fits this pattern, in which `%` is any run of characters and `_` one Unicode scalar value.
     Like(Text),
@@ -43,12 +42,31 @@ impl ValueTest {
     }
 
     // Whether it asks for one of some texts.
-    pub(crate) fn is_texts(&self) -> bool
-        ensures { result ≡ is_texts_of self.now }
-    {
+    pub(crate) fn is_texts(&self) -> bool {
         match self {
             ValueTest::Equals(_) | ValueTest::Among(_) => true,
             _ => false,
+        }
+    }
+
+    // Whether it asks for one range.
+    pub(crate) fn is_range(&self) -> bool {
+        match self {
+            ValueTest::Within(_) => true,
+            _ => false,
+        }
+    }
+
+    // A test that the same values pass, in memory of its own.
+    pub(crate) fn copy(&self, alloc: Global) -> Result<ValueTest, AllocError>
+        ensures { IfOk result (λ t. (value : List ℕ) → passes_of t value ≡ passes_of self.now value) }
+    {
+        match self {
+            ValueTest::Equals(text) => Ok(ValueTest::Equals(text.copy()?)),
+            ValueTest::Among(texts) => Ok(ValueTest::Among(copied(alloc, texts)?)),
+            ValueTest::Within(bounds) => Ok(ValueTest::Within(bounds.copy()?)),
+            ValueTest::WithinOne(ranges) => Ok(ValueTest::WithinOne(ranges.copy(alloc)?)),
+            ValueTest::Like(pattern) => Ok(ValueTest::Like(pattern.copy()?)),
         }
     }
 
@@ -70,7 +88,7 @@ impl ValueTest {
         }
     }
 
-    // Lets only those texts pass that another test asks for too, and tells whether both ask for texts.
+    // Lets only those values pass that pass another test too, and tells whether it can ask both.
     pub(crate) fn keep(&mut self, alloc: Global, other: &ValueTest) -> Result<bool, AllocError>
         ensures kept { IfOk result (λ kept. kept ≡ true → (value : List ℕ) → passes_of self.new value ≡ (passes_of self.old value && passes_of other.now value)) }
         ensures same { IfOk result (λ kept. kept ≡ false → self.new ≡ self.old) }
@@ -78,28 +96,12 @@ impl ValueTest {
         match self {
             ValueTest::Among(texts) => keep_texts(alloc, texts, other),
             ValueTest::Equals(text) => {
-                if !other.is_texts() {
-                    return Ok(false);
-                }
                 if !other.passes(text.as_str()) {
                     *self = ValueTest::Among(TextSet::new(alloc));
                 }
                 Ok(true)
             }
-            _ => Ok(false),
-        }
-    }
-
-    // Narrows the range of a `bound` to what lies in another one too, and tells whether it is one.
-    pub(crate) fn narrow(&mut self, bounds: &Bounds) -> Result<bool, AllocError>
-        ensures narrowed { IfOk result (λ narrowed. narrowed ≡ true → (value : List ℕ) → passes_of self.new value ≡ (passes_of self.old value && lies_within bounds.now value)) }
-        ensures same { IfOk result (λ narrowed. narrowed ≡ false → self.new ≡ self.old) }
-    {
-        match self {
-            ValueTest::Within(within) => {
-                within.narrow(bounds)?;
-                Ok(true)
-            }
+            ValueTest::Within(bounds) => narrow(bounds, other),
             _ => Ok(false),
         }
     }
@@ -107,7 +109,6 @@ impl ValueTest {
 
 // Adds the texts that a test asks for, and tells whether it asks for texts.
 pub fn add_texts(texts: &mut TextSet, test: &ValueTest) -> Result<bool, AllocError>
-    ensures is { IfOk result (λ added. added ≡ is_texts_of test.now) }
     ensures added { IfOk result (λ added. added ≡ true → (value : List ℕ) → list_any (bytes_eq value) texts.new ≡ (list_any (bytes_eq value) texts.old || passes_of test.now value)) }
     ensures same { IfOk result (λ added. added ≡ false → texts.new ≡ texts.old) }
 {
@@ -155,4 +156,27 @@ fn keep_texts(alloc: Global, texts: &mut TextSet, test: &ValueTest) -> Result<bo
         }
         _ => Ok(false),
     }
+}
+
+// Narrows a range to what lies in the range of a test too, and tells whether the test asks for one.
+fn narrow(bounds: &mut Bounds, test: &ValueTest) -> Result<bool, AllocError>
+    ensures narrowed { IfOk result (λ narrowed. narrowed ≡ true → (value : List ℕ) → lies_within bounds.new value ≡ (lies_within bounds.old value && passes_of test.now value)) }
+    ensures same { IfOk result (λ narrowed. narrowed ≡ false → bounds.new ≡ bounds.old) }
+{
+    match test {
+        ValueTest::Within(other) => {
+            bounds.narrow(other)?;
+            Ok(true)
+        }
+        _ => Ok(false),
+    }
+}
+
+// The same texts, in memory of their own.
+fn copied(alloc: Global, texts: &TextSet) -> Result<TextSet, AllocError>
+    ensures { IfOk result (λ copy. (value : List ℕ) → list_any (bytes_eq value) copy ≡ list_any (bytes_eq value) texts.now) }
+{
+    let mut copy = TextSet::new(alloc);
+    copy.add_all(texts)?;
+    Ok(copy)
 }
