@@ -2,7 +2,8 @@
 use denote.Param.Send.{IsSync, sendable}
 use Rattle.std.proofs.Crossing.{crosses, Vec-sync, Box-sync}
 use Rattle.dr_filter.specs.contracts.filter.Filter as Filter
-use Rattle.dr_filter.proofs.filter.Filter.TheLaws.TheKnot as filter
+use Rattle.dr_filter.specs.contracts.filter_tree.FilterTree as FilterTree
+use Rattle.dr_filter.proofs.filter_tree.FilterTree.TheLaws.TheKnot as tree
 use Rattle.dr_having.specs.contracts.having.Having as Having
 use Rattle.dr_having.proofs.having.Having.TheLaws.TheKnot as having
 use Rattle.dr_ask.specs.contracts.group_by.GroupBy as GroupBy
@@ -15,14 +16,16 @@ use Rattle.dr_ask.proofs.scan.Scan.TheSendSync as scan
 use Rattle.dr_ask.proofs.timeseries.Timeseries.TheSendSync as timeseries
 use Rattle.dr_time.proofs.union.Union.TheSendSync as union
 use Rattle.dr_predicate.proofs.dimension_test.DimensionTest.TheSendSync as test
-use Rattle.dr_filter.proofs.together.Together.TheSendSync as together
 use Rattle.dr_having.proofs.group_value.GroupValue.TheSendSync as group_value
 use Rattle.dr_having.proofs.dimension_value.DimensionValue.TheSendSync as dimension_value
 use Rattle.dr_having.proofs.together.Together.TheSendSync as having_together
 use Rattle.dr_gran.proofs.gran.Gran.TheSendSync as gran
 
-filter-sync : IsSync (Filter.the_field).row
-filter-sync = filter.sync-Filter test.the_field_sync union.the_sync (Box-sync _ together.the_sync) Vec-sync Box-sync
+tree-sync : IsSync (FilterTree.the_field).row
+tree-sync = tree.sync-FilterTree test.the_field_sync union.the_sync Vec-sync Box-sync
+
+filter-sync : IsSync Filter.the_row
+filter-sync = search (sendable, crosses, tree-sync) depth 20
 
 having-sync : IsSync (Having.the_field).row
 having-sync = having.sync-Having group_value.the_field_sync dimension_value.the_field_sync (Box-sync _ having_together.the_sync) Vec-sync Box-sync
