@@ -1,6 +1,6 @@
-ghost use Rattle.std.specs.Prelude.{◌≡◌, ◌||◌, ◌&&◌, ℕ, List, IfOk, OnOk, bytes_eq};
+ghost use Rattle.std.specs.Prelude.{◌≡◌, ◌||◌, ◌&&◌, not, ℕ, List, IfOk, OnOk, bytes_eq};
 ghost use Rattle.std.specs.List.{list_any};
-ghost use Rattle.dr_having.specs.LookUps.{is_found};
+ghost use Rattle.dr_having.specs.Bounds.{is_found};
 ghost use Rattle.dr_having.specs.Meeting.{meets_dimension};
 
 use crate::dimension_value::DimensionValue;
@@ -27,8 +27,36 @@ impl TextLookUp {
         })
     }
 
+    // Adds the text of one more condition, where it is on this dimension; whether it is.
+    pub(crate) fn takes(&mut self, condition: &DimensionValue) -> Result<bool, AllocError>
+        ensures { IfOk result (λ taken. (dims : List (List ℕ)) → is_found dims self.new ≡ (is_found dims self.old || (taken && meets_dimension condition.now dims))) }
+    {
+        if self.place == condition.place {
+            self.add(condition)?;
+            Ok(true)
+        } else {
+            Ok(false)
+        }
+    }
+
+    // Keeps of the texts the one of one more condition, where it is on this dimension; whether it is.
+    pub(crate) fn keeps(
+        &mut self,
+        alloc: Global,
+        condition: &DimensionValue,
+    ) -> Result<bool, AllocError>
+        ensures { IfOk result (λ taken. (dims : List (List ℕ)) → is_found dims self.new ≡ (is_found dims self.old && (not taken || meets_dimension condition.now dims))) }
+    {
+        if self.place == condition.place {
+            self.keep(alloc, condition)?;
+            Ok(true)
+        } else {
+            Ok(false)
+        }
+    }
+
     // Adds the text of one more condition.
-    pub(crate) fn add(&mut self, condition: &DimensionValue) -> Result<(), AllocError>
+    fn add(&mut self, condition: &DimensionValue) -> Result<(), AllocError>
         ensures place { OnOk result (self.new.place ≡ self.old.place) }
         ensures more { OnOk result ((value : List ℕ) → list_any (bytes_eq value) self.new.texts ≡ (list_any (bytes_eq value) self.old.texts || bytes_eq value condition.now.value)) }
     {
@@ -37,11 +65,7 @@ impl TextLookUp {
     }
 
     // Keeps of the texts the one of one more condition, where it is among them.
-    pub(crate) fn keep(
-        &mut self,
-        alloc: Global,
-        condition: &DimensionValue,
-    ) -> Result<(), AllocError>
+    fn keep(&mut self, alloc: Global, condition: &DimensionValue) -> Result<(), AllocError>
         ensures place { OnOk result (self.new.place ≡ self.old.place) }
         ensures fewer { OnOk result ((value : List ℕ) → list_any (bytes_eq value) self.new.texts ≡ (list_any (bytes_eq value) self.old.texts && bytes_eq value condition.now.value)) }
     {
