@@ -9,15 +9,18 @@ use Rattle.dr_having.specs.declared.asked_having.AskedHaving.{AskedHaving}
 use Rattle.dr_having.specs.declared.asked_output.AskedOutput.{AskedOutput}
 use Rattle.dr_having.specs.declared.asked_output.AskedOutput.TheVariants.{NoNumber}
 use Rattle.dr_having.specs.declared.conjunction.Conjunction.{Conjunction}
+use Rattle.dr_having.specs.declared.dimension_value.DimensionValue.{DimensionValue}
 use Rattle.dr_having.specs.declared.every_bound.EveryBound.{EveryBound}
 use Rattle.dr_having.specs.declared.group_value.GroupValue.{GroupValue}
 use Rattle.dr_having.specs.declared.having.Having.{Having}
+use Rattle.dr_having.specs.declared.output_conditions.OutputConditions.{OutputConditions}
 use Rattle.dr_having.specs.declared.some_bound.SomeBound.{SomeBound}
+use Rattle.dr_having.specs.declared.text_look_up.TextLookUp.{TextLookUp}
 use Rattle.dr_having.specs.Asked.{asked_meets}
-use Rattle.dr_having.specs.Bounds.{lies_in, lies_in_at, narrowed, reaches_at}
+use Rattle.dr_having.specs.Bounds.{lies_in, lies_in_at, narrowed, reaches_at, is_found}
 use Rattle.dr_having.specs.Condition.{Condition, condition_in, conditions_of, meets, meets_every, meets_some}
 use Rattle.dr_having.specs.Gathered.{conjunction_meets, all_wanted, joined, AsksMore}
-use Rattle.dr_having.specs.Meeting.{compares, meets_value}
+use Rattle.dr_having.specs.Meeting.{compares, meets_value, meets_dimension}
 use Rattle.dr_having.specs.OutputMeets.{output_meets, outputs_meet, as_wanted}
 use Rattle.dr_having.specs.Placed.{value_placed, HaveNumbers}
 use Rattle.dr_outputs.specs.Numbered.{number_at, numbers_by}
@@ -64,26 +67,53 @@ put-behind dims values old same new o b is still more =
     ap (outputs_meet dims values) is ∙ list_all-append (output_meets dims values) same (o ∷ []) ∙ and_ends (outputs_meet dims values same) (output_meets dims values o)
     ∙ ap₂ (λ x y. x && y) (still ∙ and_true (outputs_meet dims values old)) more
 
+module _ {E : Type 0} (old new : OutputConditions) where
+  pub wanted-text : (look_up : TextLookUp) (c : DimensionValue) (holds : Bool) (r : Result (Unit {0}) E) → holds ≡ true → ((dims : List (List ℕ)) → is_found dims look_up ≡ meets_dimension c dims)
+      → OnOk r ((dims : List (List ℕ)) (values : List ℤ) → outputs_meet dims values new.asked.items ≡ (outputs_meet dims values old.asked.items && is_found dims look_up))
+      → OnOk r ((dims : List (List ℕ)) (values : List ℤ) → outputs_meet dims values new.asked.items ≡ (outputs_meet dims values old.asked.items && as_wanted holds (meets_dimension c dims)))
+  wanted-text look_up c holds (Ok u) wanted is more = λ dims values. more dims values ∙ (λ k. outputs_meet dims values old.asked.items && as_wanted (sym wanted k) (is dims k))
+  wanted-text look_up c holds (Err e) wanted is more = tt
+
+  pub unwanted-text : (c : DimensionValue) (holds : Bool) (r : Result (Unit {0}) E) → holds ≡ false
+      → OnOk r ((dims : List (List ℕ)) (values : List ℤ) → outputs_meet dims values new.asked.items ≡ (outputs_meet dims values old.asked.items && not (meets_dimension c dims)))
+      → OnOk r ((dims : List (List ℕ)) (values : List ℤ) → outputs_meet dims values new.asked.items ≡ (outputs_meet dims values old.asked.items && as_wanted holds (meets_dimension c dims)))
+  unwanted-text c holds (Ok u) denied more = λ dims values. more dims values ∙ ap (λ h. outputs_meet dims values old.asked.items && as_wanted h (meets_dimension c dims)) (sym denied)
+  unwanted-text c holds (Err e) denied more = tt
+
 -- ---- all that is asked
 
-pub outputs-more : {E : Type 0} (old : Conjunction) (outputs : List AskedOutput) (test : List (List ℕ) → List ℤ → Bool) (r : Result (Unit {0}) E)
-    → OnOk r ((dims : List (List ℕ)) (values : List ℤ) → outputs_meet dims values outputs ≡ (outputs_meet dims values old.outputs && test dims values))
+pub outputs-more : {E : Type 0} (old : Conjunction) (outputs : OutputConditions) (test : List (List ℕ) → List ℤ → Bool) (r : Result (Unit {0}) E)
+    → OnOk r ((dims : List (List ℕ)) (values : List ℤ) → outputs_meet dims values outputs.asked.items ≡ (outputs_meet dims values old.outputs.asked.items && test dims values))
     → OnOk r ((dims : List (List ℕ)) (values : List ℤ) → conjunction_meets dims values (record old { outputs = outputs }) ≡ (conjunction_meets dims values old && test dims values))
 outputs-more old outputs test (Ok u) h = λ dims values.
     let denied = list_all not (map (asked_meets dims values) old.denied.items) in
-    ap (λ b. b && denied) (h dims values) ∙ and_swaps (outputs_meet dims values old.outputs) (test dims values) denied
+    ap (λ b. b && denied) (h dims values) ∙ and_swaps (outputs_meet dims values old.outputs.asked.items) (test dims values) denied
 outputs-more old outputs test (Err e) h = tt
 
+none-denied : (dims : List (List ℕ)) (values : List ℤ) (denied : List AskedHaving) → length denied ≡ 0 → list_all not (map (asked_meets dims values) denied) ≡ true
+none-denied dims values [] none = refl
+none-denied dims values (a ∷ denied) none = absurd (omega (arith, none))
+
+pub outputs-alone : (dims : List (List ℕ)) (values : List ℤ) (c : Conjunction) → length c.denied.items ≡ 0 → conjunction_meets dims values c ≡ outputs_meet dims values c.outputs.asked.items
+outputs-alone dims values c none =
+    ap (λ b. outputs_meet dims values c.outputs.asked.items && b) (none-denied dims values c.denied.items none) ∙ and_true (outputs_meet dims values c.outputs.asked.items)
+
+-- the same is told in other words
+pub told-more : {E : Type 0} (old new : Conjunction) (test other : List (List ℕ) → List ℤ → Bool) (r : Result (Unit {0}) E) → ((dims : List (List ℕ)) (values : List ℤ) → test dims values ≡ other dims values)
+    → OnOk r ((dims : List (List ℕ)) (values : List ℤ) → conjunction_meets dims values new ≡ (conjunction_meets dims values old && test dims values))
+    → OnOk r ((dims : List (List ℕ)) (values : List ℤ) → conjunction_meets dims values new ≡ (conjunction_meets dims values old && other dims values))
+told-more old new test other (Ok u) same more = λ dims values. more dims values ∙ ap (λ b. conjunction_meets dims values old && b) (same dims values)
+told-more old new test other (Err e) same more = tt
+
 -- what is told at the call with the values that these outputs have
-pub denied-more : {E : Type 0} (places : List ℕ) (old new none inner : Conjunction) (a : AskedHaving) (test : List (List ℕ) → List ℤ → Bool) (r : Result (Unit {0}) E)
+pub denied-more : {E : Type 0} (places : List ℕ) (old new none inner : Conjunction) (test : List (List ℕ) → List ℤ → Bool) (r : Result (Unit {0}) E)
     → ((dims : List (List ℕ)) (values : List ℤ) → conjunction_meets dims values none ≡ true) → AsksMore places none inner test
-    → ((dims : List (List ℕ)) (values : List ℤ) → asked_meets dims values a ≡ conjunction_meets dims values inner)
-    → OnOk r ((dims : List (List ℕ)) (values : List ℤ) → conjunction_meets dims values new ≡ (conjunction_meets dims values old && not (asked_meets dims values a)))
+    → OnOk r ((dims : List (List ℕ)) (values : List ℤ) → conjunction_meets dims values new ≡ (conjunction_meets dims values old && not (conjunction_meets dims values inner)))
     → OnOk r (AsksMore places old new (λ dims values. not (test dims values)))
-denied-more places old new none inner a test (Ok u) empty more is denied = λ numbers have dims values.
+denied-more places old new none inner test (Ok u) empty more denied = λ numbers have dims values.
     let by = numbers_by numbers values in
-    denied dims by ∙ ap (λ b. conjunction_meets dims by old && not b) (is dims by ∙ more numbers have dims values ∙ ap (λ b. b && test dims by) (empty dims by))
-denied-more places old new none inner a test (Err e) empty more is denied = tt
+    denied dims by ∙ ap (λ b. conjunction_meets dims by old && not b) (more numbers have dims values ∙ ap (λ b. b && test dims by) (empty dims by))
+denied-more places old new none inner test (Err e) empty more denied = tt
 
 pub number-more : {E : Type 0} (places : List ℕ) (old new : Conjunction) (c : GroupValue) (holds : Bool) (r : Result (Unit {0}) E)
     → OnOk r ((dims : List (List ℕ)) (values : List ℤ) → conjunction_meets dims values new ≡ (conjunction_meets dims values old && as_wanted holds (meets_value (value_placed places c) values)))
@@ -104,7 +134,7 @@ neither_one : (a b : Bool) → not (a || b) ≡ (not a && not b)
 neither_one true b = refl
 neither_one false b = refl
 
-not_not : (a : Bool) → not (not a) ≡ a
+pub not_not : (a : Bool) → not (not a) ≡ a
 not_not true = refl
 not_not false = refl
 

@@ -11,7 +11,7 @@ use Rattle.dr_outputs.specs.Numbered.{numbers_by}
 
 -- all that was gathered holds
 abbrev pub conjunction_meets : List (List ℕ) → List ℤ → Conjunction → Bool
-conjunction_meets dims values c = outputs_meet dims values c.outputs && list_all not (map (asked_meets dims values) c.denied.items)
+conjunction_meets dims values c = outputs_meet dims values c.outputs.asked.items && list_all not (map (asked_meets dims values) c.denied.items)
 
 -- all of some conditions hold, or none does
 abbrev pub all_wanted : Bool → List (List ℕ) → List ℤ → List Having → Bool

@@ -1,10 +1,11 @@
-ghost use Rattle.std.specs.Prelude.{◌≡◌, not, map};
+ghost use Rattle.std.specs.Prelude.{◌≡◌, not, map, ℕ, ℤ, List};
 ghost use Rattle.std.specs.List.{list_all};
 ghost use Rattle.dr_having.specs.Asked.{asked_meets};
 ghost use Rattle.dr_having.specs.OutputMeets.{outputs_meet};
 
 use crate::asked_output::AskedOutput;
 use dr_outputs::{OutputNumbers, OutputTexts};
+use std::alloc::Global;
 
 /// What is asked of each group in the place of a `having`: all of some conditions on outputs, of which there is one for each output
 /// and form, and none of some others, which stand apart. Contracts see whether a group meets it, `asked_meets`.
@@ -15,6 +16,16 @@ pub struct AskedHaving {
 }
 
 impl AskedHaving {
+    // What is asked of outputs alone.
+    pub(crate) fn of_outputs(alloc: Global, outputs: Vec<AskedOutput>) -> AskedHaving
+        ensures { (dims : List (List ℕ)) (values : List ℤ) → asked_meets dims values result ≡ outputs_meet dims values outputs.items }
+    {
+        AskedHaving {
+            outputs,
+            denied: Vec::new(alloc),
+        }
+    }
+
     /// Whether a group meets it: its dimension values and the values of its aggregations, each in the order of the query. It
     /// takes no memory, and expected time by the conditions that stand apart, and by each aggregation, and the bytes of the value of
     /// each dimension, that is named within one of these, however many conditions name it.

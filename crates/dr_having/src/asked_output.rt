@@ -1,4 +1,5 @@
 ghost use Rattle.std.specs.Prelude.{◌≡◌, ◌&&◌, ◌||◌, not, ℕ, ℤ, List, IfOk};
+ghost use Rattle.dr_having.specs.Bounds.{is_found};
 ghost use Rattle.dr_having.specs.Meeting.{meets_value, meets_dimension};
 ghost use Rattle.dr_having.specs.OutputMeets.{output_meets, as_wanted};
 
@@ -39,22 +40,6 @@ impl AskedOutput {
         }
     }
 
-    // That a dimension has one value, or that it hasn't.
-    pub(crate) fn of_text(
-        alloc: Global,
-        condition: &DimensionValue,
-        holds: bool,
-    ) -> Result<AskedOutput, AllocError>
-        ensures { IfOk result (λ o. (dims : List (List ℕ)) (values : List ℤ) → output_meets dims values o ≡ as_wanted holds (meets_dimension condition.now dims)) }
-    {
-        let look_up = TextLookUp::of(alloc, condition)?;
-        if holds {
-            Ok(AskedOutput::Text(look_up))
-        } else {
-            Ok(AskedOutput::NoText(look_up))
-        }
-    }
-
     // Asks one comparison more, where what is asked is of this form and of this aggregation; whether it is.
     pub(crate) fn takes_number(
         &mut self,
@@ -83,30 +68,25 @@ impl AskedOutput {
         }
     }
 
-    // Asks one text more, where what is asked is of this form and of this dimension; whether it is.
-    pub(crate) fn takes_text(
-        &mut self,
-        alloc: Global,
-        condition: &DimensionValue,
-        holds: bool,
-    ) -> Result<bool, AllocError>
-        ensures { IfOk result (λ taken. (dims : List (List ℕ)) (values : List ℤ) → output_meets dims values self.new ≡ (output_meets dims values self.old && (not taken || as_wanted holds (meets_dimension condition.now dims)))) }
+    // Asks that one text is not the value either, where what is asked is of this form and of this dimension; whether it is.
+    pub(crate) fn takes_no_text(&mut self, condition: &DimensionValue) -> Result<bool, AllocError>
+        ensures { IfOk result (λ taken. (dims : List (List ℕ)) (values : List ℤ) → output_meets dims values self.new ≡ (output_meets dims values self.old && (not taken || not (meets_dimension condition.now dims)))) }
     {
         match self {
-            AskedOutput::Text(look_up) => {
-                if holds {
-                    look_up.keeps(alloc, condition)
-                } else {
-                    Ok(false)
-                }
-            }
-            AskedOutput::NoText(look_up) => {
-                if holds {
-                    Ok(false)
-                } else {
-                    look_up.takes(condition)
-                }
-            }
+            AskedOutput::NoText(look_up) => look_up.takes(condition),
+            AskedOutput::Text(_) => Ok(false),
+            AskedOutput::EveryNumber(_) => Ok(false),
+            AskedOutput::NoNumber(_) => Ok(false),
+        }
+    }
+
+    // Asks that the value is one of other texts too, where what is asked is of this form and of this dimension; whether it is.
+    pub(crate) fn takes_texts(&mut self, others: &TextLookUp) -> Result<bool, AllocError>
+        ensures { IfOk result (λ taken. (dims : List (List ℕ)) (values : List ℤ) → output_meets dims values self.new ≡ (output_meets dims values self.old && (not taken || is_found dims others.now))) }
+    {
+        match self {
+            AskedOutput::Text(look_up) => look_up.keeps(others),
+            AskedOutput::NoText(_) => Ok(false),
             AskedOutput::EveryNumber(_) => Ok(false),
             AskedOutput::NoNumber(_) => Ok(false),
         }

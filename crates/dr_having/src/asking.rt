@@ -108,7 +108,7 @@ fn put_denied(
 {
     let mut denied = Conjunction::new(alloc);
     put_each(alloc, &mut denied, conditions, places, holds)?;
-    asked.deny(denied.into_asked())
+    asked.deny(alloc, denied)
 }
 
 // Of each output the first place of one with the same number.

@@ -1,15 +1,16 @@
 ghost use Rattle.std.specs.Prelude.{◌≡◌, ◌&&◌, ◌||◌, not, ℕ, ℤ, List, [], OnOk, IfOk};
+ghost use Rattle.dr_having.specs.Bounds.{is_found};
 ghost use Rattle.dr_having.specs.Meeting.{meets_value, meets_dimension};
 ghost use Rattle.dr_having.specs.OutputMeets.{outputs_meet, as_wanted};
 
 use crate::asked_output::AskedOutput;
 use crate::dimension_value::DimensionValue;
 use crate::group_value::GroupValue;
+use crate::text_look_up::TextLookUp;
 use indexmap::IndexMap;
 use std::alloc::{AllocError, Global};
-use std::marker::Model;
 
-/// Conditions on outputs that are all to hold, gathered output by output. A contract sees what is asked of the outputs.
+/// Conditions on outputs that are all to hold, gathered output by output.
 #[derive(Debug, Drop)]
 pub struct OutputConditions {
     asked: Vec<AskedOutput>,
@@ -20,19 +21,10 @@ pub struct OutputConditions {
     no_texts: IndexMap<usize, usize>,
 }
 
-impl Model for OutputConditions {
-    ghost use Rattle.std.specs.Prelude.{List};
-    ghost use Rattle.dr_having.specs.declared.asked_output.AskedOutput.{AskedOutput};
-
-    ghost Value = { List AskedOutput };
-
-    ghost view = { λ c. c.asked.items };
-}
-
 impl OutputConditions {
     // No condition. It takes no memory yet.
     pub(crate) fn new(alloc: Global) -> OutputConditions
-        ensures { result ≡ [] }
+        ensures { result.asked.items ≡ [] }
     {
         OutputConditions {
             asked: Vec::new(alloc),
@@ -45,7 +37,7 @@ impl OutputConditions {
 
     // What is asked of the outputs.
     pub(crate) fn into_asked(self) -> Vec<AskedOutput>
-        ensures { result.items ≡ self }
+        ensures { result ≡ self.asked }
     {
         self.asked
     }
@@ -57,7 +49,7 @@ impl OutputConditions {
         condition: &GroupValue,
         holds: bool,
     ) -> Result<(), AllocError>
-        ensures { OnOk result ((dims : List (List ℕ)) (values : List ℤ) → outputs_meet dims values self.new ≡ (outputs_meet dims values self.old && as_wanted holds (meets_value condition.now values))) }
+        ensures { OnOk result ((dims : List (List ℕ)) (values : List ℤ) → outputs_meet dims values self.new.asked.items ≡ (outputs_meet dims values self.old.asked.items && as_wanted holds (meets_value condition.now values))) }
     {
         if holds {
             put_number(alloc, &mut self.asked, &mut self.numbers, condition, holds)
@@ -79,13 +71,41 @@ impl OutputConditions {
         condition: &DimensionValue,
         holds: bool,
     ) -> Result<(), AllocError>
-        ensures { OnOk result ((dims : List (List ℕ)) (values : List ℤ) → outputs_meet dims values self.new ≡ (outputs_meet dims values self.old && as_wanted holds (meets_dimension condition.now dims))) }
+        ensures { OnOk result ((dims : List (List ℕ)) (values : List ℤ) → outputs_meet dims values self.new.asked.items ≡ (outputs_meet dims values self.old.asked.items && as_wanted holds (meets_dimension condition.now dims))) }
     {
         if holds {
-            put_text(alloc, &mut self.asked, &mut self.texts, condition, holds)
+            self.add_texts(TextLookUp::of(alloc, condition)?)
         } else {
-            put_text(alloc, &mut self.asked, &mut self.no_texts, condition, holds)
+            self.add_no_text(alloc, condition)
         }
+    }
+
+    // Adds that a dimension has one of some values.
+    pub(crate) fn add_texts(&mut self, look_up: TextLookUp) -> Result<(), AllocError>
+        ensures { OnOk result ((dims : List (List ℕ)) (values : List ℤ) → outputs_meet dims values self.new.asked.items ≡ (outputs_meet dims values self.old.asked.items && is_found dims look_up)) }
+    {
+        let likely = *self.texts.entry(look_up.place)?.or_insert(self.asked.len());
+        if taken_texts(&mut self.asked, likely, &look_up)? {
+            return Ok(());
+        }
+        self.asked.push(AskedOutput::Text(look_up))?;
+        Ok(())
+    }
+
+    // Adds that a dimension hasn't one value.
+    fn add_no_text(&mut self, alloc: Global, condition: &DimensionValue) -> Result<(), AllocError>
+        ensures { OnOk result ((dims : List (List ℕ)) (values : List ℤ) → outputs_meet dims values self.new.asked.items ≡ (outputs_meet dims values self.old.asked.items && not (meets_dimension condition.now dims))) }
+    {
+        let likely = *self
+            .no_texts
+            .entry(condition.place)?
+            .or_insert(self.asked.len());
+        if taken_no_text(&mut self.asked, likely, condition)? {
+            return Ok(());
+        }
+        self.asked
+            .push(AskedOutput::NoText(TextLookUp::of(alloc, condition)?))?;
+        Ok(())
     }
 }
 
@@ -123,37 +143,32 @@ fn taken_number(
     output.takes_number(condition, holds)
 }
 
-// Adds a condition to what is asked of its dimension, which is found by hashing, or behind the others.
-fn put_text(
-    alloc: Global,
-    asked: &mut Vec<AskedOutput>,
-    places: &mut IndexMap<usize, usize>,
-    condition: &DimensionValue,
-    holds: bool,
-) -> Result<(), AllocError>
-    ensures { OnOk result ((dims : List (List ℕ)) (values : List ℤ) → outputs_meet dims values asked.new.items ≡ (outputs_meet dims values asked.old.items && as_wanted holds (meets_dimension condition.now dims))) }
-{
-    let likely = *places.entry(condition.place)?.or_insert(asked.len());
-    if taken_text(alloc, asked, likely, condition, holds)? {
-        return Ok(());
-    }
-    asked.push(AskedOutput::of_text(alloc, condition, holds)?)?;
-    Ok(())
-}
-
-// Adds a condition to what stands at a place, where it is of the same form and dimension; whether it is.
-fn taken_text(
-    alloc: Global,
+// Adds a text to those that the value of its dimension is none of, where these stand at a place; whether they do.
+fn taken_no_text(
     asked: &mut Vec<AskedOutput>,
     likely: usize,
     condition: &DimensionValue,
-    holds: bool,
 ) -> Result<bool, AllocError>
-    ensures { IfOk result (λ taken. (dims : List (List ℕ)) (values : List ℤ) → outputs_meet dims values asked.new.items ≡ (outputs_meet dims values asked.old.items && (not taken || as_wanted holds (meets_dimension condition.now dims)))) }
+    ensures { IfOk result (λ taken. (dims : List (List ℕ)) (values : List ℤ) → outputs_meet dims values asked.new.items ≡ (outputs_meet dims values asked.old.items && (not taken || not (meets_dimension condition.now dims)))) }
 {
     if likely >= asked.len() {
         return Ok(false);
     }
     let output = &mut asked[likely];
-    output.takes_text(alloc, condition, holds)
+    output.takes_no_text(condition)
+}
+
+// Keeps of the texts that the value of a dimension is one of those that others have too, where they stand at a place; whether they do.
+fn taken_texts(
+    asked: &mut Vec<AskedOutput>,
+    likely: usize,
+    others: &TextLookUp,
+) -> Result<bool, AllocError>
+    ensures { IfOk result (λ taken. (dims : List (List ℕ)) (values : List ℤ) → outputs_meet dims values asked.new.items ≡ (outputs_meet dims values asked.old.items && (not taken || is_found dims others.now))) }
+{
+    if likely >= asked.len() {
+        return Ok(false);
+    }
+    let output = &mut asked[likely];
+    output.takes_texts(others)
 }

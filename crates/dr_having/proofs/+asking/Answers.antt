@@ -11,8 +11,8 @@ use Rattle.dr_having.proofs.+asking.Goals as goal
 
 pub asking::put_denied-returns : goal.asking::put_denied-returns
 asking::put_denied-returns t c =
-    denied-more c.args.places.now c.args.asked.now c.deny.new.self c.new-denied.result c.put_each.new.asked c.into_asked.result (λ dims values. all_wanted c.args.holds dims values c.args.conditions.now) c.deny.result
-    c.new-denied.ensures c.in_ok-put_each.ensures c.into_asked.ensures c.deny.ensures
+    denied-more c.args.places.now c.args.asked.now c.deny.new.self c.new-denied.result c.put_each.new.asked (λ dims values. all_wanted c.args.holds dims values c.args.conditions.now) c.deny.result
+    c.new-denied.ensures c.in_ok-put_each.ensures c.deny.ensures
 
 pub asking::put_each-loop-condition-preserved : goal.asking::put_each-loop-condition-preserved
 asking::put_each-loop-condition-preserved t c = λ numbers have dims values.
