@@ -18,11 +18,11 @@ use Rattle.dr_having.specs.declared.some_bound.SomeBound.{SomeBound}
 use Rattle.dr_having.specs.declared.text_look_up.TextLookUp.{TextLookUp}
 use Rattle.dr_having.specs.Asked.{asked_meets}
 use Rattle.dr_having.specs.Bounds.{lies_in, lies_in_at, narrowed, reaches_at, is_found}
-use Rattle.dr_having.specs.Condition.{Condition, condition_in, conditions_of, meets, meets_every, meets_some}
+use Rattle.dr_having.specs.Condition.{condition_in, conditions_of, meets, meets_every, meets_some}
 use Rattle.dr_having.specs.Gathered.{conjunction_meets, all_wanted, joined, AsksMore}
 use Rattle.dr_having.specs.Meeting.{compares, meets_value, meets_dimension}
 use Rattle.dr_having.specs.OutputMeets.{output_meets, outputs_meet, as_wanted}
-use Rattle.dr_having.specs.Placed.{value_placed, HaveNumbers}
+use Rattle.dr_having.specs.Placed.{value_placed}
 use Rattle.dr_outputs.specs.Numbered.{number_at, numbers_by}
 use Rattle.dr_having.proofs.Narrowing.{lies_in-narrowed, place-narrowed}
 use Rattle.dr_having.proofs.Placing.{meets-placed}

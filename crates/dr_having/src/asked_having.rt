@@ -27,8 +27,8 @@ impl AskedHaving {
     }
 
     /// Whether a group meets it: its dimension values and the values of its aggregations, each in the order of the query. It
-    /// takes no memory, and expected time by the conditions that stand apart, and by each aggregation, and the bytes of the value of
-    /// each dimension, that is named within one of these, however many conditions name it.
+    /// takes no memory, and expected time by the conditions that stand apart, and within each of them by the aggregations that it
+    /// names and the bytes of the values of the dimensions that it names, however many conditions are on one output.
     #[cycle(meeting)]
     pub fn meets(&self, dims: &OutputTexts<'_>, values: &OutputNumbers<'_>) -> bool
         ensures { result ≡ asked_meets dims.now values.now self.now }

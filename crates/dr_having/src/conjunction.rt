@@ -63,8 +63,8 @@ impl Conjunction {
         self.outputs.add_text(alloc, condition, holds)
     }
 
-    // Adds that others don't all hold. Where they come down to what is asked of one output, it is asked with the conditions on outputs
-    // if there is a form for it.
+    // Adds that others don't all hold. Where they come down to texts that one dimension hasn't, it has one of these, which is asked
+    // with what else is asked of the dimension.
     pub(crate) fn deny(&mut self, alloc: Global, others: Conjunction) -> Result<(), AllocError>
         ensures { OnOk result ((dims : List (List ℕ)) (values : List ℤ) → conjunction_meets dims values self.new ≡ (conjunction_meets dims values self.old && not (conjunction_meets dims values others))) }
     {

@@ -1,5 +1,5 @@
-//! Conditions on the groups of a groupBy, as `having` asks for them, read from JSON over the outputs of a query. Each is asked
-//! of a group, and many comparisons of one aggregation, or many texts of one dimension, at once.
+//! Conditions on the groups of a groupBy, as `having` asks for them, read from JSON over the outputs of a query as they are spelled.
+//! Each is made into what is asked of a group, many comparisons of one aggregation, or many texts of one dimension, at once.
 #![tactic(auto)]
 
 mod asked_having;

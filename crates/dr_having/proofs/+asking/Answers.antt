@@ -1,4 +1,4 @@
-use Rattle.std.proofs.Common.{◌≡◌, ◌∙◌, sym, ap, map, not, ◌&&◌, box_value}
+use Rattle.std.proofs.Common.{◌∙◌, sym, ap, map, not, box_value}
 use Rattle.dr_having.specs.declared.having.Having.TheOpen.Having-F.{Aggregation, And, Or, Not}
 use Rattle.dr_having.specs.declared.having.Having.TheFolds.{fold-roll-Having}
 use Rattle.dr_having.specs.Condition.{Condition, every, some, condition_in, condition_step, conditions_of, meets}

@@ -1,4 +1,3 @@
-use Rattle.std.proofs.Common.{◌∙◌, ap}
 use Rattle.dr_having.proofs.Gathering.{none-taken}
 use Rattle.dr_having.proofs.asked_output.AskedOutput.takes_number.Goals as goal
 

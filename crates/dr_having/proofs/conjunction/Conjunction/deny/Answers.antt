@@ -1,7 +1,4 @@
-use Rattle.std.proofs.Common.{rules, ◌≡◌, ◌∙◌, sym, ap, not, ◌&&◌, length, map, arith}
-use Rattle.std.specs.List.{list_all}
-use Rattle.dr_base.proofs.Truths.{and_true}
-use Rattle.dr_having.specs.Asked.{asked_meets}
+use Rattle.std.proofs.Common.{rules, ◌≡◌, ◌∙◌, sym, ap, not, length, arith}
 use Rattle.dr_having.specs.Gathered.{conjunction_meets}
 use Rattle.dr_having.specs.OutputMeets.{outputs_meet}
 use Rattle.dr_having.proofs.Gathering.{told-more, outputs-alone}
