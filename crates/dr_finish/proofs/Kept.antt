@@ -1,12 +1,15 @@
--- Which groups a `having` keeps, and the same condition with its comparisons asked together.
+-- Which groups a `having` keeps, and what is asked of each in its place.
 use Rattle.std.proofs.Common.{◌≡◌, ◌∙◌, sym, refl, ap, ℕ, ℤ, Bool, cond, List, [], ◌∷◌, filter, Some, None, Result, Ok, Err, IfOk}
 use Rattle.dr_base.specs.declared.row.Row.{Row}
 use Rattle.dr_ask.specs.declared.aggregation.Aggregation.{Aggregation}
 use Rattle.dr_ask.specs.declared.dimension.Dimension.{Dimension}
 use Rattle.dr_ask.specs.Firsts.{numbers_of, is_same_aggregation}
 use Rattle.dr_answers.specs.Given.{is_kept}
+use Rattle.dr_having.specs.declared.asked_having.AskedHaving.{AskedHaving}
+use Rattle.dr_having.specs.Asked.{asked_meets}
 use Rattle.dr_having.specs.Condition.{Condition, meets}
 use Rattle.dr_outputs.specs.Numbered.{numbers_by}
+use Rattle.dr_finish.specs.Meeting.{row_meets}
 use Rattle.dr_finish.specs.RowOrder.{spread_row}
 
 module _ (f g : Row → Bool) (same : (r : Row) → f r ≡ g r) where
@@ -19,15 +22,15 @@ pub all-kept : (dimensions : List Dimension) (aggregations : List Aggregation) (
 all-kept dimensions aggregations [] = refl
 all-kept dimensions aggregations (r ∷ rows) = ap (λ l. r ∷ l) (all-kept dimensions aggregations rows)
 
-pub together-kept : (dimensions : List Dimension) (aggregations : List Aggregation) (together condition : Condition) (numbers : List ℕ) (rows : List Row) → numbers ≡ numbers_of is_same_aggregation aggregations
-    → ((dims : List (List ℕ)) (values : List ℤ) → meets dims (numbers_by numbers values) together ≡ meets dims (numbers_by numbers values) condition)
-    → filter (λ g. is_kept (Some together) (spread_row dimensions aggregations g)) rows ≡ filter (λ g. is_kept (Some condition) (spread_row dimensions aggregations g)) rows
-together-kept dimensions aggregations together condition numbers rows is same =
-    same-filter (λ g. is_kept (Some together) (spread_row dimensions aggregations g)) (λ g. is_kept (Some condition) (spread_row dimensions aggregations g)) at rows
+pub asked-kept : (dimensions : List Dimension) (aggregations : List Aggregation) (asked : AskedHaving) (condition : Condition) (numbers : List ℕ) (rows : List Row) → numbers ≡ numbers_of is_same_aggregation aggregations
+    → ((dims : List (List ℕ)) (values : List ℤ) → asked_meets dims (numbers_by numbers values) asked ≡ meets dims (numbers_by numbers values) condition)
+    → filter (row_meets asked dimensions aggregations) rows ≡ filter (λ g. is_kept (Some condition) (spread_row dimensions aggregations g)) rows
+asked-kept dimensions aggregations asked condition numbers rows is same =
+    same-filter (row_meets asked dimensions aggregations) (λ g. is_kept (Some condition) (spread_row dimensions aggregations g)) at rows
   where
-    at : (r : Row) → is_kept (Some together) (spread_row dimensions aggregations r) ≡ is_kept (Some condition) (spread_row dimensions aggregations r)
+    at : (r : Row) → row_meets asked dimensions aggregations r ≡ is_kept (Some condition) (spread_row dimensions aggregations r)
     at r = let g = spread_row dimensions aggregations r in
-        ap (λ ns. meets g.dims (numbers_by ns r.metrics) together) (sym is) ∙ same g.dims r.metrics ∙ ap (λ ns. meets g.dims (numbers_by ns r.metrics) condition) is
+        ap (λ ns. asked_meets g.dims (numbers_by ns r.metrics) asked) (sym is) ∙ same g.dims r.metrics ∙ ap (λ ns. meets g.dims (numbers_by ns r.metrics) condition) is
 
 -- what holds of the groups that were kept, where they are told by another condition
 pub kept-same : {V E : Type 0} (items : V → List Row) (r : Result V E) (xs ys : List Row) → xs ≡ ys → IfOk r (λ v. items v ≡ xs) → IfOk r (λ v. items v ≡ ys)

@@ -1,6 +1,4 @@
 pub mod Levels
 pub mod Narrowing
-pub mod AskedTogether
-pub mod Members
 pub mod Placing
-pub mod LookedUp
+pub mod Gathering

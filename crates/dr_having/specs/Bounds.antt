@@ -1,5 +1,5 @@
--- What many comparisons of the value of one aggregation say together, all of them or one of them. No public contract cites this file.
-use Rattle.std.specs.Prelude.{ℤ, Bool, true, false, not, ◌||◌, ◌&&◌, Option, Some, None, int_lt}
+-- What many conditions on the value of one output say together, all of them or one of them.
+use Rattle.std.specs.Prelude.{ℕ, ℤ, Bool, true, false, not, ◌||◌, ◌&&◌, List, Option, Some, None, int_lt, bytes_eq}
 use Rattle.std.specs.List.{list_any}
 use Rattle.std.specs.Int.{int_min, int_max}
 use Rattle.std.specs.Ordering.{int_eq}
@@ -7,6 +7,8 @@ use Rattle.dr_having.specs.declared.comparison.Comparison.{Comparison}
 use Rattle.dr_having.specs.declared.comparison.Comparison.TheVariants.{Equal, Greater, Less}
 use Rattle.dr_having.specs.declared.every_bound.EveryBound.{EveryBound}
 use Rattle.dr_having.specs.declared.some_bound.SomeBound.{SomeBound}
+use Rattle.dr_having.specs.declared.text_look_up.TextLookUp.{TextLookUp}
+use Rattle.dr_outputs.specs.Numbered.{number_at, text_at}
 
 -- the greater and the lesser of a number and another, where there is another
 abbrev pub higher : Option ℤ → ℤ → ℤ
@@ -35,6 +37,9 @@ is_number (Some n) value = int_eq value n
 abbrev pub lies_in : EveryBound → ℤ → Bool
 lies_in b value = is_above b.above value && is_below b.below value && is_number b.equal value && not b.never
 
+abbrev pub lies_in_at : List ℤ → EveryBound → Bool
+lies_in_at values b = lies_in b (number_at b.place values)
+
 -- no value is two numbers
 abbrev pub with_number_beside : Option ℤ → ℤ → EveryBound → EveryBound
 with_number_beside None n b = record b { equal = Some n }
@@ -62,3 +67,10 @@ goes_below (Some n) value = int_lt value n
 
 abbrev pub reaches : SomeBound → ℤ → Bool
 reaches b value = goes_above b.above value || goes_below b.below value || list_any (int_eq value) b.among
+
+abbrev pub reaches_at : List ℤ → SomeBound → Bool
+reaches_at values b = reaches b (number_at b.place values)
+
+-- the value of the dimension is one of the texts
+abbrev pub is_found : List (List ℕ) → TextLookUp → Bool
+is_found dims l = list_any (bytes_eq (text_at l.place dims)) l.texts

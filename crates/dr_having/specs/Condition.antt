@@ -1,10 +1,9 @@
 -- The condition that a `having` stands for, and the groups that meet it (Apache Druid documentation, groupBy queries: having).
-use Rattle.std.specs.Prelude.{ℕ, ℤ, Bool, true, false, not, ◌||◌, ◌&&◌, List, [], ◌∷◌, Option, Some, None, box_value}
+use Rattle.std.specs.Prelude.{ℕ, ℤ, Bool, true, false, not, ◌||◌, ◌&&◌, List, [], ◌∷◌, box_value}
 use Rattle.dr_having.specs.declared.group_value.GroupValue.{GroupValue}
 use Rattle.dr_having.specs.declared.dimension_value.DimensionValue.{DimensionValue}
 use Rattle.dr_having.specs.declared.having.Having.{Having, fold-Having}
 use Rattle.dr_having.specs.declared.having.Having.TheOpen.{Having-F}
-use Rattle.dr_having.specs.declared.together.Together.{Together}
 use Rattle.dr_having.specs.Meeting.{meets_value, meets_dimension}
 
 mutual
@@ -41,34 +40,12 @@ abbrev mutual
   meets_some dims values no_conditions = false
   meets_some dims values (condition c cs) = meets dims values c || meets_some dims values cs
 
--- the members of an `and` or an `or` in their order: those of one form among them, and the others, which stand apart
-abbrev pub members_of : {A : Type 0} → (A → Condition) → List (Option A) → List Condition → List Condition
-members_of form [] cs = cs
-members_of form (Some a ∷ ms) cs = form a ∷ members_of form ms cs
-members_of form (None ∷ ms) [] = members_of form ms []
-members_of form (None ∷ ms) (c ∷ cs) = c ∷ members_of form ms cs
-
--- what a condition on one value stands for where it is asked together with others: that it holds, or that it doesn't
-abbrev pub compared : Bool → GroupValue → Condition
-compared true c = aggregation c
-compared false c = opposite (aggregation c)
-
-abbrev pub selected : Bool → DimensionValue → Condition
-selected true c = dimension c
-selected false c = opposite (dimension c)
-
--- all members of an `or`, where one of some comparisons and texts is to hold or not all of others, or of an `and`, where none of the ones is to hold and all of the others
-abbrev pub members_in : Bool → Together → List Condition → List Condition
-members_in holds t cs =
-    members_of (compared holds) t.some_comparison (members_of (selected holds) t.some_text
-    (members_of (compared (not holds)) t.every_comparison (members_of (selected (not holds)) t.every_text cs)))
-
 -- one level, with the conditions inside already seen
 abbrev pub condition_step : Having-F Condition → Condition
 condition_step (Having-F.Aggregation c) = aggregation c
 condition_step (Having-F.Dimension c) = dimension c
-condition_step (Having-F.And together others) = every (conditions_of (members_in false (box_value together) others.items))
-condition_step (Having-F.Or together others) = some (conditions_of (members_in true (box_value together) others.items))
+condition_step (Having-F.And conditions) = every (conditions_of conditions.items)
+condition_step (Having-F.Or conditions) = some (conditions_of conditions.items)
 condition_step (Having-F.Not inner) = opposite (box_value inner)
 
 -- the condition that a `having` stands for

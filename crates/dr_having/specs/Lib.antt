@@ -1,11 +1,10 @@
 pub mod Refusal
 pub mod Meeting
 pub mod Bounds
-pub mod Compared
-pub mod LookUps
-pub mod Together
+pub mod OutputMeets
+pub mod Asked
 pub mod Condition
-pub mod Members
 pub mod LeafOf
 pub mod Placed
+pub mod Gathered
 pub mod HavingOf

@@ -1,61 +1,116 @@
-ghost use Rattle.std.specs.Prelude.{◌≡◌, ℕ, ℤ, List, map, slice_get, IfOk};
-ghost use Rattle.dr_having.specs.Condition.{condition_in, meets};
+ghost use Rattle.std.specs.Prelude.{◌≡◌, ℕ, ℤ, List, map, not, slice_get, IfOk, OnOk};
+ghost use Rattle.dr_having.specs.Asked.{asked_meets};
+ghost use Rattle.dr_having.specs.Condition.{condition_in, conditions_of, meets};
+ghost use Rattle.dr_having.specs.Gathered.{all_wanted, joined, AsksMore};
+ghost use Rattle.dr_having.specs.OutputMeets.{as_wanted};
 ghost use Rattle.dr_outputs.specs.Numbered.{numbers_by};
-ghost use Rattle.dr_having.specs.Placed.{placed, HaveNumbers};
+ghost use Rattle.dr_having.specs.Placed.{HaveNumbers};
 
+use crate::asked_having::AskedHaving;
+use crate::conjunction::Conjunction;
 use crate::having::Having;
 use indexmap::IndexMap;
 use std::alloc::{AllocError, Global};
 
 impl Having {
-    /// The same condition of groups whose outputs have values of these numbers, in which the comparisons of all outputs with one
-    /// number are asked together. The only error is that memory ran out. It takes memory for the conditions and for a place of
-    /// each output, and expected time by the bytes of the conditions and by the outputs.
-    pub fn asked_together(&self, alloc: Global, numbers: &[usize]) -> Result<Having, AllocError>
-        ensures { IfOk result (λ h. (dims : List (List ℕ)) (values : List ℤ) → meets dims (numbers_by numbers.now values) (condition_in h) ≡ meets dims (numbers_by numbers.now values) (condition_in self.now)) }
+    /// What is asked of each group in the place of this condition, of groups whose outputs have values of these numbers. An `and`
+    /// within an `and`, an `or` within an `or`, and by a `not` the one within the other, are taken apart, and so is one of a single
+    /// condition. The comparisons of all outputs with one number are asked together, and so are the texts of a dimension, also those
+    /// of several `or`s of nothing but its texts. The only error is that memory ran out. It takes memory for the conditions and the
+    /// bytes of their texts and for a place of each output, and expected time by the same: what is asked of an output already is
+    /// found by hashing.
+    pub fn asked_together(
+        &self,
+        alloc: Global,
+        numbers: &[usize],
+    ) -> Result<AskedHaving, AllocError>
+        ensures { IfOk result (λ h. (dims : List (List ℕ)) (values : List ℤ) → asked_meets dims (numbers_by numbers.now values) h ≡ meets dims (numbers_by numbers.now values) (condition_in self.now)) }
     {
         let places = first_places(alloc, numbers)?;
-        self.placed(alloc, places.as_slice())
+        let mut asked = Conjunction::new(alloc);
+        self.put(alloc, &mut asked, places.as_slice(), true)?;
+        Ok(asked.into_asked())
     }
 
-    // The same condition of outputs at other places.
-    #[cycle(placing)]
-    fn placed(&self, alloc: Global, places: &[usize]) -> Result<Having, AllocError>
-        ensures { IfOk result (λ h. condition_in h ≡ placed places.now (condition_in self.now)) }
+    // Adds to what is asked that this holds, or that it doesn't.
+    #[cycle(asking)]
+    fn put(
+        &self,
+        alloc: Global,
+        asked: &mut Conjunction,
+        places: &[usize],
+        holds: bool,
+    ) -> Result<(), AllocError>
+        ensures { OnOk result (AsksMore places.now asked.old asked.new (λ dims values. as_wanted holds (meets dims values (condition_in self.now)))) }
     {
         match self {
-            Having::Aggregation(condition) => Ok(Having::Aggregation(condition.placed(places))),
-            Having::Dimension(condition) => Ok(Having::Dimension(condition.copy()?)),
-            Having::And(together, others) => Ok(Having::And(
-                together.placed(alloc, places)?,
-                all_placed(alloc, others.as_slice(), places)?,
-            )),
-            Having::Or(together, others) => Ok(Having::Or(
-                together.placed(alloc, places)?,
-                all_placed(alloc, others.as_slice(), places)?,
-            )),
-            Having::Not(condition) => {
-                let inner = condition.placed(alloc, places)?;
-                Ok(Having::Not(Box::new(alloc, inner)?))
+            Having::Aggregation(condition) => {
+                asked.add_number(alloc, &condition.placed(places), holds)
             }
+            Having::Dimension(condition) => asked.add_text(alloc, condition, holds),
+            Having::And(conditions) => {
+                put_joined(alloc, asked, conditions.as_slice(), places, true, holds)
+            }
+            Having::Or(conditions) => {
+                put_joined(alloc, asked, conditions.as_slice(), places, false, holds)
+            }
+            Having::Not(condition) => condition.put(alloc, asked, places, !holds),
         }
     }
 }
 
-// The same conditions of outputs at other places.
-#[cycle(placing)]
-fn all_placed(
+// Adds that all of some conditions hold, or that one does; or that it isn't so.
+#[cycle(asking)]
+fn put_joined(
     alloc: Global,
+    asked: &mut Conjunction,
     conditions: &[Having],
     places: &[usize],
-) -> Result<Vec<Having>, AllocError>
-    ensures { IfOk result (λ hs. map condition_in hs.items ≡ map (placed places.now) (map condition_in conditions.now)) }
+    all: bool,
+    holds: bool,
+) -> Result<(), AllocError>
+    ensures { OnOk result (AsksMore places.now asked.old asked.new (λ dims values. as_wanted holds (meets dims values (joined all (conditions_of (map condition_in conditions.now)))))) }
 {
-    let mut others = Vec::with_capacity(alloc, conditions.len())?;
-    for condition in conditions {
-        others.push(condition.placed(alloc, places)?)?;
+    if all == holds {
+        return put_each(alloc, asked, conditions, places, holds);
     }
-    Ok(others)
+    if conditions.len() == 1 {
+        return put_each(alloc, asked, conditions, places, holds);
+    }
+    put_denied(alloc, asked, conditions, places, all)
+}
+
+// Adds that each of some conditions holds, or that none does.
+#[cycle(asking)]
+fn put_each(
+    alloc: Global,
+    asked: &mut Conjunction,
+    conditions: &[Having],
+    places: &[usize],
+    holds: bool,
+) -> Result<(), AllocError>
+    ensures { OnOk result (AsksMore places.now asked.old asked.new (λ dims values. all_wanted holds dims values conditions.now)) }
+{
+    for condition in conditions {
+        condition.put(alloc, asked, places, holds)?;
+    }
+    Ok(())
+}
+
+// Adds that not all of some conditions hold, or that one does.
+#[cycle(asking)]
+fn put_denied(
+    alloc: Global,
+    asked: &mut Conjunction,
+    conditions: &[Having],
+    places: &[usize],
+    holds: bool,
+) -> Result<(), AllocError>
+    ensures { OnOk result (AsksMore places.now asked.old asked.new (λ dims values. not (all_wanted holds dims values conditions.now))) }
+{
+    let mut denied = Conjunction::new(alloc);
+    put_each(alloc, &mut denied, conditions, places, holds)?;
+    asked.deny(alloc, denied)
 }
 
 // Of each output the first place of one with the same number.

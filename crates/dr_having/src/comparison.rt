@@ -1,6 +1,3 @@
-ghost use Rattle.std.specs.Prelude.{◌≡◌};
-ghost use Rattle.dr_having.specs.Meeting.{compares};
-
 /// How the value of an aggregation compares with a number.
 #[derive(Clone, Copy, Debug, PartialEq, Eq)]
 pub enum Comparison {
@@ -10,17 +7,4 @@ pub enum Comparison {
     Greater,
     /// `lessThan`
     Less,
-}
-
-impl Comparison {
-    /// Whether a value compares so with another. Numbers have a sign.
-    pub fn holds(self, value: i64, other: i64) -> bool
-        ensures { result ≡ compares self value other }
-    {
-        match self {
-            Comparison::Equal => value == other,
-            Comparison::Greater => other < value,
-            Comparison::Less => value < other,
-        }
-    }
 }

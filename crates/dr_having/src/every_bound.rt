@@ -1,7 +1,6 @@
-ghost use Rattle.std.specs.Prelude.{◌≡◌, ℤ, List};
-ghost use Rattle.dr_having.specs.Bounds.{lies_in, narrowed, with_number};
+ghost use Rattle.std.specs.Prelude.{◌≡◌, ◌&&◌, ◌||◌, not, ℤ, List};
+ghost use Rattle.dr_having.specs.Bounds.{lies_in, lies_in_at, narrowed, with_number};
 ghost use Rattle.dr_having.specs.Meeting.{meets_value};
-ghost use Rattle.dr_outputs.specs.Numbered.{number_at as number_at_of};
 
 use crate::comparison::Comparison;
 use crate::extremes::{higher, is_above, is_below, is_number, lower};
@@ -22,7 +21,7 @@ pub struct EveryBound {
 impl EveryBound {
     // One comparison.
     pub(crate) fn of(condition: &GroupValue) -> EveryBound
-        ensures { (values : List ℤ) → lies_in result (number_at_of result.place values) ≡ meets_value condition.now values }
+        ensures { (values : List ℤ) → lies_in_at values result ≡ meets_value condition.now values }
     {
         let mut bound = EveryBound {
             place: condition.place,
@@ -35,8 +34,20 @@ impl EveryBound {
         bound
     }
 
+    // Asks one comparison more, where it is of this aggregation; whether it is.
+    pub(crate) fn takes(&mut self, condition: &GroupValue) -> bool
+        ensures { (values : List ℤ) → lies_in_at values self.new ≡ (lies_in_at values self.old && (not result || meets_value condition.now values)) }
+    {
+        if self.place == condition.place {
+            self.add(condition);
+            true
+        } else {
+            false
+        }
+    }
+
     // Asks one more comparison.
-    pub(crate) fn add(&mut self, condition: &GroupValue)
+    fn add(&mut self, condition: &GroupValue)
         ensures { self.new ≡ narrowed condition.now.comparison condition.now.value self.old }
     {
         match condition.comparison {
@@ -58,7 +69,7 @@ impl EveryBound {
 
     /// Whether a group with these values meets all the comparisons. It takes no memory, and constant time.
     pub fn holds_of(&self, values: &OutputNumbers<'_>) -> bool
-        ensures { result ≡ lies_in self.now (number_at_of self.now.place values.now) }
+        ensures { result ≡ lies_in_at values.now self.now }
     {
         self.holds(&values.at(self.place))
     }

@@ -1,9 +1,7 @@
 ghost use Rattle.std.specs.Prelude.{◌≡◌};
-ghost use Rattle.dr_having.specs.Meeting.{meets_value};
 ghost use Rattle.dr_having.specs.Placed.{place_in as place_in_of, value_placed};
 
 use crate::comparison::Comparison;
-use dr_outputs::OutputNumbers;
 
 /// A condition on the value of an aggregation: its place among the aggregations of the query, from 0, how it is compared,
 /// and with which number.
@@ -15,13 +13,6 @@ pub struct GroupValue {
 }
 
 impl GroupValue {
-    /// Whether a group with these values meets the condition. It takes no memory, and constant time.
-    pub fn holds_of(&self, values: &OutputNumbers<'_>) -> bool
-        ensures { result ≡ meets_value self.now values.now }
-    {
-        self.comparison.holds(values.at(self.place), self.value)
-    }
-
     // The same condition on the output at another place.
     pub(crate) fn placed(&self, places: &[usize]) -> GroupValue
         ensures { result ≡ value_placed places.now self.now }

@@ -5,7 +5,6 @@ ghost use Rattle.dr_having.specs.Condition.{condition_in};
 ghost use Rattle.dr_having.specs.HavingOf.{other_by, simple_by, too_deep_of, specs_of, spec_of, level_of, having_at, having_of};
 ghost use Rattle.dr_having.specs.Refusal.{Gives};
 
-use crate::arranging::{every_of, some_of};
 use crate::having::Having;
 use crate::having_error::HavingError;
 use crate::leaf_reading::{aggregation, comparison_of, dimension, no_unlisted};
@@ -99,10 +98,10 @@ fn level(
     let kind = text_field(alloc, value, "type")?;
     if kind == "and" {
         let conditions = specs(alloc, value, members, dimensions, aggregations, inside)?;
-        Ok(every_of(alloc, conditions)?)
+        Ok(Having::And(conditions))
     } else if kind == "or" {
         let conditions = specs(alloc, value, members, dimensions, aggregations, inside)?;
-        Ok(some_of(alloc, conditions)?)
+        Ok(Having::Or(conditions))
     } else if kind == "not" {
         let condition = spec(alloc, value, members, dimensions, aggregations, inside)?;
         Ok(Having::Not(Box::new(alloc, condition)?))

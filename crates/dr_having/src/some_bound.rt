@@ -1,7 +1,6 @@
-ghost use Rattle.std.specs.Prelude.{◌≡◌, ◌||◌, ℤ, List, OnOk, IfOk};
-ghost use Rattle.dr_having.specs.Bounds.{reaches};
+ghost use Rattle.std.specs.Prelude.{◌≡◌, ◌||◌, ◌&&◌, ℤ, List, OnOk, IfOk};
+ghost use Rattle.dr_having.specs.Bounds.{reaches, reaches_at};
 ghost use Rattle.dr_having.specs.Meeting.{compares, meets_value};
-ghost use Rattle.dr_outputs.specs.Numbered.{number_at as number_at_of};
 
 use crate::comparison::Comparison;
 use crate::extremes::{goes_above, goes_below, higher, lower};
@@ -22,7 +21,7 @@ pub struct SomeBound {
 impl SomeBound {
     // One comparison.
     pub(crate) fn of(alloc: Global, condition: &GroupValue) -> Result<SomeBound, AllocError>
-        ensures { IfOk result (λ b. (values : List ℤ) → reaches b (number_at_of b.place values) ≡ meets_value condition.now values) }
+        ensures { IfOk result (λ b. (values : List ℤ) → reaches_at values b ≡ meets_value condition.now values) }
     {
         let mut bound = SomeBound {
             place: condition.place,
@@ -34,8 +33,20 @@ impl SomeBound {
         Ok(bound)
     }
 
+    // Lets what one more comparison holds of through, where it is of this aggregation; whether it is.
+    pub(crate) fn takes(&mut self, condition: &GroupValue) -> Result<bool, AllocError>
+        ensures { IfOk result (λ taken. (values : List ℤ) → reaches_at values self.new ≡ (reaches_at values self.old || (taken && meets_value condition.now values))) }
+    {
+        if self.place == condition.place {
+            self.add(condition)?;
+            Ok(true)
+        } else {
+            Ok(false)
+        }
+    }
+
     // Lets what one more comparison holds of through.
-    pub(crate) fn add(&mut self, condition: &GroupValue) -> Result<(), AllocError>
+    fn add(&mut self, condition: &GroupValue) -> Result<(), AllocError>
         ensures place { OnOk result (self.new.place ≡ self.old.place) }
         ensures more { OnOk result ((value : ℤ) → reaches self.new value ≡ (reaches self.old value || compares condition.now.comparison value condition.now.value)) }
     {
@@ -49,7 +60,7 @@ impl SomeBound {
 
     /// Whether a group with these values meets one of the comparisons. It takes no memory, and constant expected time.
     pub fn holds_of(&self, values: &OutputNumbers<'_>) -> bool
-        ensures { result ≡ reaches self.now (number_at_of self.now.place values.now) }
+        ensures { result ≡ reaches_at values.now self.now }
     {
         self.holds(&values.at(self.place))
     }

@@ -1,6 +1,5 @@
-ghost use Rattle.std.specs.Prelude.{◌≡◌, ◌||◌, ◌&&◌, ℕ, List, IfOk, OnOk, bytes_eq};
-ghost use Rattle.std.specs.List.{list_any};
-ghost use Rattle.dr_having.specs.LookUps.{is_found};
+ghost use Rattle.std.specs.Prelude.{◌≡◌, ◌||◌, ◌&&◌, not, ℕ, List, IfOk};
+ghost use Rattle.dr_having.specs.Bounds.{is_found};
 ghost use Rattle.dr_having.specs.Meeting.{meets_dimension};
 
 use crate::dimension_value::DimensionValue;
@@ -20,43 +19,36 @@ impl TextLookUp {
     pub(crate) fn of(alloc: Global, condition: &DimensionValue) -> Result<TextLookUp, AllocError>
         ensures { IfOk result (λ l. (dims : List (List ℕ)) → is_found dims l ≡ meets_dimension condition.now dims) }
     {
-        let texts = TextLookUp::of_text(alloc, condition)?;
+        let mut texts = TextSet::new(alloc);
+        texts.add(&condition.value)?;
         Ok(TextLookUp {
             place: condition.place,
             texts,
         })
     }
 
-    // Adds the text of one more condition.
-    pub(crate) fn add(&mut self, condition: &DimensionValue) -> Result<(), AllocError>
-        ensures place { OnOk result (self.new.place ≡ self.old.place) }
-        ensures more { OnOk result ((value : List ℕ) → list_any (bytes_eq value) self.new.texts ≡ (list_any (bytes_eq value) self.old.texts || bytes_eq value condition.now.value)) }
+    // Adds the text of one more condition, where it is on this dimension; whether it is.
+    pub(crate) fn takes(&mut self, condition: &DimensionValue) -> Result<bool, AllocError>
+        ensures { IfOk result (λ taken. (dims : List (List ℕ)) → is_found dims self.new ≡ (is_found dims self.old || (taken && meets_dimension condition.now dims))) }
     {
-        self.texts.add(&condition.value)?;
-        Ok(())
+        if self.place == condition.place {
+            self.texts.add(&condition.value)?;
+            Ok(true)
+        } else {
+            Ok(false)
+        }
     }
 
-    // Keeps of the texts the one of one more condition, where it is among them.
-    pub(crate) fn keep(
-        &mut self,
-        alloc: Global,
-        condition: &DimensionValue,
-    ) -> Result<(), AllocError>
-        ensures place { OnOk result (self.new.place ≡ self.old.place) }
-        ensures fewer { OnOk result ((value : List ℕ) → list_any (bytes_eq value) self.new.texts ≡ (list_any (bytes_eq value) self.old.texts && bytes_eq value condition.now.value)) }
+    // Keeps of the texts those that another look-up has too, where it is of this dimension; whether it is.
+    pub(crate) fn keeps(&mut self, others: &TextLookUp) -> Result<bool, AllocError>
+        ensures { IfOk result (λ kept. (dims : List (List ℕ)) → is_found dims self.new ≡ (is_found dims self.old && (not kept || is_found dims others.now))) }
     {
-        let alone = TextLookUp::of_text(alloc, condition)?;
-        self.texts.keep_all(&alone)?;
-        Ok(())
-    }
-
-    // The text of a condition alone.
-    fn of_text(alloc: Global, condition: &DimensionValue) -> Result<TextSet, AllocError>
-        ensures { IfOk result (λ texts. (value : List ℕ) → list_any (bytes_eq value) texts ≡ bytes_eq value condition.now.value) }
-    {
-        let mut texts = TextSet::new(alloc);
-        texts.add(&condition.value)?;
-        Ok(texts)
+        if self.place == others.place {
+            self.texts.keep_all(&others.texts)?;
+            Ok(true)
+        } else {
+            Ok(false)
+        }
     }
 
     /// Whether the value of the dimension is one of the texts. It takes no memory, and expected time by the bytes of the value,

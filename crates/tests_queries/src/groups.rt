@@ -23,13 +23,14 @@ fn met(alloc: Global, having: &str) -> Result<u16, Fail> {
                 OutputTexts::new(&dims, &[0]),
                 OutputNumbers::new(&[5, -2], &[0, 1]),
             );
-            Ok(u16::from(having.meets(&group.0, &group.1)))
+            let asked = having.asked_together(alloc, &[0, 1])?;
+            Ok(u16::from(asked.meets(&group.0, &group.1)))
         }
         Err(error) => Ok(error.number()),
     }
 }
 
-const MET: [(&str, u16); 21] = [
+const MET: [(&str, u16); 27] = [
     (
         r#"{"type":"greaterThan","aggregation":"added","value":4}"#,
         1,
@@ -89,6 +90,30 @@ const MET: [(&str, u16); 21] = [
     (
         r#"{"type":"and","havingSpecs":[{"type":"lessThan","aggregation":"added","value":9},{"type":"dimSelector","dimension":"page","value":"B"}]}"#,
         0,
+    ),
+    (
+        r#"{"type":"or","havingSpecs":[{"type":"or","havingSpecs":[{"type":"equalTo","aggregation":"added","value":6},{"type":"equalTo","aggregation":"added","value":5}]},{"type":"dimSelector","dimension":"page","value":"B"}]}"#,
+        1,
+    ),
+    (
+        r#"{"type":"and","havingSpecs":[{"type":"and","havingSpecs":[{"type":"greaterThan","aggregation":"added","value":4}]},{"type":"not","havingSpec":{"type":"or","havingSpecs":[{"type":"greaterThan","aggregation":"lo","value":0},{"type":"dimSelector","dimension":"page","value":"B"}]}}]}"#,
+        1,
+    ),
+    (
+        r#"{"type":"not","havingSpec":{"type":"and","havingSpecs":[{"type":"equalTo","aggregation":"added","value":5},{"type":"not","havingSpec":{"type":"or","havingSpecs":[{"type":"dimSelector","dimension":"page","value":"B"},{"type":"dimSelector","dimension":"page","value":"C"}]}}]}}"#,
+        0,
+    ),
+    (
+        r#"{"type":"and","havingSpecs":[{"type":"or","havingSpecs":[{"type":"dimSelector","dimension":"page","value":"A"},{"type":"dimSelector","dimension":"page","value":"B"}]},{"type":"or","havingSpecs":[{"type":"dimSelector","dimension":"page","value":"B"},{"type":"dimSelector","dimension":"page","value":"C"}]}]}"#,
+        0,
+    ),
+    (
+        r#"{"type":"and","havingSpecs":[{"type":"or","havingSpecs":[{"type":"dimSelector","dimension":"page","value":"A"},{"type":"dimSelector","dimension":"page","value":"B"}]},{"type":"or","havingSpecs":[{"type":"dimSelector","dimension":"page","value":"C"},{"type":"dimSelector","dimension":"page","value":"A"}]}]}"#,
+        1,
+    ),
+    (
+        r#"{"type":"not","havingSpec":{"type":"or","havingSpecs":[{"type":"equalTo","aggregation":"added","value":6}]}}"#,
+        1,
     ),
 ];
 

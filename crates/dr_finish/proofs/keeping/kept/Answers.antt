@@ -3,7 +3,7 @@ use Rattle.std.specs.Prelude.{option_map}
 use Rattle.dr_having.specs.Condition.{condition_in}
 use Rattle.dr_answers.specs.Given.{is_kept}
 use Rattle.dr_finish.specs.RowOrder.{spread_row}
-use Rattle.dr_finish.proofs.Kept.{all-kept, together-kept, kept-same}
+use Rattle.dr_finish.proofs.Kept.{all-kept, asked-kept, kept-same}
 use Rattle.dr_finish.proofs.keeping.kept.Goals as goal
 
 pub returns-in-None : goal.returns-in-None
@@ -11,11 +11,11 @@ returns-in-None c =
     let by = c.args.by.now in
     all-kept by.dimensions c.args.aggregations.now c.args.groups.items ∙ ap (λ h. filter (λ g. is_kept (option_map condition_in h) (spread_row by.dimensions c.args.aggregations.now g)) c.args.groups.items) (sym c.in-None.is)
 
-pub returns-in_ok-together-in-Some : goal.returns-in_ok-together-in-Some
-returns-in_ok-together-in-Some c =
+pub returns-in_ok-asked-in-Some : goal.returns-in_ok-asked-in-Some
+returns-in_ok-asked-in-Some c =
     let by = c.args.by.now in
     let aggregations = c.args.aggregations.now in
     kept-same (λ v. v.items) c.kept_by.result _ _
-    (together-kept by.dimensions aggregations (condition_in c.in_ok-together-in-Some.together) (condition_in c.in-Some.having) c.numbers.result.now c.args.groups.items c.numbers.ensures c.in_ok-together-in-Some.ensures
+    (asked-kept by.dimensions aggregations c.in_ok-asked-in-Some.asked (condition_in c.in-Some.having) c.numbers.result.now c.args.groups.items c.numbers.ensures c.in_ok-asked-in-Some.ensures
     ∙ ap (λ h. filter (λ g. is_kept (option_map condition_in h) (spread_row by.dimensions aggregations g)) c.args.groups.items) (sym c.in-Some.is))
     c.kept_by.ensures

@@ -1,0 +1,58 @@
+ghost use Rattle.std.specs.Prelude.{◌≡◌, not, map, ℕ, ℤ, List};
+ghost use Rattle.std.specs.List.{list_all};
+ghost use Rattle.dr_having.specs.Asked.{asked_meets};
+ghost use Rattle.dr_having.specs.OutputMeets.{outputs_meet};
+
+use crate::asked_output::AskedOutput;
+use dr_outputs::{OutputNumbers, OutputTexts};
+use std::alloc::Global;
+
+/// What is asked of each group in the place of a `having`: all of some conditions on outputs, of which there is one for each output
+/// and form, and none of some others, which stand apart. Contracts see whether a group meets it, `asked_meets`.
+#[derive(Debug, Drop)]
+pub struct AskedHaving {
+    pub(crate) outputs: Vec<AskedOutput>,
+    pub(crate) denied: Vec<AskedHaving>,
+}
+
+impl AskedHaving {
+    // What is asked of outputs alone.
+    pub(crate) fn of_outputs(alloc: Global, outputs: Vec<AskedOutput>) -> AskedHaving
+        ensures { (dims : List (List ℕ)) (values : List ℤ) → asked_meets dims values result ≡ outputs_meet dims values outputs.items }
+    {
+        AskedHaving {
+            outputs,
+            denied: Vec::new(alloc),
+        }
+    }
+
+    /// Whether a group meets it: its dimension values and the values of its aggregations, each in the order of the query. It
+    /// takes no memory, and expected time by the conditions that stand apart, and within each of them by the aggregations that it
+    /// names and the bytes of the values of the dimensions that it names, however many conditions are on one output.
+    #[cycle(meeting)]
+    pub fn meets(&self, dims: &OutputTexts<'_>, values: &OutputNumbers<'_>) -> bool
+        ensures { result ≡ asked_meets dims.now values.now self.now }
+    {
+        all_hold(self.outputs.as_slice(), dims, values)
+            && none_meets(self.denied.as_slice(), dims, values)
+    }
+}
+
+fn all_hold(outputs: &[AskedOutput], dims: &OutputTexts<'_>, values: &OutputNumbers<'_>) -> bool
+    ensures { result ≡ outputs_meet dims.now values.now outputs.now }
+{
+    outputs.iter().all(|output| output.holds_of(dims, values))
+}
+
+// Whether a group meets none of what is denied.
+#[cycle(meeting)]
+fn none_meets(denied: &[AskedHaving], dims: &OutputTexts<'_>, values: &OutputNumbers<'_>) -> bool
+    ensures { result ≡ list_all not (map (asked_meets dims.now values.now) denied.now) }
+{
+    for asked in denied {
+        if asked.meets(dims, values) {
+            return false;
+        }
+    }
+    true
+}
