@@ -18,7 +18,6 @@ use Rattle.dr_time.proofs.union.Union.TheSendSync as union
 use Rattle.dr_predicate.proofs.dimension_test.DimensionTest.TheSendSync as test
 use Rattle.dr_having.proofs.group_value.GroupValue.TheSendSync as group_value
 use Rattle.dr_having.proofs.dimension_value.DimensionValue.TheSendSync as dimension_value
-use Rattle.dr_having.proofs.together.Together.TheSendSync as having_together
 use Rattle.dr_gran.proofs.gran.Gran.TheSendSync as gran
 
 tree-sync : IsSync (FilterTree.the_field).row
@@ -28,7 +27,7 @@ filter-sync : IsSync Filter.the_row
 filter-sync = search (sendable, crosses, tree-sync) depth 20
 
 having-sync : IsSync (Having.the_field).row
-having-sync = having.sync-Having group_value.the_field_sync dimension_value.the_field_sync (Box-sync _ having_together.the_sync) Vec-sync Box-sync
+having-sync = having.sync-Having group_value.the_field_sync dimension_value.the_field_sync Vec-sync Box-sync
 
 group-sync : IsSync (GroupBy.the_field).row
 group-sync = search (sendable, crosses, having-sync, limit.the_field_sync, dimensions.the_sync) depth 20
