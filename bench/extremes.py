@@ -158,6 +158,18 @@ def denied(filter):
     return {"type": "not", "field": filter}
 
 
+def one_of(*filters):
+    return {"type": "or", "fields": list(filters)}
+
+
+def selector(value):
+    return {"type": "selector", "dimension": "page", "value": value}
+
+
+def compared(it):
+    return {"type": "lessThan", "aggregation": "v", "value": -it}
+
+
 def within(begin, end):
     return {"type": "interval", "dimension": "__time", "intervals": [f"{begin}/{end}"]}
 
@@ -174,6 +186,9 @@ LONG_AND_OF_DENIED_BOUNDS = series(filter={"type": "and", "fields": [denied(boun
 LONG_AND_OF_SELECTORS = series(filter={"type": "and", "fields": [{"type": "selector", "dimension": "none", "value": ""}] * 17000})
 LONG_OR_OF_INTERVALS = series(filter={"type": "or", "fields": [within(moments(it * 9), moments(it * 9 + 1)) for it in range(8000)]})
 LONG_AND_OF_INTERVALS = series(filter={"type": "and", "fields": [within("2024-01-01", moments(86000000 + it)) for it in range(8000)]})
+ORS_OF_AN_OR = series(filter=one_of(*(one_of(selector(f"x{it}"), selector(f"y{it}")) for it in range(6500))))
+ORS_OF_ONE_DIMENSION = series(filter={"type": "and", "fields": [one_of(selector("0"), selector(f"x{it}")) for it in range(6500)]})
+ORS_OF_A_HAVING = groups(having={"type": "or", "havingSpecs": [{"type": "or", "havingSpecs": [compared(it), compared(2 * it)]} for it in range(5000)]})
 LONG_HAVING_OF_DENIED = groups(having={"type": "and", "havingSpecs": [{"type": "not", "havingSpec": {"type": "greaterThan", "aggregation": "v", "value": it}} for it in range(10, 10000)]}, limitSpec={"type": "default", "limit": 1})
 LONG_HAVING_OF_TEXTS = groups(having={"type": "or", "havingSpecs": [{"type": "dimSelector", "dimension": "page", "value": f"x{it}"} for it in range(17000)]})
 MANY_SUMS = series(aggregations=[{"type": "longSum", "name": f"v{it}", "fieldName": "v"} for it in range(19000)])
@@ -300,6 +315,9 @@ INPUTS = {
     "rows under an and of 17,000 selectors": (asked_of_texts(LONG_AND_OF_SELECTORS), 100000),
     "rows under an or of 8,000 intervals": (asked_of_texts(LONG_OR_OF_INTERVALS), 100000),
     "rows under an and of 8,000 intervals": (asked_of_texts(LONG_AND_OF_INTERVALS), 100000),
+    "rows under an or of 6,500 ors of two selectors": (asked_of_texts(ORS_OF_AN_OR), 100000),
+    "rows under an and of 6,500 ors of two selectors of one dimension": (asked_of_texts(ORS_OF_ONE_DIMENSION), 100000),
+    "groups under a having that is an or of 5,000 ors of two comparisons": (asked_of_texts(ORS_OF_A_HAVING), 100000),
     "groups under a having of 9,990 comparisons that don't hold": (asked_of_texts(LONG_HAVING_OF_DENIED), 100000),
     "groups under a having of 14,000 comparisons": (long_having, 100000),
     "groups under a having of 17,000 dimension values": (asked_of_texts(LONG_HAVING_OF_TEXTS), 100000),
