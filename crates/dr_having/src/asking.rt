@@ -28,39 +28,37 @@ impl Having {
     {
         let places = first_places(alloc, numbers)?;
         let mut asked = Conjunction::new(alloc);
-        self.put(alloc, &mut asked, places.as_slice(), true)?;
+        put(alloc, &mut asked, self, places.as_slice(), true)?;
         Ok(asked.into_asked())
     }
+}
 
-    // Adds to what is asked that this holds, or that it doesn't.
-    #[cycle(asking)]
-    fn put(
-        &self,
-        alloc: Global,
-        asked: &mut Conjunction,
-        places: &[usize],
-        holds: bool,
-    ) -> Result<(), AllocError>
-        ensures { OnOk result (AsksMore places.now asked.old asked.new (λ dims values. as_wanted holds (meets dims values (condition_in self.now)))) }
-    {
-        match self {
-            Having::Aggregation(condition) => {
-                asked.add_number(alloc, &condition.placed(places), holds)
-            }
-            Having::Dimension(condition) => asked.add_text(alloc, condition, holds),
-            Having::And(conditions) => {
-                put_joined(alloc, asked, conditions.as_slice(), places, true, holds)
-            }
-            Having::Or(conditions) => {
-                put_joined(alloc, asked, conditions.as_slice(), places, false, holds)
-            }
-            Having::Not(condition) => condition.put(alloc, asked, places, !holds),
+// Adds that a condition holds, or that it doesn't.
+#[cycle(gathering)]
+fn put(
+    alloc: Global,
+    asked: &mut Conjunction,
+    condition: &Having,
+    places: &[usize],
+    holds: bool,
+) -> Result<(), AllocError>
+    ensures { OnOk result (AsksMore places.now asked.old asked.new (λ dims values. as_wanted holds (meets dims values (condition_in condition.now)))) }
+{
+    match condition {
+        Having::Aggregation(value) => asked.add_number(alloc, &value.placed(places), holds),
+        Having::Dimension(value) => asked.add_text(alloc, value, holds),
+        Having::And(conditions) => {
+            put_joined(alloc, asked, conditions.as_slice(), places, true, holds)
         }
+        Having::Or(conditions) => {
+            put_joined(alloc, asked, conditions.as_slice(), places, false, holds)
+        }
+        Having::Not(inner) => put(alloc, asked, inner, places, !holds),
     }
 }
 
 // Adds that all of some conditions hold, or that one does; or that it isn't so.
-#[cycle(asking)]
+#[cycle(gathering)]
 fn put_joined(
     alloc: Global,
     asked: &mut Conjunction,
@@ -81,7 +79,7 @@ fn put_joined(
 }
 
 // Adds that each of some conditions holds, or that none does.
-#[cycle(asking)]
+#[cycle(gathering)]
 fn put_each(
     alloc: Global,
     asked: &mut Conjunction,
@@ -92,13 +90,13 @@ fn put_each(
     ensures { OnOk result (AsksMore places.now asked.old asked.new (λ dims values. all_wanted holds dims values conditions.now)) }
 {
     for condition in conditions {
-        condition.put(alloc, asked, places, holds)?;
+        put(alloc, asked, condition, places, holds)?;
     }
     Ok(())
 }
 
 // Adds that not all of some conditions hold, or that one does.
-#[cycle(asking)]
+#[cycle(gathering)]
 fn put_denied(
     alloc: Global,
     asked: &mut Conjunction,
