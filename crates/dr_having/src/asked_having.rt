@@ -7,8 +7,8 @@ use crate::asked_output::AskedOutput;
 use dr_outputs::{OutputNumbers, OutputTexts};
 use std::alloc::Global;
 
-/// What is asked of each group in the place of a `having`: all of some conditions on outputs, of which there is one for each output
-/// and form, and none of some others, which stand apart. Contracts see whether a group meets it, `asked_meets`.
+/// What is asked of each group in the place of a `having`: all of some conditions on one output each, and none of some others, which
+/// stand apart. Contracts see whether a group meets it, `asked_meets`.
 #[derive(Debug, Drop)]
 pub struct AskedHaving {
     pub(crate) outputs: Vec<AskedOutput>,
