@@ -2,11 +2,12 @@
 use Rattle.std.specs.Prelude.{ℕ, ℤ, Bool, true, false, not, List}
 use Rattle.std.specs.List.{list_all}
 use Rattle.dr_having.specs.declared.asked_output.AskedOutput.{AskedOutput}
-use Rattle.dr_having.specs.declared.asked_output.AskedOutput.TheVariants.{EveryNumber, NoNumber, Text, NoText}
+use Rattle.dr_having.specs.declared.asked_output.AskedOutput.TheVariants.{EveryNumber, SomeNumber, NoNumber, Text, NoText}
 use Rattle.dr_having.specs.Bounds.{lies_in_at, reaches_at, is_found}
 
 abbrev pub output_meets : List (List ℕ) → List ℤ → AskedOutput → Bool
 output_meets dims values (EveryNumber b) = lies_in_at values b
+output_meets dims values (SomeNumber b) = reaches_at values b
 output_meets dims values (NoNumber b) = not (reaches_at values b)
 output_meets dims values (Text l) = is_found dims l
 output_meets dims values (NoText l) = not (is_found dims l)

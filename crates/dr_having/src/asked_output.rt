@@ -11,11 +11,13 @@ use crate::text_look_up::TextLookUp;
 use dr_outputs::{OutputNumbers, OutputTexts};
 use std::alloc::{AllocError, Global};
 
-/// What is asked of one output, in the place of all conditions of one form on it.
+/// What is asked of one output, in the place of several conditions of one form on it.
 #[derive(Debug, Drop)]
 pub enum AskedOutput {
     /// All of some comparisons of an aggregation hold.
     EveryNumber(EveryBound),
+    /// One of some comparisons of an aggregation holds.
+    SomeNumber(SomeBound),
     /// None of some comparisons of an aggregation holds.
     NoNumber(SomeBound),
     /// The value of a dimension is one of some texts.
@@ -63,6 +65,7 @@ impl AskedOutput {
                     bound.takes(condition)
                 }
             }
+            AskedOutput::SomeNumber(_) => Ok(false),
             AskedOutput::Text(_) => Ok(false),
             AskedOutput::NoText(_) => Ok(false),
         }
@@ -76,6 +79,7 @@ impl AskedOutput {
             AskedOutput::NoText(look_up) => look_up.takes(condition),
             AskedOutput::Text(_) => Ok(false),
             AskedOutput::EveryNumber(_) => Ok(false),
+            AskedOutput::SomeNumber(_) => Ok(false),
             AskedOutput::NoNumber(_) => Ok(false),
         }
     }
@@ -88,6 +92,7 @@ impl AskedOutput {
             AskedOutput::Text(look_up) => look_up.keeps(others),
             AskedOutput::NoText(_) => Ok(false),
             AskedOutput::EveryNumber(_) => Ok(false),
+            AskedOutput::SomeNumber(_) => Ok(false),
             AskedOutput::NoNumber(_) => Ok(false),
         }
     }
@@ -98,6 +103,7 @@ impl AskedOutput {
     {
         match self {
             AskedOutput::EveryNumber(bound) => bound.holds_of(values),
+            AskedOutput::SomeNumber(bound) => bound.holds_of(values),
             AskedOutput::NoNumber(bound) => !bound.holds_of(values),
             AskedOutput::Text(look_up) => look_up.finds(dims),
             AskedOutput::NoText(look_up) => !look_up.finds(dims),

@@ -15,10 +15,10 @@ use std::alloc::{AllocError, Global};
 impl Having {
     /// What is asked of each group in the place of this condition, of groups whose outputs have values of these numbers. An `and`
     /// within an `and`, an `or` within an `or`, and by a `not` the one within the other, are taken apart, and so is one of a single
-    /// condition. The comparisons of all outputs with one number are asked together, and so are the texts of a dimension, also those
-    /// of several `or`s of nothing but its texts. The only error is that memory ran out. It takes memory for the conditions and the
-    /// bytes of their texts and for a place of each output, and expected time by the same: what is asked of an output already is
-    /// found by hashing.
+    /// condition. The comparisons of all outputs with one number are asked together, and so are the texts of a dimension, also
+    /// those of several `or`s of nothing but its texts. The only error is that memory ran out. It takes memory for the conditions
+    /// and the bytes of their texts and for a place of each output, and expected time by the same: what is asked of an output
+    /// already is found by hashing.
     pub fn asked_together(
         &self,
         alloc: Global,

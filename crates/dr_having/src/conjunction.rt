@@ -63,8 +63,8 @@ impl Conjunction {
         self.outputs.add_text(alloc, condition, holds)
     }
 
-    // Adds that others don't all hold. Where they come down to texts that one dimension hasn't, it has one of these, which is asked
-    // with what else is asked of the dimension.
+    // Adds that others don't all hold. Where they come down to comparisons of one aggregation of which none is to hold, one of these
+    // is asked, and where to texts that one dimension hasn't, that it has one of them, with what else is asked of the dimension.
     pub(crate) fn deny(&mut self, alloc: Global, others: Conjunction) -> Result<(), AllocError>
         ensures { OnOk result ((dims : List (List ℕ)) (values : List ℤ) → conjunction_meets dims values self.new ≡ (conjunction_meets dims values self.old && not (conjunction_meets dims values others))) }
     {
@@ -94,6 +94,7 @@ impl Conjunction {
     {
         match output {
             AskedOutput::NoText(look_up) => self.outputs.add_texts(look_up),
+            AskedOutput::NoNumber(bound) => self.outputs.add_some_number(bound),
             other => {
                 let mut outputs = Vec::new(alloc);
                 outputs.push(other)?;

@@ -1,11 +1,12 @@
 ghost use Rattle.std.specs.Prelude.{◌≡◌, ◌&&◌, ◌||◌, not, ℕ, ℤ, List, [], OnOk, IfOk};
-ghost use Rattle.dr_having.specs.Bounds.{is_found};
+ghost use Rattle.dr_having.specs.Bounds.{is_found, reaches_at};
 ghost use Rattle.dr_having.specs.Meeting.{meets_value, meets_dimension};
 ghost use Rattle.dr_having.specs.OutputMeets.{outputs_meet, as_wanted};
 
 use crate::asked_output::AskedOutput;
 use crate::dimension_value::DimensionValue;
 use crate::group_value::GroupValue;
+use crate::some_bound::SomeBound;
 use crate::text_look_up::TextLookUp;
 use indexmap::IndexMap;
 use std::alloc::{AllocError, Global};
@@ -78,6 +79,14 @@ impl OutputConditions {
         } else {
             self.add_no_text(alloc, condition)
         }
+    }
+
+    // Adds that one of some comparisons of an aggregation holds.
+    pub(crate) fn add_some_number(&mut self, bound: SomeBound) -> Result<(), AllocError>
+        ensures { OnOk result ((dims : List (List ℕ)) (values : List ℤ) → outputs_meet dims values self.new.asked.items ≡ (outputs_meet dims values self.old.asked.items && reaches_at values bound)) }
+    {
+        self.asked.push(AskedOutput::SomeNumber(bound))?;
+        Ok(())
     }
 
     // Adds that a dimension has one of some values.
