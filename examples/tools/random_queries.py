@@ -83,8 +83,20 @@ class Writer:
         texts = ["/".join(it) for it in ends]
         return {"type": "intervals", "intervals": texts} if r.random() < 0.1 else texts
 
+    def nest(self, leaf, many, one, depth=0):
+        """Conditions within conditions, of few members each."""
+        r = self.random
+        if depth == 5 or r.random() < 0.25:
+            return leaf()
+        kind = r.choice(["and", "or", "not"])
+        if kind == "not":
+            return {"type": kind, one: self.nest(leaf, many, one, depth + 1)}
+        return {"type": kind, many: [self.nest(leaf, many, one, depth + 1) for _ in range(r.randint(0, 3))]}
+
     def filter(self, depth=0):
         r = self.random
+        if depth == 0 and r.random() < 0.2:
+            return self.nest(lambda: self.filter(3), "fields", "field")
         kinds = ["selector", "in", "bound", "like", "interval"] + (["and", "or", "not"] if depth < 3 else [])
         kind, value = r.choice(kinds), lambda: r.choice([*TEXTS, None, 10])
         if kind in ("and", "or"):
@@ -120,6 +132,8 @@ class Writer:
 
     def having(self, dims, aggs, depth=0):
         r = self.random
+        if depth == 0 and r.random() < 0.2:
+            return self.nest(lambda: self.having(dims, aggs, 3), "havingSpecs", "havingSpec")
         kinds = ["and", "or", "not"] if depth < 3 else ["and", "or"]
         kinds += ["equalTo", "greaterThan", "lessThan"] * (2 if aggs else 0) + ["dimSelector"] * (2 if dims else 0)
         kind = r.choice(kinds)
