@@ -7,3 +7,4 @@ pub mod Unlisted
 pub mod Json
 pub mod FaultLine
 pub mod Kept
+pub mod Told
