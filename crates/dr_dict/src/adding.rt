@@ -12,7 +12,7 @@ impl TextSet {
         ensures err { OnErr result (self.new ≡ self.old) }
     {
         let count = self.count();
-        let added = add_each(self, others.texts());
+        let added = add_each(self, others.as_texts());
         if added.is_err() {
             self.keep(count);
         }
@@ -26,7 +26,7 @@ impl TextSet {
         ensures err { OnErr result (self.new ≡ self.old) }
     {
         let mut both = self.none();
-        add_held(&mut both, self, others.texts())?;
+        add_held(&mut both, self, others.as_texts())?;
         *self = both;
         Ok(())
     }

@@ -69,8 +69,8 @@ impl TextSet {
         self.0.truncate(count);
     }
 
-    // The texts, one for each place.
-    pub(crate) fn texts(&self) -> &[String]
+    /// The texts, in the order in which they were added. It takes constant time and no memory.
+    pub fn as_texts(&self) -> &[String]
         ensures { map string_bytes result.now ≡ self.now }
     {
         self.0.as_slice()
