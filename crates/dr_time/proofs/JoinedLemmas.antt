@@ -41,13 +41,13 @@ above s e t h = grind (arith, ints)
 started : (s e t : ℤ) → int_le s t ≡ true → int_le s t && int_lt t e ≡ int_lt t e
 started s e t h = rw h refl
 
-or_none : (a : Bool) → a || false ≡ a
+pub or_none : (a : Bool) → a || false ≡ a
 or_none true = refl
 or_none false = refl
 
 -- ---- places
 
-all_at : (P : Interval → Type 0) (is : List Interval) (k : ℕ) (d : Interval) → AllByRecursion P is → k < length is → P (get_or is k d)
+pub all_at : (P : Interval → Type 0) (is : List Interval) (k : ℕ) (d : Interval) → AllByRecursion P is → k < length is → P (get_or is k d)
 all_at P [] k d all lt = absurd (omega arith)
 all_at P (i ∷ is) zero d all lt = all.0
 all_at P (i ∷ is) (suc k) d all lt = all_at P is k d all.1 (omega arith)
@@ -60,7 +60,7 @@ starts-rise (x ∷ is) zero (suc j) d apart le lt =
 starts-rise (x ∷ is) (suc i) zero d apart le lt = absurd (omega arith)
 starts-rise (x ∷ is) (suc i) (suc j) d apart le lt = starts-rise is i j d apart.2 (omega arith) (omega arith)
 
-some_at : (is : List Interval) (i : ℕ) (d : Interval) → AreApart is → i < length is → (get_or is i d).start <ℤ (get_or is i d).end
+pub some_at : (is : List Interval) (i : ℕ) (d : Interval) → AreApart is → i < length is → (get_or is i d).start <ℤ (get_or is i d).end
 some_at [] i d apart lt = absurd (omega arith)
 some_at (x ∷ is) zero d apart lt = apart.0
 some_at (x ∷ is) (suc i) d apart lt = some_at is i d apart.2 (omega arith)
@@ -106,7 +106,7 @@ last_started t (i ∷ is) (suc k) d apart lt low high =
 in_low : (s e t : ℤ) → int_le s t && int_lt t e ≡ true → s ≤ℤ t
 in_low s e t h = grind (arith, ints)
 
-held-from : (is : List Interval) (low t : ℤ) → AllByRecursion (λ j. low <ℤ j.start) is → union_holds is t ≡ true → low <ℤ t
+pub held-from : (is : List Interval) (low t : ℤ) → AllByRecursion (λ j. low <ℤ j.start) is → union_holds is t ≡ true → low <ℤ t
 held-from [] low t all h = absurd (cc h)
 held-from (i ∷ is) low t all h =
     either (int_le i.start t && int_lt t i.end) (union_holds is t) h
@@ -262,7 +262,7 @@ both_held s e from to t le touch some = grind (arith, ints)
 last_held : (front : List Interval) (i : Interval) (t : ℤ) → union_holds (front ++ i ∷ []) t ≡ union_holds front t || holds_time i t
 last_held front i t = list_any-append (λ j. holds_time j t) front (i ∷ []) ∙ (λ k. union_holds front t || or_none (holds_time i t) k)
 
-or_or : (a b c : Bool) → a || (b || c) ≡ (a || b) || c
+pub or_or : (a b c : Bool) → a || (b || c) ≡ (a || b) || c
 or_or true b c = refl
 or_or false b c = refl
 
@@ -289,7 +289,7 @@ some_held next h = grind (arith, ints)
 when_joined : (i next both : Interval) → Some both ≡ longer i next → (next.start ≤ℤ i.end) × (both ≡ record { start = i.start; end = int_max i.end next.end })
 when_joined i next both h = (grind (arith, ints), grind (arith, ints))
 
-max_end : (a b : ℤ) → a ≤ℤ int_max a b
+pub max_end : (a b : ℤ) → a ≤ℤ int_max a b
 max_end a b = grind (arith, ints)
 
 pub joined-apart : (is : List Interval) (next both d : Interval) → AreApart is → (length is ≡ 0 → ⊥) → Some both ≡ longer (get_or is (length is - 1) d) next → AreApart (slice_set is (length is - 1) both)
@@ -477,7 +477,7 @@ module _ (all others shared more : List Interval) (a b : Interval) (is js : List
   second_left : AreApart (a ∷ is) → AreApart (b ∷ js) → b.end ≤ℤ a.end → Share all others more (a ∷ is) js
   second_left apart_a apart_b le = λ t. one_more_shared t (union_holds (a ∷ is) t && union_holds js t) (second_ends a b is js t apart_a apart_b le)
 
-start_by : (low high : ℤ) (is : List Interval) → low ≤ℤ high → AllByRecursion (λ i. i.start ≤ℤ low) is → AllByRecursion (λ i. i.start ≤ℤ high) is
+pub start_by : (low high : ℤ) (is : List Interval) → low ≤ℤ high → AllByRecursion (λ i. i.start ≤ℤ low) is → AllByRecursion (λ i. i.start ≤ℤ high) is
 start_by low high [] le all = tt
 start_by low high (i ∷ is) le all = let at = all.0 in (omega (arith, ints), start_by low high is le all.1)
 

@@ -7,3 +7,4 @@ pub mod SpelledLemmas
 pub mod ReadLemmas
 pub mod RoundTrip
 pub mod JoinedLemmas
+pub mod GapLemmas

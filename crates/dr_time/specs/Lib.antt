@@ -11,3 +11,4 @@ pub mod Union
 pub mod Shared
 pub mod Laws
 pub mod Joined
+pub mod Gaps

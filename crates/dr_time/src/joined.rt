@@ -1,8 +1,9 @@
 ghost use Rattle.std.specs.Prelude.{◌≡◌, ◌≤ℤ◌, ◌||◌, ℤ, true, IfOk, OnOk};
 ghost use Rattle.std.specs.List.{AllByRecursion};
+ghost use Rattle.dr_time.specs.Gaps.{AreGaps};
 ghost use Rattle.dr_time.specs.Interval.{holds_time};
 ghost use Rattle.dr_time.specs.Joined.{AreApart, Rise, HoldSame, longer as longer_of};
-ghost use Rattle.dr_time.specs.Shared.{AreShared};
+ghost use Rattle.dr_time.specs.Shared.{AreShared, AreLeft};
 ghost use Rattle.dr_time.specs.Union.{HoldsAll, union_holds, union_start, union_first_from};
 
 use crate::interval::Interval;
@@ -49,6 +50,15 @@ impl Joined {
     {
         let shared = shared_of(*self.0.allocator(), self.0.as_slice(), other.0.as_slice())?;
         Ok(Joined(shared))
+    }
+
+    // The times that these hold and the other ones lack. The only error is that memory ran out. It takes time and memory by the
+    // intervals of both.
+    pub fn difference(&self, other: &Joined) -> Result<Joined, AllocError>
+        ensures { IfOk result (λ joined. AreLeft self.now other.now joined) }
+    {
+        let left = left_of(*self.0.allocator(), self.0.as_slice(), other.0.as_slice())?;
+        Ok(Joined(left))
     }
 
     // The intervals, which rise.
@@ -177,4 +187,54 @@ fn shared_of(
         }
     }
     Ok(shared)
+}
+
+// The times that some intervals hold and others lack: what they share with the gaps of the others.
+fn left_of(
+    alloc: Global,
+    some: &[Interval],
+    others: &[Interval],
+) -> Result<Vec<Interval>, AllocError>
+    requires some { AreApart some.now }
+    requires others { AreApart others.now }
+    ensures apart { IfOk result (λ left. AreApart left.items) }
+    ensures left { IfOk result (λ left. AreLeft some.now others.now left.items) }
+{
+    if some.is_empty() {
+        return Ok(Vec::new(alloc));
+    }
+    let within = Interval {
+        start: some[0].start,
+        end: some[some.len() - 1].end,
+    };
+    let gaps = gaps_of(alloc, &within, others)?;
+    shared_of(alloc, some, gaps.as_slice())
+}
+
+// The times of an interval that others lack: those before each of the others and behind the one before it, and those behind the last.
+fn gaps_of(
+    alloc: Global,
+    within: &Interval,
+    others: &[Interval],
+) -> Result<Vec<Interval>, AllocError>
+    requires { AreApart others.now }
+    ensures apart { IfOk result (λ gaps. AreApart gaps.items) }
+    ensures gaps { IfOk result (λ gaps. AreGaps within.now others.now gaps.items) }
+{
+    let mut gaps = Vec::new(alloc);
+    let mut from = within.start;
+    for other in others {
+        let gap = Interval {
+            start: from,
+            end: other.start,
+        };
+        join(&mut gaps, gap)?;
+        from = from.max(other.end);
+    }
+    let last = Interval {
+        start: from,
+        end: within.end,
+    };
+    join(&mut gaps, last)?;
+    Ok(gaps)
 }

@@ -1,5 +1,5 @@
 ghost use Rattle.std.specs.Prelude.{◌≡◌, true, IfOk};
-ghost use Rattle.dr_time.specs.Shared.{AreShared};
+ghost use Rattle.dr_time.specs.Shared.{AreShared, AreLeft};
 ghost use Rattle.dr_time.specs.Union.{HoldsAll, union_holds, union_start, union_first_from};
 
 use crate::interval::Interval;
@@ -55,6 +55,18 @@ impl Union {
         ensures { IfOk result (λ u. AreShared self.now other.now u) }
     {
         let joined = self.joined.intersection(&other.joined)?;
+        Ok(Union {
+            given: Vec::from_slice(*self.given.allocator(), joined.intervals())?,
+            joined,
+        })
+    }
+
+    /// The times of the union that another one lacks. The only error is that memory ran out. It takes time and memory by the intervals
+    /// of both.
+    pub fn difference(&self, other: &Union) -> Result<Union, AllocError>
+        ensures { IfOk result (λ u. AreLeft self.now other.now u) }
+    {
+        let joined = self.joined.difference(&other.joined)?;
         Ok(Union {
             given: Vec::from_slice(*self.given.allocator(), joined.intervals())?,
             joined,

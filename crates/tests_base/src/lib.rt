@@ -10,3 +10,5 @@ mod dictionaries;
 mod fields;
 #[cfg(test)]
 mod rollups;
+#[cfg(test)]
+mod unions;
