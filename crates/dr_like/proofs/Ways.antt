@@ -15,7 +15,7 @@ other_than_run c is = at (c == 37) refl
     at false here = refl
 
 -- behind any run of characters, what fits there is found
-found_behind : (f : List ℕ → Bool) (run text : List ℕ) → f text ≡ true → behind_some_run f (run ++ text) ≡ true
+pub found_behind : (f : List ℕ → Bool) (run text : List ℕ) → f text ≡ true → behind_some_run f (run ++ text) ≡ true
 found_behind f [] text is = behind_none f text is
 found_behind f (c ∷ cs) text is = behind_one_more f c (cs ++ text) (found_behind f cs text is)
 
@@ -30,7 +30,7 @@ found_of_fits pattern text (any_run run ps ts rest) = found_behind (fits ps) run
 -- ---- what is found fits
 
 -- where something is found behind some run, there is a run that it stands behind
-run_before : (f : List ℕ → Bool) (text : List ℕ) → behind_some_run f text ≡ true → (run : List ℕ) × (rest : List ℕ) × (text ≡ run ++ rest) × (f rest ≡ true)
+pub run_before : (f : List ℕ → Bool) (text : List ℕ) → behind_some_run f text ≡ true → (run : List ℕ) × (rest : List ℕ) × (text ≡ run ++ rest) × (f rest ≡ true)
 run_before f [] is = ([], [], refl, is)
 run_before f (c ∷ cs) is = at (f (c ∷ cs)) refl (run_before f cs) is
   where

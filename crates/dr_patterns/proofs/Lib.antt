@@ -1,0 +1,5 @@
+pub mod AddedTexts
+pub mod Begun
+pub mod Behind
+pub mod Ended
+pub mod Literals
