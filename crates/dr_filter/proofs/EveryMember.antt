@@ -1,13 +1,14 @@
 -- One member more of an `and`, and what all of some filters tell.
 use Rattle.std.proofs.Common.{◌≡◌, ◌∙◌, refl, ap, ℕ, ℤ, Bool, true, false, not, ◌||◌, ◌&&◌, List, [], ◌∷◌, ◌++◌, map}
 use Rattle.std.proofs.lemmas.List.{map-append}
-use Rattle.dr_base.proofs.Truths.{and_regroups, and_true}
+use Rattle.dr_base.proofs.Truths.{and_regroups, and_swaps, and_true}
 use Rattle.dr_filter.specs.declared.filter_tree.FilterTree.{FilterTree}
 use Rattle.dr_filter.specs.Condition.{Condition, condition_in, conditions_in, conditions_of, matches, every_matches, some_matches}
 use Rattle.dr_filter.specs.declared.parts.Parts.{Parts}
 use Rattle.dr_filter.specs.Parts.{all_told, parts_match}
 use Rattle.dr_filter.specs.Times.{some_held, every_held}
-use Rattle.dr_predicate.specs.Tests.{some_holds, every_holds}
+use Rattle.dr_predicate.specs.Asked.{tests_hold}
+use Rattle.dr_predicate.specs.declared.dimension_tests.DimensionTests.{DimensionTests}
 
 module _ (time : ℤ) (dims : List (List ℕ)) where
   every-append : (cs ds : List Condition) → every_matches time dims (conditions_of (cs ++ ds)) ≡ (every_matches time dims (conditions_of cs) && every_matches time dims (conditions_of ds))
@@ -39,22 +40,22 @@ module _ (time : ℤ) (dims : List (List ℕ)) where
 
   -- one filter more that stands apart
   pub one-part-more : (p : Parts) (after one : Bool) → after ≡ (every_matches time dims (conditions_in p.others.items) && one)
-      → (every_holds dims p.every.items && (not (some_holds dims p.none.items) && (every_held time p.times.items && (not (some_held time p.no_times.items) && after)))) ≡ (parts_match time dims p && one)
+      → (tests_hold dims p.tests && (every_held time p.times.items && (not (some_held time p.no_times.items) && after))) ≡ (parts_match time dims p && one)
   one-part-more p after one more =
-      ap (λ b. every_holds dims p.every.items && (not (some_holds dims p.none.items) && (every_held time p.times.items && (not (some_held time p.no_times.items) && b)))) more
-      ∙ fifth (every_holds dims p.every.items) (not (some_holds dims p.none.items)) (every_held time p.times.items) (not (some_held time p.no_times.items)) (every_matches time dims (conditions_in p.others.items)) one
+      ap (λ b. tests_hold dims p.tests && (every_held time p.times.items && (not (some_held time p.no_times.items) && b))) more
+      ∙ fourth (tests_hold dims p.tests) (every_held time p.times.items) (not (some_held time p.no_times.items)) (every_matches time dims (conditions_in p.others.items)) one
     where
-      fifth : (a b c d e x : Bool) → (a && (b && (c && (d && (e && x))))) ≡ ((a && (b && (c && (d && e)))) && x)
-      fifth true true true true e x = refl
-      fifth true true true false e x = refl
-      fifth true true false d e x = refl
-      fifth true false c d e x = refl
-      fifth false b c d e x = refl
+      fourth : (a b c d x : Bool) → (a && (b && (c && (d && x)))) ≡ ((a && (b && (c && d))) && x)
+      fourth true true true d x = refl
+      fourth true true false d x = refl
+      fourth true false c d x = refl
+      fourth false b c d x = refl
 
-pub and-neither : (e h r : Bool) → ((e && not h) && not r) ≡ (e && not (h || r))
-and-neither true true r = refl
-and-neither true false r = refl
-and-neither false h r = refl
+  -- one more thing that is known of each row
+  pub one-known-more : (p : Parts) (tests : DimensionTests) (known : Bool) → tests_hold dims tests ≡ (tests_hold dims p.tests && known) → parts_match time dims (record p { tests = tests }) ≡ (parts_match time dims p && known)
+  one-known-more p tests known more =
+      let rest = every_held time p.times.items && (not (some_held time p.no_times.items) && every_matches time dims (conditions_in p.others.items)) in
+      ap (λ b. b && rest) more ∙ and_swaps (tests_hold dims p.tests) known rest
 
 pub not-not : (a : Bool) → not (not a) ≡ a
 not-not true = refl

@@ -1,15 +1,16 @@
 ghost use Rattle.std.specs.Prelude.{◌≡◌, ◌&&◌, not, true, ℕ, ℤ, List, IfOk, OnOk};
 ghost use Rattle.dr_filter.specs.Condition.{condition_in, conditions_in, matches, every_matches, some_matches};
-ghost use Rattle.dr_filter.specs.Parts.{all_told, parts_match, told};
+ghost use Rattle.dr_base.specs.Told.{told};
+ghost use Rattle.dr_filter.specs.Parts.{all_told, parts_match};
 ghost use Rattle.dr_filter.specs.Same.{KeepSame};
 
 use crate::filter_tree::FilterTree;
 use crate::parts::Parts;
 use std::alloc::{AllocError, Global};
 
-/// A filter that keeps the same rows: nests of one kind are taken apart, and then the tests of each dimension are joined that are all
-/// to hold, or of which one is. The only error is that memory ran out. It takes expected time and memory by the bytes of the filter,
-/// `bound`s and intervals time by theirs times the logarithm of their number, all that once more for each level of a nest that comes
+/// A filter that keeps the same rows: nests of one kind are taken apart, and then the tests of each dimension are joined, and the
+/// intervals. The only error is that memory ran out. It takes expected time and memory by the bytes of the filter, and `bound`s,
+/// `like`s and intervals time by theirs times the logarithm of their number, all that once more for each level of a nest that comes
 /// down to one test.
 pub fn asked_of(alloc: Global, filter: &FilterTree) -> Result<FilterTree, AllocError>
     ensures { IfOk result (λ f. KeepSame (condition_in f) (condition_in filter.now)) }
@@ -25,7 +26,7 @@ fn add(alloc: Global, filter: &FilterTree, parts: &mut Parts, holds: bool) -> Re
     ensures { OnOk result ((time : ℤ) (dims : List (List ℕ)) → parts_match time dims parts.new ≡ (parts_match time dims parts.old && told holds (matches time dims (condition_in filter.now)))) }
 {
     match filter {
-        FilterTree::Dimension(test) => parts.add_test(test.copy(alloc)?, holds)?,
+        FilterTree::Dimension(test) => parts.add_test(alloc, test.copy(alloc)?, holds)?,
         FilterTree::Interval(union) => parts.add_time(union.copy()?, holds)?,
         FilterTree::And(filters) => add_and(alloc, filters.as_slice(), parts, holds)?,
         FilterTree::Or(filters) => add_or(alloc, filters.as_slice(), parts, holds)?,

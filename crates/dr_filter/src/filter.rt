@@ -52,10 +52,9 @@ impl Filter {
         self.asked.matches(time, dims)
     }
 
-    /// A filter that keeps the same rows, with as few tests as are joined: of the filters that are all to hold, or of which one is,
-    /// the `selector`s and `in`s are one test for each dimension that they name, the `bound`s another one, and all intervals one,
-    /// and so are those of which the `not` is among them. An `and` within an `and` and an `or` within an `or` are taken apart
-    /// first, and so is what two `not`s undo. It takes constant time.
+    /// A filter that keeps the same rows, with few tests: whatever `and`, `or` and `not` make of the `selector`s, `in`s and `bound`s of
+    /// one dimension is one test, and of intervals one `interval`. The `like`s of a dimension of which one is to fit, or none, are one
+    /// test too, and a test of a column that the schema lacks is answered. It takes constant time.
     pub fn asked(&self) -> &FilterTree
         ensures { KeepSame (condition_in result.now) (condition_in self.now) }
     {

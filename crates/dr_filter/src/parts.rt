@@ -2,20 +2,20 @@ ghost use Rattle.std.specs.Prelude.{◌≡◌, ◌&&◌, ℕ, ℤ, List, true, I
 ghost use Rattle.dr_time.specs.Union.{union_holds};
 ghost use Rattle.dr_predicate.specs.Match.{holds_of};
 ghost use Rattle.dr_filter.specs.Condition.{condition_in, matches};
-ghost use Rattle.dr_filter.specs.Parts.{parts_match, told};
+ghost use Rattle.dr_base.specs.Told.{told};
+ghost use Rattle.dr_filter.specs.Parts.{parts_match};
 
 use crate::filter_tree::FilterTree;
-use crate::members::{all_of, put_denied, put_filters, put_no_times, put_tests, put_times};
-use dr_predicate::{DimensionTest, every_joined, some_joined};
+use crate::members::{all_of, put_filters, put_tests, put_times};
+use dr_predicate::{DimensionTest, DimensionTests};
 use dr_time::Union;
 use std::alloc::{AllocError, Global};
 
-/// Conditions that are all to hold, by what they ask: tests of dimensions of which all are to hold, or none; intervals of which
+/// Conditions that are all to hold, by what they ask: tests of dimensions of which each is to hold, or not to; intervals of which
 /// all are to hold the time, or none; and filters.
 #[derive(Drop)]
 pub struct Parts {
-    pub every: Vec<DimensionTest>,
-    pub none: Vec<DimensionTest>,
+    pub tests: DimensionTests,
     pub times: Vec<Union>,
     pub no_times: Vec<Union>,
     pub others: Vec<FilterTree>,
@@ -27,8 +27,7 @@ impl Parts {
         ensures { (time : ℤ) (dims : List (List ℕ)) → parts_match time dims result ≡ true }
     {
         Parts {
-            every: Vec::new(alloc),
-            none: Vec::new(alloc),
+            tests: DimensionTests::new(alloc),
             times: Vec::new(alloc),
             no_times: Vec::new(alloc),
             others: Vec::new(alloc),
@@ -36,14 +35,15 @@ impl Parts {
     }
 
     // Adds that a test holds, or that it doesn't.
-    pub(crate) fn add_test(&mut self, test: DimensionTest, holds: bool) -> Result<(), AllocError>
+    pub(crate) fn add_test(
+        &mut self,
+        alloc: Global,
+        test: DimensionTest,
+        holds: bool,
+    ) -> Result<(), AllocError>
         ensures { OnOk result ((time : ℤ) (dims : List (List ℕ)) → parts_match time dims self.new ≡ (parts_match time dims self.old && told holds (holds_of test dims))) }
     {
-        if holds {
-            self.every.push(test)?;
-        } else {
-            self.none.push(test)?;
-        }
+        self.tests.add(alloc, test, holds)?;
         Ok(())
     }
 
@@ -78,10 +78,21 @@ impl Parts {
         ensures { OnOk result ((time : ℤ) (dims : List (List ℕ)) → parts_match time dims self.new ≡ (parts_match time dims self.old && told holds (matches time dims (condition_in filter)))) }
     {
         match filter {
-            FilterTree::Dimension(test) => self.add_test(test, holds),
+            FilterTree::Dimension(test) => self.add_test(alloc, test, holds),
             FilterTree::Interval(union) => self.add_time(union, holds),
-            other => self.add_other(alloc, other, holds),
+            other => self.add_nest(alloc, other, holds),
         }
+    }
+
+    // What always holds is known, and any other filter stands apart.
+    fn add_nest(&mut self, alloc: Global, filter: FilterTree, holds: bool) -> Result<(), AllocError>
+        ensures { OnOk result ((time : ℤ) (dims : List (List ℕ)) → parts_match time dims self.new ≡ (parts_match time dims self.old && told holds (matches time dims (condition_in filter)))) }
+    {
+        if always_holds(&filter) {
+            self.tests.add_known(holds);
+            return Ok(());
+        }
+        self.add_other(alloc, filter, holds)
     }
 
     fn add_other(
@@ -100,25 +111,34 @@ impl Parts {
         Ok(())
     }
 
-    // One filter for all of them, in which the tests are joined and the intervals are one.
+    // One filter for all of them, in which the tests of a dimension are joined and the intervals are one.
     pub(crate) fn made(self, alloc: Global) -> Result<FilterTree, AllocError>
         ensures { IfOk result (λ f. (time : ℤ) (dims : List (List ℕ)) → matches time dims (condition_in f) ≡ parts_match time dims self) }
     {
         let Parts {
-            every,
-            none,
+            tests,
             times,
             no_times,
             others,
         } = self;
-        let every = every_joined(alloc, every)?;
-        let none = some_joined(alloc, none)?;
+        let never = tests.never_hold();
         let mut members = Vec::new(alloc);
-        put_tests(&mut members, every)?;
-        put_denied(alloc, &mut members, none)?;
-        put_times(&mut members, times.as_slice())?;
-        put_no_times(alloc, &mut members, no_times.as_slice())?;
+        put_tests(alloc, &mut members, tests.told(alloc)?)?;
+        if never {
+            return Ok(all_of(members));
+        }
+        put_times(alloc, &mut members, times.as_slice(), no_times.as_slice())?;
         put_filters(&mut members, others)?;
         Ok(all_of(members))
+    }
+}
+
+// Whether a filter is an `and` of nothing.
+fn always_holds(filter: &FilterTree) -> bool
+    ensures { result ≡ true → (time : ℤ) (dims : List (List ℕ)) → matches time dims (condition_in filter.now) ≡ true }
+{
+    match filter {
+        FilterTree::And(filters) => filters.is_empty(),
+        _ => false,
     }
 }

@@ -1,4 +1,4 @@
-pub mod Joining
+pub mod Dimensions
 pub mod Ends
 pub mod Reaching
-pub mod Gathering
+pub mod Gaps

@@ -68,7 +68,7 @@ part text bs rise i j d le lt h = rise i j d text le lt h
 
 -- ---- the last of some ranges
 
-same_at : (bs : List Bounds) (k : ℕ) (d e : Bounds) → k < length bs → get_or bs k d ≡ get_or bs k e
+pub same_at : (bs : List Bounds) (k : ℕ) (d e : Bounds) → k < length bs → get_or bs k d ≡ get_or bs k e
 same_at [] k d e lt = absurd (omega arith)
 same_at (b ∷ bs) zero d e lt = refl
 same_at (b ∷ bs) (suc k) d e lt = same_at bs k d e (omega arith)

@@ -2,6 +2,4 @@ pub mod Within
 pub mod Ends
 pub mod Ranges
 pub mod Match
-pub mod Tests
-pub mod Gathered
-pub mod Joined
+pub mod Asked

@@ -5,7 +5,7 @@ use Rattle.std.specs.Cmp.Lexicographic.{slice_cmp}
 use Rattle.std.specs.declared.cmp.Ordering.{Ordering}
 use Rattle.dr_predicate.specs.declared.bounds.Bounds.{Bounds}
 use Rattle.dr_predicate.specs.Ends.{ends_before}
-use Rattle.dr_predicate.specs.Within.{not_before, not_after}
+use Rattle.dr_predicate.specs.Within.{not_before, not_after, lies_within}
 
 -- the lower end as a text, and whether it is strict; where it is absent it is the empty text, and isn't
 abbrev pub start_text : Option (List ℕ) → List ℕ
@@ -24,6 +24,11 @@ begun text b = not_before b.lower b.lower_strict text
 
 abbrev pub unended : List ℕ → Bounds → Bool
 unended text b = not_after b.upper b.upper_strict text
+
+-- a range that may be absent, and lets nothing in then
+abbrev pub lies_open : Option Bounds → List ℕ → Bool
+lies_open None text = false
+lies_open (Some b) text = lies_within b text
 
 -- a text that is past the start of a range is past the starts of those before it
 abbrev pub Rise : List Bounds → Type 0

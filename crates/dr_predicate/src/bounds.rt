@@ -1,9 +1,10 @@
-ghost use Rattle.std.specs.Prelude.{◌≡◌, ◌&&◌, ℕ, List, IfOk, OnOk};
+ghost use Rattle.std.specs.Prelude.{◌≡◌, ◌&&◌, not, true, ℕ, List, IfOk, OnOk, bytes_eq};
 ghost use Rattle.dr_predicate.specs.Ends.{starts_behind as starts_behind_of, ends_before as ends_before_of};
+ghost use Rattle.dr_predicate.specs.Ranges.{start_text as start_text_of, start_strict as start_strict_of, begun, unended, lies_open};
 ghost use Rattle.dr_predicate.specs.Within.{lies_within, not_before as not_before_of, not_after as not_after_of, comes_after as comes_after_of};
 
 use dr_base::Text;
-use std::alloc::AllocError;
+use std::alloc::{AllocError, Global};
 use std::cmp::Ordering;
 
 /// The ends of a range of texts in the order of their UTF-8 bytes. An end that is absent bounds nothing, and a strict one
@@ -17,6 +18,64 @@ pub struct Bounds {
 }
 
 impl Bounds {
+    // Every text.
+    pub(crate) fn every_text() -> Bounds
+        ensures { (text : List ℕ) → lies_within result text ≡ true }
+    {
+        Bounds {
+            lower: None,
+            upper: None,
+            lower_strict: false,
+            upper_strict: false,
+        }
+    }
+
+    // One text alone.
+    pub(crate) fn one_text(alloc: Global, text: &str) -> Result<Bounds, AllocError>
+        ensures { IfOk result (λ b. (value : List ℕ) → lies_within b value ≡ bytes_eq value text.now) }
+    {
+        Ok(Bounds {
+            lower: Some(Text::from_str(alloc, text)?),
+            upper: Some(Text::from_str(alloc, text)?),
+            lower_strict: false,
+            upper_strict: false,
+        })
+    }
+
+    // The texts before the range.
+    pub(crate) fn before(&self, alloc: Global) -> Result<Bounds, AllocError>
+        ensures { IfOk result (λ b. (text : List ℕ) → lies_within b text ≡ not (begun text self.now)) }
+    {
+        Ok(Bounds {
+            lower: None,
+            upper: Some(Text::from_str(alloc, start_text(&self.lower))?),
+            lower_strict: false,
+            upper_strict: !start_strict(&self.lower, self.lower_strict),
+        })
+    }
+
+    // The texts behind the range, none where it has no upper end.
+    pub(crate) fn behind(&self) -> Result<Option<Bounds>, AllocError>
+        ensures { IfOk result (λ b. (text : List ℕ) → lies_open b text ≡ not (unended text self.now)) }
+    {
+        let Some(upper) = &self.upper else {
+            return Ok(None);
+        };
+        Ok(Some(Bounds {
+            lower: Some(upper.copy()?),
+            upper: None,
+            lower_strict: !self.upper_strict,
+            upper_strict: false,
+        }))
+    }
+
+    // Whether it has no end.
+    pub(crate) fn is_open(&self) -> bool
+        ensures { result ≡ true → (text : List ℕ) → lies_within self.now text ≡ true }
+    {
+        self.lower.is_none() && self.upper.is_none()
+    }
+
     /// Whether a text lies in the range. It takes no memory, and time by the bytes of the text.
     pub fn hold(&self, text: &str) -> bool
         ensures { result ≡ lies_within self.now text.now }
@@ -67,6 +126,25 @@ impl Bounds {
         self.upper = copy_of(&other.upper)?;
         self.upper_strict = other.upper_strict;
         Ok(())
+    }
+}
+
+// The lower end as a text: where it is absent, the least one.
+pub(crate) fn start_text(lower: &Option<Text>) -> &str
+    ensures { result.now ≡ start_text_of lower.now }
+{
+    match lower {
+        Some(lower) => lower.as_str(),
+        None => "",
+    }
+}
+
+pub(crate) fn start_strict(lower: &Option<Text>, strict: bool) -> bool
+    ensures { result ≡ start_strict_of lower.now strict }
+{
+    match lower {
+        Some(_) => strict,
+        None => false,
     }
 }
 

@@ -1,6 +1,5 @@
-ghost use Rattle.std.specs.Prelude.{◌≡◌, ℕ, List, IfOk, IfSome};
+ghost use Rattle.std.specs.Prelude.{◌≡◌, ℕ, List, IfOk};
 ghost use Rattle.dr_predicate.specs.Match.{holds_of, value_at as value_at_of};
-ghost use Rattle.dr_predicate.specs.Tests.{IsTestOf};
 
 use crate::value_test::ValueTest;
 use dr_base::Text;
@@ -45,16 +44,4 @@ fn value_at(dims: &[Text], place: Option<usize>) -> &str
         Some(value) => value.as_str(),
         None => "",
     }
-}
-
-/// The place of the first test of a dimension among some tests.
-pub fn place_among(tests: &[DimensionTest], place: Option<usize>) -> Option<usize>
-    ensures { IfSome result (λ i. IsTestOf tests.now i place) }
-{
-    for i in 0..tests.len() {
-        if tests[i].place == place {
-            return Some(i);
-        }
-    }
-    None
 }

@@ -1,18 +1,25 @@
 //! Tests of the value of a dimension: that it is a text or one of some, that it lies in a range or in one of some, that it fits a
-//! pattern. Those of one dimension, of which all are to hold or one, are joined.
+//! pattern. Tests of which each is to hold, or not to, are joined dimension by dimension.
 #![tactic(auto)]
 
+mod apart;
+mod asked_dimension;
+mod asked_texts;
 mod bounds;
-mod dimension_bounds;
 mod dimension_test;
-mod every_tests;
+mod dimension_tests;
+mod joining;
+mod limits;
 mod ranges;
-mod some_tests;
+mod telling;
+mod told_dimension;
+mod told_test;
 mod value_test;
+mod value_tests;
 
 pub use bounds::Bounds;
 pub use dimension_test::DimensionTest;
-pub use every_tests::every_joined;
+pub use dimension_tests::DimensionTests;
 pub use ranges::Ranges;
-pub use some_tests::some_joined;
+pub use told_dimension::ToldDimension;
 pub use value_test::ValueTest;

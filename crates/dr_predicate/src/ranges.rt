@@ -1,9 +1,8 @@
-ghost use Rattle.std.specs.Prelude.{◌≡◌, ℕ, List, IfOk, OnOk};
-ghost use Rattle.dr_predicate.specs.Ranges.{start_text as start_text_of, start_strict as start_strict_of, start_order as start_order_of, ends_within as ends_within_of, with_outer, Rise, Reach};
+ghost use Rattle.std.specs.Prelude.{◌≡◌, ◌||◌, ◌&&◌, not, ℕ, List, IfOk, OnOk};
+ghost use Rattle.dr_predicate.specs.Ranges.{start_order as start_order_of, ends_within as ends_within_of, with_outer, begun, lies_open, Rise, Reach};
 ghost use Rattle.dr_predicate.specs.Within.{some_within};
 
-use crate::bounds::{Bounds, ends_before, not_after, not_before};
-use dr_base::Text;
+use crate::bounds::{Bounds, ends_before, not_after, not_before, start_strict, start_text};
 use std::alloc::{AllocError, Global};
 use std::cmp::Ordering;
 use std::marker::Model;
@@ -46,6 +45,21 @@ impl Ranges {
         Ok(Ranges(copied(alloc, self.0.as_slice())?))
     }
 
+    // The ranges.
+    pub(crate) fn into_bounds(self) -> Vec<Bounds>
+        ensures { result.items ≡ self }
+    {
+        self.0
+    }
+
+    // Ranges that hold the texts that none of these holds: what lies before the first, between each and the next, and behind the
+    // last.
+    pub(crate) fn gaps(&self, alloc: Global) -> Result<Vec<Bounds>, AllocError>
+        ensures { IfOk result (λ gaps. (text : List ℕ) → some_within gaps.items text ≡ not (some_within self.now text)) }
+    {
+        gaps_of(alloc, self.0.as_slice())
+    }
+
     /// Whether a text lies in one of the ranges. It takes no memory, and time by the bytes of the text times the logarithm of the
     /// number of ranges.
     pub fn hold(&self, text: &str) -> bool
@@ -62,6 +76,50 @@ impl Ranges {
         let last = &self.0[place - 1];
         not_after(&last.upper, last.upper_strict, text)
     }
+}
+
+// What lies before the first of some ranges, between each and the next, and behind the last.
+fn gaps_of(alloc: Global, ranges: &[Bounds]) -> Result<Vec<Bounds>, AllocError>
+    requires rise { Rise ranges.now }
+    requires reach { Reach ranges.now }
+    ensures { IfOk result (λ gaps. (text : List ℕ) → some_within gaps.items text ≡ not (some_within ranges.now text)) }
+{
+    let mut gaps = Vec::new(alloc);
+    let mut left = Some(Bounds::every_text());
+    for bounds in ranges {
+        put_before(alloc, &mut gaps, left, bounds)?;
+        left = bounds.behind()?;
+    }
+    put_left(&mut gaps, left)?;
+    Ok(gaps)
+}
+
+// Puts what lies in a range, where there is one, and before another one, behind some ranges.
+fn put_before(
+    alloc: Global,
+    gaps: &mut Vec<Bounds>,
+    left: Option<Bounds>,
+    next: &Bounds,
+) -> Result<(), AllocError>
+    ensures { OnOk result ((text : List ℕ) → some_within gaps.new.items text ≡ (some_within gaps.old.items text || (lies_open left text && not (begun text next.now)))) }
+{
+    let Some(mut gap) = left else {
+        return Ok(());
+    };
+    gap.narrow(&next.before(alloc)?)?;
+    gaps.push(gap)?;
+    Ok(())
+}
+
+// Puts a range, where there is one, behind some ranges.
+pub(crate) fn put_left(gaps: &mut Vec<Bounds>, left: Option<Bounds>) -> Result<(), AllocError>
+    ensures { OnOk result ((text : List ℕ) → some_within gaps.new.items text ≡ (some_within gaps.old.items text || lies_open left text)) }
+{
+    let Some(gap) = left else {
+        return Ok(());
+    };
+    gaps.push(gap)?;
+    Ok(())
 }
 
 fn copied(alloc: Global, bounds: &[Bounds]) -> Result<Vec<Bounds>, AllocError>
@@ -81,24 +139,6 @@ fn start_order(a: &Bounds, b: &Bounds) -> Ordering
     let a_strict = start_strict(&a.lower, a.lower_strict);
     let b_strict = start_strict(&b.lower, b.lower_strict);
     texts.then(a_strict.cmp(&b_strict))
-}
-
-fn start_text(lower: &Option<Text>) -> &str
-    ensures { result.now ≡ start_text_of lower.now }
-{
-    match lower {
-        Some(lower) => lower.as_str(),
-        None => "",
-    }
-}
-
-fn start_strict(lower: &Option<Text>, strict: bool) -> bool
-    ensures { result ≡ start_strict_of lower.now strict }
-{
-    match lower {
-        Some(_) => strict,
-        None => false,
-    }
 }
 
 // Those of some ranges that end behind all that stand before them: each of the others lies within one before it.

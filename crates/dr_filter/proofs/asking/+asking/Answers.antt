@@ -1,6 +1,7 @@
 use Rattle.std.proofs.Common.{◌∙◌, ap, sym, not, ◌&&◌}
 use Rattle.dr_filter.specs.Condition.{conditions_in, every_matches, some_matches}
-use Rattle.dr_filter.specs.Parts.{parts_match, told}
+use Rattle.dr_base.specs.Told.{told}
+use Rattle.dr_filter.specs.Parts.{parts_match}
 use Rattle.dr_filter.proofs.EveryMember.{all-hold, none-holds, not-not}
 use Rattle.dr_filter.proofs.asking.+asking.Goals as goal
 

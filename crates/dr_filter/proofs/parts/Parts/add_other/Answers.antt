@@ -1,6 +1,7 @@
 use Rattle.std.proofs.Common.{◌∙◌, ap, sym, not, ◌&&◌}
 use Rattle.dr_filter.specs.Condition.{condition_in, conditions_in, matches, every_matches}
-use Rattle.dr_filter.specs.Parts.{parts_match, told}
+use Rattle.dr_base.specs.Told.{told}
+use Rattle.dr_filter.specs.Parts.{parts_match}
 use Rattle.dr_filter.proofs.EveryMember.{every-one-behind, one-part-more}
 use Rattle.dr_filter.proofs.parts.Parts.add_other.Goals as goal
 

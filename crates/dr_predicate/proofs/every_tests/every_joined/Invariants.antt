@@ -1,9 +1,0 @@
-use Rattle.std.proofs.Common.{◌≡◌, ◌&&◌, ℕ, List, length}
-use Rattle.std.specs.Vec.Iter.{into_iter_items, into_iter_len}
-use Rattle.dr_predicate.specs.Joined.{every_in}
-use Rattle.dr_predicate.specs.Tests.{every_holds}
-use Rattle.dr_predicate.proofs.every_tests.every_joined.Given as goal
-
-abbrev pub invariant-loop-test : goal.invariant-loop-test
-invariant-loop-test l = (into_iter_len l.test-iterator ≡ length (into_iter_items l.test-iterator))
-    × ((dims : List (List ℕ)) → (every_in dims l.every && every_holds dims (into_iter_items l.test-iterator)) ≡ every_holds dims l.fn.tests.items)
