@@ -1,4 +1,5 @@
 pub mod Levels
-pub mod Narrowing
+pub mod Turning
 pub mod Placing
+pub mod Collecting
 pub mod Gathering

@@ -4,18 +4,19 @@ use Rattle.std.specs.List.{list_all}
 use Rattle.dr_having.specs.declared.conjunction.Conjunction.{Conjunction}
 use Rattle.dr_having.specs.declared.having.Having.{Having}
 use Rattle.dr_having.specs.Asked.{asked_meets}
+use Rattle.dr_having.specs.Collected.{conditions_meet}
 use Rattle.dr_having.specs.Condition.{Condition, Conditions, every, some, condition_in, meets}
-use Rattle.dr_having.specs.OutputMeets.{outputs_meet, as_wanted}
+use Rattle.dr_base.specs.Told.{told}
 use Rattle.dr_having.specs.Placed.{HaveNumbers}
 use Rattle.dr_outputs.specs.Numbered.{numbers_by}
 
 -- all that was gathered holds
 abbrev pub conjunction_meets : List (List ℕ) → List ℤ → Conjunction → Bool
-conjunction_meets dims values c = outputs_meet dims values c.outputs.asked.items && list_all not (map (asked_meets dims values) c.denied.items)
+conjunction_meets dims values c = conditions_meet dims values c.outputs && list_all not (map (asked_meets dims values) c.denied.items)
 
 -- all of some conditions hold, or none does
 abbrev pub all_wanted : Bool → List (List ℕ) → List ℤ → List Having → Bool
-all_wanted holds dims values conditions = list_all (λ h. as_wanted holds (meets dims values (condition_in h))) conditions
+all_wanted holds dims values conditions = list_all (λ h. told holds (meets dims values (condition_in h))) conditions
 
 -- the `and` of some conditions, or the `or`
 abbrev pub joined : Bool → Conditions → Condition

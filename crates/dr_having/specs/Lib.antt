@@ -1,10 +1,13 @@
 pub mod Refusal
 pub mod Meeting
-pub mod Bounds
+pub mod Steps
+pub mod JoinedSteps
+pub mod LookUps
 pub mod OutputMeets
 pub mod Asked
 pub mod Condition
 pub mod LeafOf
 pub mod Placed
+pub mod Collected
 pub mod Gathered
 pub mod HavingOf

@@ -7,7 +7,7 @@ use crate::asked_output::AskedOutput;
 use dr_outputs::{OutputNumbers, OutputTexts};
 use std::alloc::Global;
 
-/// What is asked of each group in the place of a `having`: all of some conditions on one output each, and none of some others, which
+/// What is asked of each group in the place of a `having`: one thing of each output that it names, and none of some others, which
 /// stand apart. Contracts see whether a group meets it, `asked_meets`.
 #[derive(Debug, Drop)]
 pub struct AskedHaving {
@@ -27,9 +27,9 @@ impl AskedHaving {
     }
 
     /// Whether a group meets it: its dimension values and the values of its aggregations, each in the order of the query. It
-    /// takes no memory, and expected time by the conditions that stand apart, as an `or` of comparisons within an `and` does, and
-    /// within each of them by the aggregations that it names and the bytes of the values of the dimensions that it names, however
-    /// many conditions are on one of these.
+    /// takes no memory, and expected time by the conditions that stand apart, as an `and` or an `or` over two outputs within the other
+    /// one does, and within each of them by the aggregations that it names, each with the logarithm of the comparisons of it, and the
+    /// bytes of the values of the dimensions that it names, however many conditions are on one of these.
     #[cycle(meeting)]
     pub fn meets(&self, dims: &OutputTexts<'_>, values: &OutputNumbers<'_>) -> bool
         ensures { result ≡ asked_meets dims.now values.now self.now }

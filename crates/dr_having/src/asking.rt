@@ -2,7 +2,7 @@ ghost use Rattle.std.specs.Prelude.{◌≡◌, ℕ, ℤ, List, map, not, slice_g
 ghost use Rattle.dr_having.specs.Asked.{asked_meets};
 ghost use Rattle.dr_having.specs.Condition.{condition_in, conditions_of, meets};
 ghost use Rattle.dr_having.specs.Gathered.{all_wanted, joined, AsksMore};
-ghost use Rattle.dr_having.specs.OutputMeets.{as_wanted};
+ghost use Rattle.dr_base.specs.Told.{told};
 ghost use Rattle.dr_outputs.specs.Numbered.{numbers_by};
 ghost use Rattle.dr_having.specs.Placed.{HaveNumbers};
 
@@ -15,10 +15,11 @@ use std::alloc::{AllocError, Global};
 impl Having {
     /// What is asked of each group in the place of this condition, of groups whose outputs have values of these numbers. An `and`
     /// within an `and`, an `or` within an `or`, and by a `not` the one within the other, are taken apart, and so is one of a single
-    /// condition. The comparisons of all outputs with one number are asked together, and so are the texts of a dimension, also
-    /// those of several `or`s of nothing but its texts. The only error is that memory ran out. It takes memory for the conditions
-    /// and the bytes of their texts and for a place of each output, and expected time by the same: what is asked of an output
-    /// already is found by hashing.
+    /// condition. Whatever is asked of the aggregations with one number comes down to one set of numbers, and whatever is asked of a
+    /// dimension to one set of texts, or all others, also by a nest of `and`, `or` and `not` over nothing else. The only error is
+    /// that memory ran out. It takes memory for the conditions and the bytes of their texts and for a place of each aggregation, and
+    /// expected time by the same for each level of nesting, of comparisons times the logarithm of how many there are: what is asked
+    /// of an output already is found by hashing, and the sets of numbers of one aggregation are joined by halves.
     pub fn asked_together(
         &self,
         alloc: Global,
@@ -29,7 +30,7 @@ impl Having {
         let places = first_places(alloc, numbers)?;
         let mut asked = Conjunction::new(alloc);
         put(alloc, &mut asked, self, places.as_slice(), true)?;
-        Ok(asked.into_asked())
+        asked.into_asked(alloc)
     }
 }
 
@@ -42,7 +43,7 @@ fn put(
     places: &[usize],
     holds: bool,
 ) -> Result<(), AllocError>
-    ensures { OnOk result (AsksMore places.now asked.old asked.new (λ dims values. as_wanted holds (meets dims values (condition_in condition.now)))) }
+    ensures { OnOk result (AsksMore places.now asked.old asked.new (λ dims values. told holds (meets dims values (condition_in condition.now)))) }
 {
     match condition {
         Having::Aggregation(value) => asked.add_number(alloc, &value.placed(places), holds),
@@ -67,7 +68,7 @@ fn put_joined(
     all: bool,
     holds: bool,
 ) -> Result<(), AllocError>
-    ensures { OnOk result (AsksMore places.now asked.old asked.new (λ dims values. as_wanted holds (meets dims values (joined all (conditions_of (map condition_in conditions.now)))))) }
+    ensures { OnOk result (AsksMore places.now asked.old asked.new (λ dims values. told holds (meets dims values (joined all (conditions_of (map condition_in conditions.now)))))) }
 {
     if all == holds {
         return put_each(alloc, asked, conditions, places, holds);

@@ -1,14 +1,17 @@
-ghost use Rattle.std.specs.Prelude.{◌≡◌, ◌&&◌, true, not, ℕ, ℤ, List, OnOk};
+ghost use Rattle.std.specs.Prelude.{◌≡◌, ◌&&◌, true, not, ℕ, ℤ, List, IfOk, OnOk};
 ghost use Rattle.dr_having.specs.Asked.{asked_meets};
 ghost use Rattle.dr_having.specs.Gathered.{conjunction_meets};
 ghost use Rattle.dr_having.specs.Meeting.{meets_value, meets_dimension};
-ghost use Rattle.dr_having.specs.OutputMeets.{as_wanted, output_meets, outputs_meet};
+ghost use Rattle.dr_base.specs.Told.{told};
+ghost use Rattle.dr_having.specs.OutputMeets.{output_meets, outputs_meet};
 
 use crate::asked_having::AskedHaving;
 use crate::asked_output::AskedOutput;
 use crate::dimension_value::DimensionValue;
 use crate::group_value::GroupValue;
+use crate::number_look_up::NumberLookUp;
 use crate::output_conditions::OutputConditions;
+use crate::text_look_up::TextLookUp;
 use std::alloc::{AllocError, Global};
 
 /// Conditions that are all to hold, gathered one after the other: those on outputs, and those that are denied.
@@ -30,13 +33,13 @@ impl Conjunction {
     }
 
     // What is asked of each group.
-    pub(crate) fn into_asked(self) -> AskedHaving
-        ensures { (dims : List (List ℕ)) (values : List ℤ) → asked_meets dims values result ≡ conjunction_meets dims values self }
+    pub(crate) fn into_asked(self, alloc: Global) -> Result<AskedHaving, AllocError>
+        ensures { IfOk result (λ asked. (dims : List (List ℕ)) (values : List ℤ) → asked_meets dims values asked ≡ conjunction_meets dims values self) }
     {
-        AskedHaving {
-            outputs: self.outputs.into_asked(),
+        Ok(AskedHaving {
+            outputs: self.outputs.asked(alloc)?,
             denied: self.denied,
-        }
+        })
     }
 
     // Adds that a comparison holds, or that it doesn't.
@@ -46,9 +49,10 @@ impl Conjunction {
         condition: &GroupValue,
         holds: bool,
     ) -> Result<(), AllocError>
-        ensures { OnOk result ((dims : List (List ℕ)) (values : List ℤ) → conjunction_meets dims values self.new ≡ (conjunction_meets dims values self.old && as_wanted holds (meets_value condition.now values))) }
+        ensures { OnOk result ((dims : List (List ℕ)) (values : List ℤ) → conjunction_meets dims values self.new ≡ (conjunction_meets dims values self.old && told holds (meets_value condition.now values))) }
     {
-        self.outputs.add_number(alloc, condition, holds)
+        let output = AskedOutput::Number(NumberLookUp::of(alloc, condition)?);
+        self.add_output(alloc, output.wanted(holds))
     }
 
     // Adds that a dimension has a value, or that it hasn't.
@@ -58,20 +62,28 @@ impl Conjunction {
         condition: &DimensionValue,
         holds: bool,
     ) -> Result<(), AllocError>
-        ensures { OnOk result ((dims : List (List ℕ)) (values : List ℤ) → conjunction_meets dims values self.new ≡ (conjunction_meets dims values self.old && as_wanted holds (meets_dimension condition.now dims))) }
+        ensures { OnOk result ((dims : List (List ℕ)) (values : List ℤ) → conjunction_meets dims values self.new ≡ (conjunction_meets dims values self.old && told holds (meets_dimension condition.now dims))) }
     {
-        self.outputs.add_text(alloc, condition, holds)
+        let output = AskedOutput::Text(TextLookUp::of(alloc, condition)?);
+        self.add_output(alloc, output.wanted(holds))
     }
 
-    // Adds that others don't all hold. Where they come down to comparisons of one aggregation of which none is to hold, one of these
-    // is asked, and where to texts that one dimension hasn't, that it has one of them, with what else is asked of the dimension.
+    // Adds what is asked of one output.
+    fn add_output(&mut self, alloc: Global, output: AskedOutput) -> Result<(), AllocError>
+        ensures { OnOk result ((dims : List (List ℕ)) (values : List ℤ) → conjunction_meets dims values self.new ≡ (conjunction_meets dims values self.old && output_meets dims values output)) }
+    {
+        self.outputs.add(alloc, output)
+    }
+
+    // Adds that others don't all hold. Where they come down to one thing that is asked of one output, the opposite is asked, with
+    // what else is asked of that output.
     pub(crate) fn deny(&mut self, alloc: Global, others: Conjunction) -> Result<(), AllocError>
         ensures { OnOk result ((dims : List (List ℕ)) (values : List ℤ) → conjunction_meets dims values self.new ≡ (conjunction_meets dims values self.old && not (conjunction_meets dims values others))) }
     {
         if others.denied.len() != 0 {
-            return self.deny_asked(others.into_asked());
+            return self.deny_asked(others.into_asked(alloc)?);
         }
-        self.deny_outputs(alloc, others.outputs.into_asked())
+        self.deny_outputs(alloc, others.outputs.asked(alloc)?)
     }
 
     // Adds that not all is so that is asked of outputs.
@@ -83,23 +95,8 @@ impl Conjunction {
             return self.deny_asked(AskedHaving::of_outputs(alloc, outputs));
         }
         match outputs.pop() {
-            Some(output) => self.deny_output(alloc, output),
+            Some(output) => self.add_output(alloc, output.opposite()),
             None => Ok(()),
-        }
-    }
-
-    // Adds that what is asked of one output isn't so.
-    fn deny_output(&mut self, alloc: Global, output: AskedOutput) -> Result<(), AllocError>
-        ensures { OnOk result ((dims : List (List ℕ)) (values : List ℤ) → conjunction_meets dims values self.new ≡ (conjunction_meets dims values self.old && not (output_meets dims values output))) }
-    {
-        match output {
-            AskedOutput::NoText(look_up) => self.outputs.add_texts(look_up),
-            AskedOutput::NoNumber(bound) => self.outputs.add_some_number(bound),
-            other => {
-                let mut outputs = Vec::new(alloc);
-                outputs.push(other)?;
-                self.deny_asked(AskedHaving::of_outputs(alloc, outputs))
-            }
         }
     }
 

@@ -1,5 +1,5 @@
 //! Conditions on the groups of a groupBy, as `having` asks for them, read from JSON over the outputs of a query as they are spelled.
-//! Each is made into what is asked of a group, many comparisons of one aggregation, or many texts of one dimension, at once.
+//! Each is made into what is asked of a group, all that is asked of one aggregation, or of one dimension, at once.
 #![tactic(auto)]
 
 mod asked_having;
@@ -8,16 +8,16 @@ mod asking;
 mod comparison;
 mod conjunction;
 mod dimension_value;
-mod every_bound;
-mod extremes;
 mod group_value;
 mod having;
 mod having_error;
 mod leaf_reading;
-mod number_set;
+mod number_conditions;
+mod number_look_up;
+mod number_steps;
 mod output_conditions;
 mod reading;
-mod some_bound;
+mod text_conditions;
 mod text_look_up;
 
 pub use asked_having::AskedHaving;

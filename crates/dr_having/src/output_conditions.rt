@@ -1,12 +1,13 @@
-ghost use Rattle.std.specs.Prelude.{◌≡◌, ◌&&◌, ◌||◌, not, ℕ, ℤ, List, [], OnOk, IfOk};
-ghost use Rattle.dr_having.specs.Bounds.{is_found, reaches_at};
-ghost use Rattle.dr_having.specs.Meeting.{meets_value, meets_dimension};
-ghost use Rattle.dr_having.specs.OutputMeets.{outputs_meet, as_wanted};
+ghost use Rattle.std.specs.Prelude.{◌≡◌, ◌&&◌, true, ℕ, ℤ, List, OnOk, IfOk};
+ghost use Rattle.dr_having.specs.Collected.{all_numbers, all_texts, conditions_meet};
+ghost use Rattle.dr_having.specs.LookUps.{is_among_at, is_found};
+ghost use Rattle.dr_base.specs.Told.{told};
+ghost use Rattle.dr_having.specs.OutputMeets.{output_meets, outputs_meet};
 
 use crate::asked_output::AskedOutput;
-use crate::dimension_value::DimensionValue;
-use crate::group_value::GroupValue;
-use crate::some_bound::SomeBound;
+use crate::number_conditions::NumberConditions;
+use crate::number_look_up::NumberLookUp;
+use crate::text_conditions::TextConditions;
 use crate::text_look_up::TextLookUp;
 use indexmap::IndexMap;
 use std::alloc::{AllocError, Global};
@@ -14,170 +15,137 @@ use std::alloc::{AllocError, Global};
 /// Conditions on outputs that are all to hold, gathered output by output.
 #[derive(Debug, Drop)]
 pub struct OutputConditions {
-    asked: Vec<AskedOutput>,
-    // Of each aggregation and each dimension, where what is asked of it stands, for each of the two forms.
-    numbers: IndexMap<usize, usize>,
-    no_numbers: IndexMap<usize, usize>,
-    texts: IndexMap<usize, usize>,
-    no_texts: IndexMap<usize, usize>,
+    pub numbers: Vec<NumberConditions>,
+    pub texts: Vec<TextConditions>,
+    // Where the conditions on each aggregation and on each dimension stand.
+    number_places: IndexMap<usize, usize>,
+    text_places: IndexMap<usize, usize>,
 }
 
 impl OutputConditions {
     // No condition. It takes no memory yet.
     pub(crate) fn new(alloc: Global) -> OutputConditions
-        ensures { result.asked.items ≡ [] }
+        ensures { (dims : List (List ℕ)) (values : List ℤ) → conditions_meet dims values result ≡ true }
     {
         OutputConditions {
-            asked: Vec::new(alloc),
-            numbers: IndexMap::new(alloc),
-            no_numbers: IndexMap::new(alloc),
-            texts: IndexMap::new(alloc),
-            no_texts: IndexMap::new(alloc),
+            numbers: Vec::new(alloc),
+            texts: Vec::new(alloc),
+            number_places: IndexMap::new(alloc),
+            text_places: IndexMap::new(alloc),
         }
     }
 
-    // What is asked of the outputs.
-    pub(crate) fn into_asked(self) -> Vec<AskedOutput>
-        ensures { result ≡ self.asked }
+    // What is asked of each output.
+    pub(crate) fn asked(&self, alloc: Global) -> Result<Vec<AskedOutput>, AllocError>
+        ensures { IfOk result (λ asked. (dims : List (List ℕ)) (values : List ℤ) → outputs_meet dims values asked.items ≡ conditions_meet dims values self.now) }
     {
-        self.asked
+        let mut asked = Vec::new(alloc);
+        push_numbers(alloc, &mut asked, self.numbers.as_slice())?;
+        push_texts(alloc, &mut asked, self.texts.as_slice())?;
+        Ok(asked)
     }
 
-    // Adds that a comparison holds, or that it doesn't.
-    pub(crate) fn add_number(
-        &mut self,
-        alloc: Global,
-        condition: &GroupValue,
-        holds: bool,
-    ) -> Result<(), AllocError>
-        ensures { OnOk result ((dims : List (List ℕ)) (values : List ℤ) → outputs_meet dims values self.new.asked.items ≡ (outputs_meet dims values self.old.asked.items && as_wanted holds (meets_value condition.now values))) }
+    // Adds what is asked of one output.
+    pub(crate) fn add(&mut self, alloc: Global, output: AskedOutput) -> Result<(), AllocError>
+        ensures { OnOk result ((dims : List (List ℕ)) (values : List ℤ) → conditions_meet dims values self.new ≡ (conditions_meet dims values self.old && output_meets dims values output)) }
     {
-        if holds {
-            put_number(alloc, &mut self.asked, &mut self.numbers, condition, holds)
-        } else {
-            put_number(
-                alloc,
-                &mut self.asked,
-                &mut self.no_numbers,
-                condition,
-                holds,
-            )
+        match output {
+            AskedOutput::Number(look_up) => self.add_number(alloc, look_up),
+            AskedOutput::Text(look_up) => self.add_text(alloc, look_up, true),
+            AskedOutput::NoText(look_up) => self.add_text(alloc, look_up, false),
         }
     }
 
-    // Adds that a dimension has a value, or that it hasn't.
-    pub(crate) fn add_text(
-        &mut self,
-        alloc: Global,
-        condition: &DimensionValue,
-        holds: bool,
-    ) -> Result<(), AllocError>
-        ensures { OnOk result ((dims : List (List ℕ)) (values : List ℤ) → outputs_meet dims values self.new.asked.items ≡ (outputs_meet dims values self.old.asked.items && as_wanted holds (meets_dimension condition.now dims))) }
-    {
-        if holds {
-            self.add_texts(TextLookUp::of(alloc, condition)?)
-        } else {
-            self.add_no_text(alloc, condition)
-        }
-    }
-
-    // Adds that one of some comparisons of an aggregation holds.
-    pub(crate) fn add_some_number(&mut self, bound: SomeBound) -> Result<(), AllocError>
-        ensures { OnOk result ((dims : List (List ℕ)) (values : List ℤ) → outputs_meet dims values self.new.asked.items ≡ (outputs_meet dims values self.old.asked.items && reaches_at values bound)) }
-    {
-        self.asked.push(AskedOutput::SomeNumber(bound))?;
-        Ok(())
-    }
-
-    // Adds that a dimension has one of some values.
-    pub(crate) fn add_texts(&mut self, look_up: TextLookUp) -> Result<(), AllocError>
-        ensures { OnOk result ((dims : List (List ℕ)) (values : List ℤ) → outputs_meet dims values self.new.asked.items ≡ (outputs_meet dims values self.old.asked.items && is_found dims look_up)) }
-    {
-        let likely = *self.texts.entry(look_up.place)?.or_insert(self.asked.len());
-        if taken_texts(&mut self.asked, likely, &look_up)? {
-            return Ok(());
-        }
-        self.asked.push(AskedOutput::Text(look_up))?;
-        Ok(())
-    }
-
-    // Adds that a dimension hasn't one value.
-    fn add_no_text(&mut self, alloc: Global, condition: &DimensionValue) -> Result<(), AllocError>
-        ensures { OnOk result ((dims : List (List ℕ)) (values : List ℤ) → outputs_meet dims values self.new.asked.items ≡ (outputs_meet dims values self.old.asked.items && not (meets_dimension condition.now dims))) }
+    // Adds that the value of an aggregation is one of some numbers.
+    fn add_number(&mut self, alloc: Global, look_up: NumberLookUp) -> Result<(), AllocError>
+        ensures { OnOk result ((dims : List (List ℕ)) (values : List ℤ) → conditions_meet dims values self.new ≡ (conditions_meet dims values self.old && is_among_at values look_up)) }
     {
         let likely = *self
-            .no_texts
-            .entry(condition.place)?
-            .or_insert(self.asked.len());
-        if taken_no_text(&mut self.asked, likely, condition)? {
-            return Ok(());
-        }
-        self.asked
-            .push(AskedOutput::NoText(TextLookUp::of(alloc, condition)?))?;
-        Ok(())
+            .number_places
+            .entry(look_up.place)?
+            .or_insert(self.numbers.len());
+        put_number(alloc, &mut self.numbers, likely, look_up)
+    }
+
+    // Adds that the value of a dimension is one of some texts, or that it is none.
+    fn add_text(
+        &mut self,
+        alloc: Global,
+        look_up: TextLookUp,
+        holds: bool,
+    ) -> Result<(), AllocError>
+        ensures { OnOk result ((dims : List (List ℕ)) (values : List ℤ) → conditions_meet dims values self.new ≡ (conditions_meet dims values self.old && told holds (is_found dims look_up))) }
+    {
+        let likely = *self
+            .text_places
+            .entry(look_up.place)?
+            .or_insert(self.texts.len());
+        put_text(alloc, &mut self.texts, likely, look_up, holds)
     }
 }
 
-// Adds a comparison to what is asked of its aggregation, which is found by hashing, or behind the others.
+// Adds numbers to the conditions at a place, where these are on the same aggregation, or behind all.
 fn put_number(
     alloc: Global,
-    asked: &mut Vec<AskedOutput>,
-    places: &mut IndexMap<usize, usize>,
-    condition: &GroupValue,
-    holds: bool,
+    numbers: &mut Vec<NumberConditions>,
+    likely: usize,
+    look_up: NumberLookUp,
 ) -> Result<(), AllocError>
-    ensures { OnOk result ((dims : List (List ℕ)) (values : List ℤ) → outputs_meet dims values asked.new.items ≡ (outputs_meet dims values asked.old.items && as_wanted holds (meets_value condition.now values))) }
+    ensures { OnOk result ((values : List ℤ) → all_numbers values numbers.new.items ≡ (all_numbers values numbers.old.items && is_among_at values look_up)) }
 {
-    let likely = *places.entry(condition.place)?.or_insert(asked.len());
-    if taken_number(asked, likely, condition, holds)? {
+    if likely < numbers.len() && numbers[likely].place == look_up.place {
+        let conditions = &mut numbers[likely];
+        conditions.sets.push(look_up.steps)?;
         return Ok(());
     }
-    asked.push(AskedOutput::of_number(alloc, condition, holds)?)?;
+    numbers.push(NumberConditions::of(alloc, look_up)?)?;
     Ok(())
 }
 
-// Adds a comparison to what stands at a place, where it is of the same form and aggregation; whether it is.
-fn taken_number(
-    asked: &mut Vec<AskedOutput>,
+// Adds texts to the conditions at a place, where these are on the same dimension, or behind all.
+fn put_text(
+    alloc: Global,
+    texts: &mut Vec<TextConditions>,
     likely: usize,
-    condition: &GroupValue,
+    look_up: TextLookUp,
     holds: bool,
-) -> Result<bool, AllocError>
-    ensures { IfOk result (λ taken. (dims : List (List ℕ)) (values : List ℤ) → outputs_meet dims values asked.new.items ≡ (outputs_meet dims values asked.old.items && (not taken || as_wanted holds (meets_value condition.now values)))) }
+) -> Result<(), AllocError>
+    ensures { OnOk result ((dims : List (List ℕ)) → all_texts dims texts.new.items ≡ (all_texts dims texts.old.items && told holds (is_found dims look_up))) }
 {
-    if likely >= asked.len() {
-        return Ok(false);
+    if likely < texts.len() && texts[likely].place == look_up.place {
+        let conditions = &mut texts[likely];
+        return conditions.add(look_up.texts, holds);
     }
-    let output = &mut asked[likely];
-    output.takes_number(condition, holds)
+    let mut conditions = TextConditions::new(alloc, look_up.place);
+    conditions.add(look_up.texts, holds)?;
+    texts.push(conditions)?;
+    Ok(())
 }
 
-// Adds a text to those that the value of its dimension is none of, where these stand at a place; whether they do.
-fn taken_no_text(
+// Puts what is asked of each aggregation behind other things.
+fn push_numbers(
+    alloc: Global,
     asked: &mut Vec<AskedOutput>,
-    likely: usize,
-    condition: &DimensionValue,
-) -> Result<bool, AllocError>
-    ensures { IfOk result (λ taken. (dims : List (List ℕ)) (values : List ℤ) → outputs_meet dims values asked.new.items ≡ (outputs_meet dims values asked.old.items && (not taken || not (meets_dimension condition.now dims)))) }
+    numbers: &[NumberConditions],
+) -> Result<(), AllocError>
+    ensures { OnOk result ((dims : List (List ℕ)) (values : List ℤ) → outputs_meet dims values asked.new.items ≡ (outputs_meet dims values asked.old.items && all_numbers values numbers.now)) }
 {
-    if likely >= asked.len() {
-        return Ok(false);
+    for conditions in numbers {
+        asked.push(AskedOutput::Number(conditions.asked(alloc)?))?;
     }
-    let output = &mut asked[likely];
-    output.takes_no_text(condition)
+    Ok(())
 }
 
-// Keeps of the texts that the value of a dimension is one of those that others have too, where they stand at a place; whether they do.
-fn taken_texts(
+// Puts what is asked of each dimension behind other things.
+fn push_texts(
+    alloc: Global,
     asked: &mut Vec<AskedOutput>,
-    likely: usize,
-    others: &TextLookUp,
-) -> Result<bool, AllocError>
-    ensures { IfOk result (λ taken. (dims : List (List ℕ)) (values : List ℤ) → outputs_meet dims values asked.new.items ≡ (outputs_meet dims values asked.old.items && (not taken || is_found dims others.now))) }
+    texts: &[TextConditions],
+) -> Result<(), AllocError>
+    ensures { OnOk result ((dims : List (List ℕ)) (values : List ℤ) → outputs_meet dims values asked.new.items ≡ (outputs_meet dims values asked.old.items && all_texts dims texts.now)) }
 {
-    if likely >= asked.len() {
-        return Ok(false);
+    for conditions in texts {
+        asked.push(conditions.asked(alloc)?)?;
     }
-    let output = &mut asked[likely];
-    output.takes_texts(others)
+    Ok(())
 }

@@ -1,15 +1,11 @@
-use Rattle.std.proofs.Common.{◌∙◌, ap, ◌&&◌, ◌||◌, not}
-use Rattle.dr_having.specs.Meeting.{meets_value}
-use Rattle.dr_having.specs.OutputMeets.{outputs_meet, as_wanted}
-use Rattle.dr_having.proofs.Gathering.{put-behind}
+use Rattle.std.proofs.Common.{◌≡◌, ◌<◌, rules, refl, arith, length}
+use Rattle.dr_having.proofs.Collecting.{numbers-more}
 use Rattle.dr_having.proofs.output_conditions.put_number.Goals as goal
 
-pub returns-then-branch : goal.returns-then-branch
-returns-then-branch c = λ dims values.
-    c.in_ok-taken_number.ensures dims values ∙ ap (λ taken. outputs_meet dims values c.args.asked.now.items && (not taken || as_wanted c.args.holds (meets_value c.args.condition.now values))) c.if-branch.true
-
-pub returns : goal.returns
-returns c = λ dims values.
-    put-behind dims values c.args.asked.now.items c.taken_number.new.asked.items c.push.new.self.items c.in_ok-of_number.field-0 (as_wanted c.args.holds (meets_value c.args.condition.now values)) c.in_ok-push.ensures.items
-    (c.in_ok-taken_number.ensures dims values ∙ ap (λ taken. outputs_meet dims values c.args.asked.now.items && (not taken || as_wanted c.args.holds (meets_value c.args.condition.now values))) c.if-branch.false)
-    (c.in_ok-of_number.ensures dims values)
+pub returns-then-index-look_up : goal.returns-then-index-look_up
+returns-then-index-look_up c =
+    let numbers = c.args.numbers.now.items in
+    let len : c.len.result ≡ length numbers = search rules in
+    let there : c.args.likely < length numbers = let within = c.if-likely-len.true in omega (arith, within, len) in
+    let old = c.index_mut-conditions.result.now in
+    numbers-more numbers c.args.likely c.args.look_up c.index.result.now old (record { place = old.place; sets = c.push.new.self }) there c.index.ensures c.if-index-look_up.true c.index_mut-conditions.ensures.value refl c.in_ok-push.ensures.items

@@ -9,6 +9,6 @@ returns c =
     let others = c.args.others in
     let len : c.len.result ≡ length others.denied.items = search rules in
     let none : length others.denied.items ≡ 0 = let zero = c.if-len-ne0.false in omega (arith, len, zero) in
-    told-more c.args.self.now c.deny_outputs.new.self (λ dims values. not (outputs_meet dims values c.into_asked-2.result.items)) (λ dims values. not (conjunction_meets dims values others)) c.deny_outputs.result
-    (λ dims values. ap not (ap (λ v. outputs_meet dims values v.items) c.into_asked-2.ensures ∙ sym (outputs-alone dims values others none)))
+    told-more c.args.self.now c.deny_outputs.new.self (λ dims values. not (outputs_meet dims values c.in_ok-asked.field-0.items)) (λ dims values. not (conjunction_meets dims values others)) c.deny_outputs.result
+    (λ dims values. ap not (c.in_ok-asked.ensures dims values ∙ sym (outputs-alone dims values others none)))
     c.deny_outputs.ensures
