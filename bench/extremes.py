@@ -189,6 +189,10 @@ LONG_AND_OF_INTERVALS = series(filter={"type": "and", "fields": [within("2024-01
 ORS_OF_AN_OR = series(filter=one_of(*(one_of(selector(f"x{it}"), selector(f"y{it}")) for it in range(6500))))
 ORS_OF_ONE_DIMENSION = series(filter={"type": "and", "fields": [one_of(selector("0"), selector(f"x{it}")) for it in range(6500)]})
 ORS_OF_A_HAVING = groups(having={"type": "or", "havingSpecs": [{"type": "or", "havingSpecs": [compared(it), compared(2 * it)]} for it in range(5000)]})
+ORS_OF_NO_COLUMN = series(filter={"type": "and", "fields": [one_of({"type": "selector", "dimension": "none", "value": "x"}, denied(selector(f"x{it}"))) for it in range(6500)]})
+ORS_OF_RANGES = series(filter={"type": "and", "fields": [one_of(selector("0"), {"type": "bound", "dimension": "page", "lower": f"{it}"}, denied({"type": "bound", "dimension": "page", "upper": f"{it}x"})) for it in range(5000)]})
+ORS_OF_TIMES = series(filter={"type": "and", "fields": [one_of(within("2024-01-01", moments(it)), denied(within("2024-01-01", moments(2 * it)))) for it in range(4400)]})
+ANDS_OF_A_HAVING = groups(having={"type": "and", "havingSpecs": [{"type": "or", "havingSpecs": [compared(it), compared(it + 5000)]} for it in range(7500)]})
 LONG_HAVING_OF_DENIED = groups(having={"type": "and", "havingSpecs": [{"type": "not", "havingSpec": {"type": "greaterThan", "aggregation": "v", "value": it}} for it in range(10, 10000)]}, limitSpec={"type": "default", "limit": 1})
 LONG_HAVING_OF_TEXTS = groups(having={"type": "or", "havingSpecs": [{"type": "dimSelector", "dimension": "page", "value": f"x{it}"} for it in range(17000)]})
 MANY_SUMS = series(aggregations=[{"type": "longSum", "name": f"v{it}", "fieldName": "v"} for it in range(19000)])
@@ -221,6 +225,21 @@ def long_having(n):
         yield event(BEGIN + it % DAY, str(it))
     fields = [{"type": "greaterThan", "aggregation": "v", "value": it} for it in range(1, 14000)]
     yield groups(having={"type": "or", "havingSpecs": fields})
+
+
+def levels(filter, count):
+    """A filter within an `or` and an `and` in turn, so often, each of which asks something of the same dimension."""
+    for it in range(count):
+        more = denied({"type": "bound", "dimension": "page", "lower": f"z{it}", "upper": f"z{it}z"}) if it % 2 else selector(f"s{it}")
+        filter = {"type": "and" if it % 2 else "or", "fields": [filter, more]}
+    return filter
+
+
+LEVELS_OF_ONE_DIMENSION = series(filter=levels(one_of({"type": "in", "dimension": "page", "values": [f"{it:x}" for it in range(120000)]}, bound(1)), 60))
+
+
+def likes(pattern):
+    return asked_of_texts(groups(filter=one_of(*({"type": "like", "dimension": "page", "pattern": pattern.replace("x", f"x{it}")} for it in range(15000)))))
 
 
 def order_columns(n):
@@ -317,6 +336,15 @@ INPUTS = {
     "rows under an and of 8,000 intervals": (asked_of_texts(LONG_AND_OF_INTERVALS), 100000),
     "rows under an or of 6,500 ors of two selectors": (asked_of_texts(ORS_OF_AN_OR), 100000),
     "rows under an and of 6,500 ors of two selectors of one dimension": (asked_of_texts(ORS_OF_ONE_DIMENSION), 100000),
+    "rows under an and of 5,000 ors of three forms of one dimension": (asked_of_texts(ORS_OF_RANGES), 100000),
+    "rows under an and of 6,500 ors of which one names no column": (asked_of_texts(ORS_OF_NO_COLUMN), 100000),
+    "rows under an and of 4,400 ors of an interval and one that is denied": (asked_of_texts(ORS_OF_TIMES), 100000),
+    "rows under 60 levels of and and or over an in of 120,000 values": (asked_of_texts(LEVELS_OF_ONE_DIMENSION), 100000),
+    "rows under an or of 15,000 likes without % and _": (likes("x"), 100000),
+    "rows under an or of 15,000 likes of a beginning": (likes("x%"), 100000),
+    "rows under an or of 15,000 likes of an end": (likes("%x"), 100000),
+    "rows under an or of 15,000 likes of a part": (likes("%x%"), 100000),
+    "groups under a having that is an and of 7,500 ors of two comparisons": (asked_of_texts(ANDS_OF_A_HAVING), 100000),
     "groups under a having that is an or of 5,000 ors of two comparisons": (asked_of_texts(ORS_OF_A_HAVING), 100000),
     "groups under a having of 9,990 comparisons that don't hold": (asked_of_texts(LONG_HAVING_OF_DENIED), 100000),
     "groups under a having of 14,000 comparisons": (long_having, 100000),

@@ -18,6 +18,7 @@ import answers
 
 TEXTS = ["", "a", "b", "ab", "B", "é", "éa", "😀", "￿", "10", "9", "a%", 'say "hi"', "\u0001\n", "a text of more than twenty-three bytes"]
 PATTERNS = ["%", "_", "a%", "%b", "_%", "%a%", "__", "é_", "😀", "a\\%", "", "%_%", "a_%b%"]
+PATTERNS += ["a", "ab", "ab%", "a tex%", "b%", "éa%", "%é", "%text%", "%ab", "%a", "%é%", "%t%", "%\u0001%", "%%"]
 NUMBERS = [0, 1, -1, 5, -7, 100, 2**63 - 1, -(2**63), 2**62]
 JUNK = [None, True, False, 0, -1, 5, 1.5, "", "x", "page", "d0", "m0", "__time", "all", "hour", "noon", [], {}, [5], ["x"], [None]]
 JUNK += [{"type": "x"}, {"type": 5}, {"x": 1}, 2**64 - 1, 2**64, -(2**63), "true", "descending", "numeric", "and", "not", "longSum"]
@@ -97,8 +98,10 @@ class Writer:
         r = self.random
         if depth == 0 and r.random() < 0.2:
             return self.nest(lambda: self.filter(3), "fields", "field")
+        if depth == 0 and r.random() < 0.3:
+            return self.nest(self.leaf_of_one_column(), "fields", "field")
         kinds = ["selector", "in", "bound", "like", "interval"] + (["and", "or", "not"] if depth < 3 else [])
-        kind, value = r.choice(kinds), lambda: r.choice([*TEXTS, None, 10])
+        kind = r.choice(kinds)
         if kind in ("and", "or"):
             # Few of any kind, or many of the kinds that are asked together, as they stand or denied.
             many = [self.filter(3) for _ in range(r.randint(4, 9))] if r.random() < 0.3 else []
@@ -106,6 +109,16 @@ class Writer:
             return {"type": kind, "fields": fields or [self.filter(depth + 1) for _ in range(r.randint(0, 3))]}
         if kind == "not":
             return {"type": kind, "field": self.filter(depth + 1)}
+        return self.leaf(kind, r.choice(self.dims + ["nope"]))
+
+    def leaf_of_one_column(self):
+        """A maker of conditions on one dimension, or on the time: of all kinds that are joined there, or patterns alone."""
+        r, column = self.random, self.random.choice(self.dims + ["nope"])
+        kinds = r.choice([["selector", "in", "bound"], ["bound"], ["like"], ["interval"], ["selector", "in", "bound", "like"]])
+        return lambda: self.leaf(r.choice(kinds), column)
+
+    def leaf(self, kind, column):
+        r, value = self.random, lambda: self.random.choice([*TEXTS, None, 10])
         if kind == "interval":
             return {"type": kind, "dimension": "__time", "intervals": self.intervals()}
         more = {"selector": {"value": value()}, "in": {"values": [value() for _ in range(r.randint(0, 4))]}}
@@ -113,7 +126,7 @@ class Writer:
         more["bound"] |= {"lowerStrict": r.random() < 0.3, "upperStrict": r.random() < 0.3}
         if r.random() < 0.5:
             more["bound"].pop(r.choice(["lower", "upper"]))
-        return {"type": kind, "dimension": r.choice(self.dims + ["nope"])} | more[kind]
+        return {"type": kind, "dimension": column} | more[kind]
 
     def aggregations(self):
         r, found = self.random, []
@@ -133,7 +146,8 @@ class Writer:
     def having(self, dims, aggs, depth=0):
         r = self.random
         if depth == 0 and r.random() < 0.2:
-            return self.nest(lambda: self.having(dims, aggs, 3), "havingSpecs", "havingSpec")
+            few = (dims[:1], aggs[:1]) if r.random() < 0.5 else (dims, aggs)
+            return self.nest(lambda: self.having(*few, 3), "havingSpecs", "havingSpec")
         kinds = ["and", "or", "not"] if depth < 3 else ["and", "or"]
         kinds += ["equalTo", "greaterThan", "lessThan"] * (2 if aggs else 0) + ["dimSelector"] * (2 if dims else 0)
         kind = r.choice(kinds)
