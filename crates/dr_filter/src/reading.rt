@@ -36,9 +36,9 @@ impl Filter {
     /// A field that is required and absent or null is 2 `Missing` with its name, and one of another kind 3 `WrongKind`. 0
     /// `NoMemory` may come in the place of any other answer. It takes memory for the texts of the value, and expected time by
     /// its bytes and, for each filter of a dimension, by the columns of the schema. Then it is made what [`Filter::asked`] gives,
-    /// in expected time and memory by the bytes of the value, but `bound`s and intervals, which are sorted and take theirs times the
-    /// logarithm of their number, and what stands in a nest that comes down to one test, which counts once for each such level. A
-    /// pattern is kept as it stands.
+    /// in expected time and memory by the bytes of the value, but `bound`s, `like`s and intervals, which are sorted and take theirs
+    /// times the logarithm of their number, as do the values of a dimension that are asked together with its `bound`s, and what
+    /// stands in a nest that comes down to one test, which counts once for each such level.
     #[tactic(auto, unfolding(crate::specs::FilterOf::filter_of))]
     pub fn parse(alloc: Global, value: &Value, schema: &Schema) -> Result<Filter, FilterError>
         ensures { Gives condition_in result (filter_of schema.now (view value.now)) }

@@ -30,8 +30,8 @@ impl DimensionTests {
         }
     }
 
-    /// Asks that a test holds, or that it doesn't. The only error is that memory ran out. It takes expected time and memory by the
-    /// bytes of the test, and time by the number of dimensions that are named.
+    /// Asks that a test holds, or that it doesn't. The only error is that memory ran out; what is asked then isn't told, so these are
+    /// to be let go. It takes expected time and memory by the bytes of the test, and time by the number of dimensions that are named.
     pub fn add(&mut self, alloc: Global, test: DimensionTest, holds: bool) -> Result<(), AllocError>
         ensures { OnOk result ((dims : List (List ℕ)) → tests_hold dims self.new ≡ (tests_hold dims self.old && told holds (holds_of test dims))) }
     {

@@ -30,8 +30,9 @@ impl DimensionTests {
     }
 
     /// The tests as they are to be asked: whatever tests of one dimension ask for texts and ranges, they are one test or the denial of
-    /// one, and patterns stand apart. The only error is that memory ran out. It takes memory by the bytes of the tests, and expected
-    /// time by these, the ranges times the logarithm of their number.
+    /// one. Patterns stand apart, those that no value is to fit as one test. The only error is that memory ran out. It takes memory by
+    /// the bytes of the tests, and expected time by these, the ranges, the texts that are denied beside them, and the patterns times
+    /// the logarithm of their number.
     pub fn told(self, alloc: Global) -> Result<Vec<ToldDimension>, AllocError>
         ensures { IfOk result (λ tests. (dims : List (List ℕ)) → dimensions_told dims tests.items ≡ tests_hold dims self) }
     {
