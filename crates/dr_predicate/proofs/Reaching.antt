@@ -269,3 +269,16 @@ sorted-rise bs up i j d text le lt h =
 
 pub sorted-held : (is js : List Bounds) → IsPermutation is js → (text : List ℕ) → some_within js text ≡ some_within is text
 sorted-held is js moved text = sym (list_any-IsPermutation (λ b. lies_within b text) is js moved)
+
+-- ---- ranges that are handed over one by one
+
+-- what comes next stands behind all that came
+pub is_next : (came left all : List Bounds) (b : Bounds) → came ++ (b ∷ left) ≡ all → (length came < length all) × (b ≡ get_or all (length came) b)
+is_next came left all b is = subst (λ l. (length came < length l) × (b ≡ get_or l (length came) b)) is (at came)
+  where
+    at : (came : List Bounds) → (length came < length (came ++ (b ∷ left))) × (b ≡ get_or (came ++ (b ∷ left)) (length came) b)
+    at [] = (omega arith, refl)
+    at (x ∷ xs) = let rest = at xs in ((let lt = rest.0 in omega (arith, lt)), rest.1)
+
+pub one_longer : (came : List Bounds) (b : Bounds) → length (came ++ b ∷ []) ≡ length came + 1
+one_longer came b = length-append came (b ∷ [])

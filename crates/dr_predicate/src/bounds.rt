@@ -1,6 +1,6 @@
-ghost use Rattle.std.specs.Prelude.{◌≡◌, ◌&&◌, not, true, ℕ, List, IfOk, OnOk, bytes_eq};
+ghost use Rattle.std.specs.Prelude.{◌≡◌, ◌&&◌, not, true, ℕ, List, IfOk, bytes_eq};
 ghost use Rattle.dr_predicate.specs.Ends.{starts_behind as starts_behind_of, ends_before as ends_before_of};
-ghost use Rattle.dr_predicate.specs.Ranges.{start_text as start_text_of, start_strict as start_strict_of, begun, unended, lies_open};
+ghost use Rattle.dr_predicate.specs.Ranges.{start_text as start_text_of, start_strict as start_strict_of, lies_open};
 ghost use Rattle.dr_predicate.specs.Within.{lies_within, not_before as not_before_of, not_after as not_after_of, comes_after as comes_after_of};
 
 use dr_base::Text;
@@ -42,33 +42,6 @@ impl Bounds {
         })
     }
 
-    // The texts before the range.
-    pub(crate) fn before(&self, alloc: Global) -> Result<Bounds, AllocError>
-        ensures { IfOk result (λ b. (text : List ℕ) → lies_within b text ≡ not (begun text self.now)) }
-    {
-        Ok(Bounds {
-            lower: None,
-            upper: Some(Text::from_str(alloc, start_text(&self.lower))?),
-            lower_strict: false,
-            upper_strict: !start_strict(&self.lower, self.lower_strict),
-        })
-    }
-
-    // The texts behind the range, none where it has no upper end.
-    pub(crate) fn behind(&self) -> Result<Option<Bounds>, AllocError>
-        ensures { IfOk result (λ b. (text : List ℕ) → lies_open b text ≡ not (unended text self.now)) }
-    {
-        let Some(upper) = &self.upper else {
-            return Ok(None);
-        };
-        Ok(Some(Bounds {
-            lower: Some(upper.copy()?),
-            upper: None,
-            lower_strict: !self.upper_strict,
-            upper_strict: false,
-        }))
-    }
-
     // Whether it has no end.
     pub(crate) fn is_open(&self) -> bool
         ensures { result ≡ true → (text : List ℕ) → lies_within self.now text ≡ true }
@@ -98,34 +71,76 @@ impl Bounds {
 
     // Narrows the range to the texts that lie in another one too: the greater of the lower ends, and the smaller of the upper
     // ends, strict where either of two equal ones is.
-    pub(crate) fn narrow(&mut self, other: &Bounds) -> Result<(), AllocError>
-        ensures { OnOk result ((text : List ℕ) → lies_within self.new text ≡ (lies_within self.old text && lies_within other.now text)) }
+    pub(crate) fn narrow(&mut self, other: Bounds)
+        ensures { (text : List ℕ) → lies_within self.new text ≡ (lies_within self.old text && lies_within other text) }
     {
-        self.narrow_lower(other)?;
-        self.narrow_upper(other)?;
-        Ok(())
+        let Bounds {
+            lower,
+            upper,
+            lower_strict,
+            upper_strict,
+        } = other;
+        self.narrow_lower(lower, lower_strict);
+        self.narrow_upper(upper, upper_strict);
     }
 
-    fn narrow_lower(&mut self, other: &Bounds) -> Result<(), AllocError>
-        ensures { OnOk result ((text : List ℕ) → lies_within self.new text ≡ (lies_within self.old text && not_before_of other.now.lower other.now.lower_strict text)) }
+    fn narrow_lower(&mut self, lower: Option<Text>, strict: bool)
+        ensures { (text : List ℕ) → lies_within self.new text ≡ (lies_within self.old text && not_before_of lower strict text) }
     {
-        if !starts_behind(&other.lower, other.lower_strict, &self.lower) {
-            return Ok(());
+        if !starts_behind(&lower, strict, &self.lower) {
+            return;
         }
-        self.lower = copy_of(&other.lower)?;
-        self.lower_strict = other.lower_strict;
-        Ok(())
+        self.lower = lower;
+        self.lower_strict = strict;
     }
 
-    fn narrow_upper(&mut self, other: &Bounds) -> Result<(), AllocError>
-        ensures { OnOk result ((text : List ℕ) → lies_within self.new text ≡ (lies_within self.old text && not_after_of other.now.upper other.now.upper_strict text)) }
+    fn narrow_upper(&mut self, upper: Option<Text>, strict: bool)
+        ensures { (text : List ℕ) → lies_within self.new text ≡ (lies_within self.old text && not_after_of upper strict text) }
     {
-        if !ends_before(&other.upper, other.upper_strict, &self.upper) {
-            return Ok(());
+        if !ends_before(&upper, strict, &self.upper) {
+            return;
         }
-        self.upper = copy_of(&other.upper)?;
-        self.upper_strict = other.upper_strict;
-        Ok(())
+        self.upper = upper;
+        self.upper_strict = strict;
+    }
+}
+
+// The texts that come before a lower end.
+pub(crate) fn before(alloc: Global, lower: Option<Text>, strict: bool) -> Result<Bounds, AllocError>
+    ensures { IfOk result (λ b. (text : List ℕ) → lies_within b text ≡ not (not_before_of lower strict text)) }
+{
+    let upper_strict = !start_strict(&lower, strict);
+    let upper = start(alloc, lower)?;
+    Ok(Bounds {
+        lower: None,
+        upper: Some(upper),
+        lower_strict: false,
+        upper_strict,
+    })
+}
+
+// The texts that come behind an upper end, none where it is absent.
+pub(crate) fn behind(upper: Option<Text>, strict: bool) -> Option<Bounds>
+    ensures { (text : List ℕ) → lies_open result text ≡ not (not_after_of upper strict text) }
+{
+    let Some(upper) = upper else {
+        return None;
+    };
+    Some(Bounds {
+        lower: Some(upper),
+        upper: None,
+        lower_strict: !strict,
+        upper_strict: false,
+    })
+}
+
+// The lower end as a text of its own: where it is absent, the least one.
+fn start(alloc: Global, lower: Option<Text>) -> Result<Text, AllocError>
+    ensures { IfOk result (λ t. t ≡ start_text_of lower) }
+{
+    match lower {
+        Some(lower) => Ok(lower),
+        None => Text::from_str(alloc, ""),
     }
 }
 

@@ -5,7 +5,7 @@ ghost use Rattle.dr_predicate.specs.Match.{lies_within, some_within};
 
 use crate::apart::Apart;
 use crate::asked_texts::AskedTexts;
-use crate::bounds::Bounds;
+use crate::bounds::{Bounds, before, behind};
 use crate::limits::Limits;
 use crate::ranges::{Ranges, put_left};
 use crate::value_tests::ValueTests;
@@ -62,7 +62,7 @@ fn denied(
         });
     }
     let mut no_ranges = no_ranges;
-    put_outside(alloc, &mut no_ranges, &within)?;
+    put_outside(alloc, &mut no_ranges, within)?;
     let no_texts = texts_apart(alloc, &mut no_ranges, no_texts)?;
     Ok(ValueTests {
         texts: None,
@@ -89,14 +89,20 @@ fn texts_apart(
 }
 
 // Puts what lies outside of a range to some ranges.
-fn put_outside(alloc: Global, ranges: &mut Vec<Bounds>, within: &Bounds) -> Result<(), AllocError>
-    ensures { OnOk result ((value : List ℕ) → some_within ranges.new.items value ≡ (some_within ranges.old.items value || not (lies_within within.now value))) }
+fn put_outside(alloc: Global, ranges: &mut Vec<Bounds>, within: Bounds) -> Result<(), AllocError>
+    ensures { OnOk result ((value : List ℕ) → some_within ranges.new.items value ≡ (some_within ranges.old.items value || not (lies_within within value))) }
 {
     if within.is_open() {
         return Ok(());
     }
-    ranges.push(within.before(alloc)?)?;
-    put_left(ranges, within.behind()?)?;
+    let Bounds {
+        lower,
+        upper,
+        lower_strict,
+        upper_strict,
+    } = within;
+    ranges.push(before(alloc, lower, lower_strict)?)?;
+    put_left(ranges, behind(upper, upper_strict))?;
     Ok(())
 }
 

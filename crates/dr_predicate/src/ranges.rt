@@ -1,8 +1,10 @@
 ghost use Rattle.std.specs.Prelude.{◌≡◌, ◌||◌, ◌&&◌, not, ℕ, List, IfOk, OnOk};
-ghost use Rattle.dr_predicate.specs.Ranges.{start_order as start_order_of, ends_within as ends_within_of, with_outer, begun, lies_open, Rise, Reach};
-ghost use Rattle.dr_predicate.specs.Within.{some_within};
+ghost use Rattle.dr_predicate.specs.Ranges.{start_order as start_order_of, ends_within as ends_within_of, with_outer, begun, unended, lies_open, Rise, Reach};
+ghost use Rattle.dr_predicate.specs.Within.{lies_within, some_within};
 
-use crate::bounds::{Bounds, ends_before, not_after, not_before, start_strict, start_text};
+use crate::bounds::{
+    Bounds, before, behind, ends_before, not_after, not_before, start_strict, start_text,
+};
 use std::alloc::{AllocError, Global};
 use std::cmp::Ordering;
 use std::marker::Model;
@@ -25,17 +27,18 @@ impl Model for Ranges {
 }
 
 impl Ranges {
-    // Ranges that hold the texts that these hold. They are sorted once.
+    // Ranges that hold the texts that these hold. They are sorted once; where they are some lists one after another that are in
+    // order each, as what was joined before is, these are merged.
     pub(crate) fn of(alloc: Global, bounds: Vec<Bounds>) -> Result<Ranges, AllocError>
         ensures { IfOk result (λ r. (text : List ℕ) → some_within r text ≡ some_within bounds.items text) }
     {
         let mut sorted = bounds;
-        sorted.sort_unstable_by(
+        sorted.sort_by(
             |a: &Bounds, b: &Bounds| -> Ordering
                 ensures { result ≡ start_order_of a.now b.now }
             { start_order(a, b) },
-        );
-        Ok(Ranges(outer(alloc, sorted.as_slice())?))
+        )?;
+        Ok(Ranges(outer(alloc, sorted)?))
     }
 
     // Equal ranges.
@@ -54,10 +57,10 @@ impl Ranges {
 
     // Ranges that hold the texts that none of these holds: what lies before the first, between each and the next, and behind the
     // last.
-    pub(crate) fn gaps(&self, alloc: Global) -> Result<Vec<Bounds>, AllocError>
-        ensures { IfOk result (λ gaps. (text : List ℕ) → some_within gaps.items text ≡ not (some_within self.now text)) }
+    pub(crate) fn into_gaps(self, alloc: Global) -> Result<Vec<Bounds>, AllocError>
+        ensures { IfOk result (λ gaps. (text : List ℕ) → some_within gaps.items text ≡ not (some_within self text)) }
     {
-        gaps_of(alloc, self.0.as_slice())
+        gaps_of(alloc, self.0)
     }
 
     /// Whether a text lies in one of the ranges. It takes no memory, and time by the bytes of the text times the logarithm of the
@@ -79,34 +82,49 @@ impl Ranges {
 }
 
 // What lies before the first of some ranges, between each and the next, and behind the last.
-fn gaps_of(alloc: Global, ranges: &[Bounds]) -> Result<Vec<Bounds>, AllocError>
-    requires rise { Rise ranges.now }
-    requires reach { Reach ranges.now }
-    ensures { IfOk result (λ gaps. (text : List ℕ) → some_within gaps.items text ≡ not (some_within ranges.now text)) }
+fn gaps_of(alloc: Global, ranges: Vec<Bounds>) -> Result<Vec<Bounds>, AllocError>
+    requires rise { Rise ranges.items }
+    requires reach { Reach ranges.items }
+    ensures { IfOk result (λ gaps. (text : List ℕ) → some_within gaps.items text ≡ not (some_within ranges.items text)) }
 {
     let mut gaps = Vec::new(alloc);
     let mut left = Some(Bounds::every_text());
     for bounds in ranges {
-        put_before(alloc, &mut gaps, left, bounds)?;
-        left = bounds.behind()?;
+        left = put_gap(alloc, &mut gaps, left, bounds)?;
     }
     put_left(&mut gaps, left)?;
     Ok(gaps)
 }
 
-// Puts what lies in a range, where there is one, and before another one, behind some ranges.
-fn put_before(
+// Puts what lies in a range, where there is one, and before another one, behind some ranges, and gives what lies behind that other
+// one.
+fn put_gap(
     alloc: Global,
     gaps: &mut Vec<Bounds>,
     left: Option<Bounds>,
-    next: &Bounds,
-) -> Result<(), AllocError>
-    ensures { OnOk result ((text : List ℕ) → some_within gaps.new.items text ≡ (some_within gaps.old.items text || (lies_open left text && not (begun text next.now)))) }
+    next: Bounds,
+) -> Result<Option<Bounds>, AllocError>
+    ensures gaps { OnOk result ((text : List ℕ) → some_within gaps.new.items text ≡ (some_within gaps.old.items text || (lies_open left text && not (begun text next)))) }
+    ensures left { IfOk result (λ left. (text : List ℕ) → lies_open left text ≡ not (unended text next)) }
+{
+    let Bounds {
+        lower,
+        upper,
+        lower_strict,
+        upper_strict,
+    } = next;
+    put_shared(gaps, left, before(alloc, lower, lower_strict)?)?;
+    Ok(behind(upper, upper_strict))
+}
+
+// Puts what lies in a range, where there is one, and in another one, behind some ranges.
+fn put_shared(gaps: &mut Vec<Bounds>, left: Option<Bounds>, other: Bounds) -> Result<(), AllocError>
+    ensures { OnOk result ((text : List ℕ) → some_within gaps.new.items text ≡ (some_within gaps.old.items text || (lies_open left text && lies_within other text))) }
 {
     let Some(mut gap) = left else {
         return Ok(());
     };
-    gap.narrow(&next.before(alloc)?)?;
+    gap.narrow(other);
     gaps.push(gap)?;
     Ok(())
 }
@@ -142,11 +160,11 @@ fn start_order(a: &Bounds, b: &Bounds) -> Ordering
 }
 
 // Those of some ranges that end behind all that stand before them: each of the others lies within one before it.
-fn outer(alloc: Global, sorted: &[Bounds]) -> Result<Vec<Bounds>, AllocError>
-    requires { Rise sorted.now }
+fn outer(alloc: Global, sorted: Vec<Bounds>) -> Result<Vec<Bounds>, AllocError>
+    requires { Rise sorted.items }
     ensures rise { IfOk result (λ r. Rise r.items) }
     ensures reach { IfOk result (λ r. Reach r.items) }
-    ensures same { IfOk result (λ r. (text : List ℕ) → some_within r.items text ≡ some_within sorted.now text) }
+    ensures same { IfOk result (λ r. (text : List ℕ) → some_within r.items text ≡ some_within sorted.items text) }
 {
     let mut outer = Vec::new(alloc);
     for bounds in sorted {
@@ -156,13 +174,13 @@ fn outer(alloc: Global, sorted: &[Bounds]) -> Result<Vec<Bounds>, AllocError>
 }
 
 // Adds a range, if it ends behind those that are there.
-fn add_outer(outer: &mut Vec<Bounds>, bounds: &Bounds) -> Result<(), AllocError>
-    ensures { OnOk result (outer.new.items ≡ with_outer outer.old.items bounds.now) }
+fn add_outer(outer: &mut Vec<Bounds>, bounds: Bounds) -> Result<(), AllocError>
+    ensures { OnOk result (outer.new.items ≡ with_outer outer.old.items bounds) }
 {
-    if ends_within(outer.as_slice(), bounds) {
+    if ends_within(outer.as_slice(), &bounds) {
         return Ok(());
     }
-    outer.push(bounds.copy()?)?;
+    outer.push(bounds)?;
     Ok(())
 }
 

@@ -56,8 +56,8 @@ impl ValueTests {
         match test {
             ValueTest::Equals(text) => self.ask_texts(alloc, AskedTexts::One(text))?,
             ValueTest::Among(texts) => self.ask_texts(alloc, AskedTexts::Several(texts))?,
-            ValueTest::Within(bounds) => self.within.narrow(&bounds)?,
-            ValueTest::WithinOne(ranges) => self.deny_ranges(ranges.gaps(alloc)?)?,
+            ValueTest::Within(bounds) => self.within.narrow(bounds),
+            ValueTest::WithinOne(ranges) => self.deny_ranges(ranges.into_gaps(alloc)?)?,
             apart => self.add_apart(apart, true)?,
         }
         Ok(())

@@ -9,11 +9,12 @@ use Rattle.dr_predicate.proofs.joining.put_outside.Goals as goal
 pub returns : goal.returns
 returns c = λ value.
     let ranges = c.args.ranges.now.items in
-    let within = c.args.within.now in
-    let before = c.in_ok-before.field-0 in
+    let within = c.args.within in
+    let first = c.in_ok-before.field-0 in
+    let last = c.behind.result in
     c.in_ok-put_left.ensures value
-    ∙ ap (λ l. some_within l value || lies_open c.in_ok-behind.field-0 value) c.in_ok-push.ensures.items
-    ∙ ap (λ b. b || lies_open c.in_ok-behind.field-0 value) (list_any-append (λ b. lies_within b value) ranges (before ∷ []) ∙ or_ends (some_within ranges value) (lies_within before value))
-    ∙ (λ k. (some_within ranges value || c.in_ok-before.ensures value k) || c.in_ok-behind.ensures value k)
+    ∙ ap (λ l. some_within l value || lies_open last value) c.in_ok-push.ensures.items
+    ∙ ap (λ b. b || lies_open last value) (list_any-append (λ b. lies_within b value) ranges (first ∷ []) ∙ or_ends (some_within ranges value) (lies_within first value))
+    ∙ (λ k. (some_within ranges value || c.in_ok-before.ensures value k) || c.behind.ensures value k)
     ∙ sym (or_regroups (some_within ranges value) (not (begun value within)) (not (unended value within)))
     ∙ ap (λ b. some_within ranges value || b) (outside (begun value within) (unended value within))

@@ -6,7 +6,7 @@ use Rattle.dr_predicate.proofs.bounds.Bounds.narrow.Goals as goal
 pub returns : goal.returns
 returns c = λ text.
     let b = c.args.self.now in
-    let o = c.args.other.now in
-    c.in_ok-narrow_upper.ensures text
-    ∙ ap (λ a. a && not_after o.upper o.upper_strict text) (c.in_ok-narrow_lower.ensures text)
+    let o = c.args.other in
+    c.narrow_upper.ensures text
+    ∙ ap (λ a. a && not_after o.upper o.upper_strict text) (c.narrow_lower.ensures text)
     ∙ sym (and_regroups (lies_within b text) (not_before o.lower o.lower_strict text) (not_after o.upper o.upper_strict text))
