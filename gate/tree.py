@@ -226,7 +226,7 @@ def without_unused(items):
 
 def names_in(text):
     """The names between braces, or the one name."""
-    return [it.strip() for it in text.strip("{}").split(",")]
+    return [it.strip() for it in text.strip("{}").split(",") if it.strip()]
 
 
 def copy_to(folder, *left_out):
