@@ -2,4 +2,5 @@ pub mod AddedTexts
 pub mod Begun
 pub mod Behind
 pub mod Ended
+pub mod Implied
 pub mod Literals

@@ -95,7 +95,7 @@ chars-starting x utf8 = chars-append x (37 ∷ []) utf8 ∙ ap (λ l. chars x ++
 chars-behind : (x : List ℕ) → chars (37 ∷ x) ≡ 37 ∷ chars x
 chars-behind x = chars-append (37 ∷ []) x run_utf8 ∙ ap (λ l. l ++ chars x) run_chars
 
-start-fits : (x : List ℕ) → IsLiteral x → (cs : List ℕ) → fits (chars (starting x)) cs ≡ begins x (encodes cs)
+pub start-fits : (x : List ℕ) → IsLiteral x → (cs : List ℕ) → fits (chars (starting x)) cs ≡ begins x (encodes cs)
 start-fits x is cs = ap (λ p. fits p cs) (chars-starting x is.utf8) ∙ start-letters x is cs
 
 behind-run : (p cs : List ℕ) → fits (37 ∷ p) cs ≡ behind_some_run (fits p) cs
@@ -119,10 +119,10 @@ letters_end l cs runs gaps = each_way (behind_some_run (fits l) cs) (begins (rev
     let parts : cs ≡ reverse front.0 ++ l = sym (reverse-reverse cs) ∙ ap reverse front.1 ∙ reverse-append (reverse l) front.0 ∙ ap (λ x. reverse front.0 ++ x) (reverse-reverse l) in
     ap (behind_some_run (fits l)) parts ∙ found_behind (fits l) (reverse front.0) l (letters_whole l l runs gaps ∙ nat_list_eq_equiv.refl l))
 
-end-fits : (x : List ℕ) → IsLiteral x → (cs : List ℕ) → fits (chars (ending x)) cs ≡ begins (seen End x) (reverse cs)
+pub end-fits : (x : List ℕ) → IsLiteral x → (cs : List ℕ) → fits (chars (ending x)) cs ≡ begins (seen End x) (reverse cs)
 end-fits x is cs = ap (λ p. fits p cs) (chars-behind x) ∙ behind-run (chars x) cs ∙ letters_end (chars x) cs is.runs is.gaps
 
-part-fits : (x : List ℕ) → IsLiteral x → (cs : List ℕ) → fits (chars (holding x)) cs ≡ behind_some_run (λ ds. begins x (encodes ds)) cs
+pub part-fits : (x : List ℕ) → IsLiteral x → (cs : List ℕ) → fits (chars (holding x)) cs ≡ behind_some_run (λ ds. begins x (encodes ds)) cs
 part-fits x is cs =
     ap (λ p. fits p cs) (chars-behind (starting x)) ∙ behind-run (chars (starting x)) cs
     ∙ behind-alike (fits (chars (starting x))) (λ ds. begins x (encodes ds)) (start-fits x is) cs

@@ -8,6 +8,7 @@ ghost use Rattle.dr_patterns.specs.Literals.{IsLiteral, IsOfKind};
 const LONGEST: usize = 1000;
 
 // What a pattern asks of a text.
+#[derive(Clone, Copy)]
 pub enum Kind<'p> {
     // To be this one.
     Whole(&'p str),

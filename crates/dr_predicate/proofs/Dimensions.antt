@@ -60,11 +60,18 @@ one_more_denied true true true more others = refl
 one_more_denied true true false true others = sym (and_false others)
 one_more_denied true true false false others = sym (and_true others)
 
+-- each of some patterns, and one more
+pub one_more_fit : (each more none others : Bool) → (((each && more) && none) && others) ≡ (((each && none) && others) && more)
+one_more_fit false more none others = refl
+one_more_fit true true none others = sym (and_true (none && others))
+one_more_fit true false none others = sym (and_false (none && others))
+
 -- none of some patterns, nor one more
-pub one_more_none : (some more others : Bool) → (not (some || more) && others) ≡ ((not some && others) && not more)
-one_more_none true more others = refl
-one_more_none false true others = sym (and_false others)
-one_more_none false false others = sym (and_true others)
+pub one_more_none : (each some more others : Bool) → ((each && not (some || more)) && others) ≡ (((each && not some) && others) && not more)
+one_more_none false some more others = refl
+one_more_none true true more others = refl
+one_more_none true false true others = sym (and_false others)
+one_more_none true false false others = sym (and_true others)
 
 -- in a narrower range
 pub narrower : (texts within more no_texts no_ranges others : Bool) → ((texts && (((within && more) && no_texts) && no_ranges)) && others) ≡ (((texts && ((within && no_texts) && no_ranges)) && others) && more)
@@ -87,3 +94,7 @@ pub all_put : (before texts within no_texts no_ranges others : Bool) → (((((be
 all_put false texts within no_texts no_ranges others = refl
 all_put true false within no_texts no_ranges others = refl
 all_put true true within no_texts no_ranges others = refl
+
+pub three_put : (before each none others : Bool) → (((before && each) && none) && others) ≡ (before && ((each && none) && others))
+three_put false each none others = refl
+three_put true each none others = refl

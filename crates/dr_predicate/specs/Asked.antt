@@ -2,6 +2,7 @@
 use Rattle.std.specs.Prelude.{◌≡◌, ℕ, ◌<◌, Bool, true, false, not, ◌&&◌, List, Option, Some, None, length, get_or, bytes_eq}
 use Rattle.std.specs.List.{list_any, list_all}
 use Rattle.dr_base.specs.Told.{told}
+use Rattle.dr_patterns.specs.Each.{fits_all}
 use Rattle.dr_patterns.specs.Fitting.{fits_some}
 use Rattle.dr_predicate.specs.declared.apart.Apart.{Apart}
 use Rattle.dr_predicate.specs.declared.asked_texts.AskedTexts.{AskedTexts}
@@ -42,9 +43,9 @@ lets_through l value = is_limited l.within l.no_texts l.no_ranges value
 abbrev pub all_told : List ToldTest → List ℕ → Bool
 all_told tests value = list_all (λ t. told t.holds (passes t.test value)) tests
 
--- it fits none of some patterns, and each of some other tests tells what it is to
+-- it fits each of some patterns and none of some others, and each of some other tests tells what it is to
 abbrev pub apart_told : Apart → List ℕ → Bool
-apart_told a value = not (fits_some a.no_patterns.items value) && all_told a.others.items value
+apart_told a value = (fits_all a.patterns.items value && not (fits_some a.no_patterns.items value)) && all_told a.others.items value
 
 abbrev pub all_asked : ValueTests → List ℕ → Bool
 all_asked a value = (is_asked a.texts value && is_limited a.within a.no_texts a.no_ranges.items value) && apart_told a.apart value

@@ -9,9 +9,11 @@ use crate::value_test::ValueTest;
 use dr_base::Text;
 use std::alloc::{AllocError, Global};
 
-/// What is asked of a value beside texts and ranges: patterns of which it is to fit none, and other tests.
+/// What is asked of a value beside texts and ranges: patterns of which it is to fit each, patterns of which it is to fit none, and
+/// other tests.
 #[derive(Drop)]
 pub struct Apart {
+    pub patterns: Vec<Text>,
     pub no_patterns: Vec<Text>,
     pub others: Vec<ToldTest>,
 }
@@ -22,6 +24,7 @@ impl Apart {
         ensures { (value : List ℕ) → apart_told result value ≡ true }
     {
         Apart {
+            patterns: Vec::new(alloc),
             no_patterns: Vec::new(alloc),
             others: Vec::new(alloc),
         }
@@ -31,13 +34,27 @@ impl Apart {
     pub(crate) fn add(&mut self, test: ValueTest, holds: bool) -> Result<(), AllocError>
         ensures { OnOk result ((value : List ℕ) → apart_told self.new value ≡ (apart_told self.old value && told holds (passes test value))) }
     {
-        if holds {
-            return self.add_other(test, holds);
-        }
         match test {
-            ValueTest::Like(pattern) => self.add_no_pattern(pattern),
+            ValueTest::Like(pattern) => self.add_pattern(pattern, holds),
             other => self.add_other(other, holds),
         }
+    }
+
+    fn add_pattern(&mut self, pattern: Text, holds: bool) -> Result<(), AllocError>
+        ensures { OnOk result ((value : List ℕ) → apart_told self.new value ≡ (apart_told self.old value && told holds (fits_text pattern value))) }
+    {
+        if holds {
+            self.add_fit(pattern)
+        } else {
+            self.add_no_pattern(pattern)
+        }
+    }
+
+    fn add_fit(&mut self, pattern: Text) -> Result<(), AllocError>
+        ensures { OnOk result ((value : List ℕ) → apart_told self.new value ≡ (apart_told self.old value && fits_text pattern value)) }
+    {
+        self.patterns.push(pattern)?;
+        Ok(())
     }
 
     fn add_no_pattern(&mut self, pattern: Text) -> Result<(), AllocError>

@@ -1,6 +1,7 @@
 ghost use Rattle.std.specs.Prelude.{◌≡◌, ◌&&◌, not, false, ℕ, List, IfOk, OnOk};
 ghost use Rattle.std.specs.List.{list_all};
 ghost use Rattle.dr_base.specs.Told.{told};
+ghost use Rattle.dr_patterns.specs.Each.{fits_all};
 ghost use Rattle.dr_patterns.specs.Fitting.{fits_some};
 ghost use Rattle.dr_predicate.specs.Asked.{all_asked, all_told, apart_told, asked_at, tests_hold, dimensions_told, is_asked, is_denied};
 ghost use Rattle.dr_predicate.specs.Match.{passes, value_at, lies_within, some_within};
@@ -18,7 +19,7 @@ use crate::value_test::ValueTest;
 use crate::value_tests::ValueTests;
 use dr_base::Text;
 use dr_dict::TextSet;
-use dr_patterns::Patterns;
+use dr_patterns::{Patterns, without_implied};
 use std::alloc::{AllocError, Global};
 
 impl DimensionTests {
@@ -166,11 +167,39 @@ fn put_apart(
     ensures { OnOk result ((dims : List (List ℕ)) → dimensions_told dims tests.new.items ≡ (dimensions_told dims tests.old.items && apart_told apart (value_at place dims))) }
 {
     let Apart {
+        patterns,
         no_patterns,
         others,
     } = apart;
+    put_patterns(alloc, tests, place, patterns)?;
     put_no_patterns(alloc, tests, place, no_patterns)?;
     put_others(tests, place, others)?;
+    Ok(())
+}
+
+// Puts that the value fits each of some patterns: those are tried that others don't imply.
+fn put_patterns(
+    alloc: Global,
+    tests: &mut Vec<ToldDimension>,
+    place: Option<usize>,
+    patterns: Vec<Text>,
+) -> Result<(), AllocError>
+    ensures { OnOk result ((dims : List (List ℕ)) → dimensions_told dims tests.new.items ≡ (dimensions_told dims tests.old.items && fits_all patterns.items (value_at place dims))) }
+{
+    put_each(tests, place, without_implied(alloc, patterns)?)?;
+    Ok(())
+}
+
+fn put_each(
+    tests: &mut Vec<ToldDimension>,
+    place: Option<usize>,
+    patterns: Vec<Text>,
+) -> Result<(), AllocError>
+    ensures { OnOk result ((dims : List (List ℕ)) → dimensions_told dims tests.new.items ≡ (dimensions_told dims tests.old.items && fits_all patterns.items (value_at place dims))) }
+{
+    for pattern in patterns {
+        put(tests, place, ValueTest::Like(pattern), true)?;
+    }
     Ok(())
 }
 
