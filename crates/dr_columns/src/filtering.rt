@@ -5,6 +5,7 @@ ghost use Rattle.dr_predicate.specs.Match.{holds_of, passes};
 ghost use Rattle.dr_image.specs.Checked.{column_at};
 ghost use Rattle.dr_columns.specs.Rows.{Narrows, key_at, meets};
 
+use crate::by_rows::narrow_by_rows;
 use crate::cells::{known_place, value_at};
 use crate::telling::{all_true, drop_where, keep_true};
 use dr_filter::{Filter, FilterTree};
@@ -16,7 +17,8 @@ use std::alloc::{AllocError, Global};
 /// Makes false what is told of the rows of an image that a filter doesn't keep. A test of a dimension is asked once for each value
 /// of the dimension's dictionary, and the time of a row once for each run of equal times. The only error is that memory ran out.
 /// It takes time by the tests and the nests of [`Filter::asked`], each by the rows, and each test as
-/// [`ValueTest::passes`](dr_predicate::ValueTest::passes) by the values.
+/// [`ValueTest::passes`](dr_predicate::ValueTest::passes) by the values; but what [`FilterTree::is_guarded`] tells of is asked of each
+/// row that is left, as [`FilterTree::matches`], with the row's texts in memory of its own meanwhile.
 pub fn narrow(
     alloc: Global,
     view: &SegmentView<'_>,
@@ -41,6 +43,9 @@ fn narrow_asked(
     requires { length told.old ≡ length view.now.times }
     ensures { OnOk result (Narrows (meets view.now (condition_in filter.now)) told.old told.new) }
 {
+    if filter.is_guarded() {
+        return narrow_by_rows(alloc, view, filter, told);
+    }
     match filter {
         FilterTree::Dimension(test) => keep_passing(alloc, view, test, told),
         FilterTree::Interval(union) => {

@@ -1,3 +1,4 @@
+pub mod BehindTexts
 pub mod DistinctValues
 pub mod EveryMember
 pub mod Levels

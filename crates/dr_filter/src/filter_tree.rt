@@ -2,7 +2,7 @@ ghost use Rattle.std.specs.Prelude.{◌≡◌, IfOk};
 ghost use Rattle.dr_filter.specs.Condition.{condition_in, dimension, interval, opposite, conditions_in, matches as matches_of, every_matches as every_matches_of, some_matches as some_matches_of};
 
 use dr_base::Text;
-use dr_predicate::DimensionTest;
+use dr_predicate::{DimensionTest, ValueTest};
 use dr_time::Union;
 use std::alloc::{AllocError, Global};
 
@@ -44,9 +44,19 @@ impl FilterTree {
         Ok(FilterTree::Not(Box::new(alloc, self)?))
     }
 
-    // Whether a row meets the filter.
+    /// Whether it is asked soonest row by row, since an `and` within it is asked only of rows that have one of some texts (see
+    /// [`Filter::asked`](crate::Filter::asked)). What a filter keeps doesn't depend on it. It takes constant time.
+    pub fn is_guarded(&self) -> bool {
+        match self {
+            FilterTree::Not(denied) => begins_with_texts(denied),
+            _ => false,
+        }
+    }
+
+    /// Whether a row of this time, in milliseconds since the epoch, and these dimension values, in the order of the schema, meets the
+    /// filter. It takes no memory, and time by its tests, but only by those of an `and` or `or` up to the first that tells.
     #[cycle(matching)]
-    pub(crate) fn matches(&self, time: i64, dims: &[Text]) -> bool
+    pub fn matches(&self, time: i64, dims: &[Text]) -> bool
         ensures { result ≡ matches_of time dims.now (condition_in self.now) }
     {
         match self {
@@ -81,4 +91,35 @@ fn some_matches(filters: &[FilterTree], time: i64, dims: &[Text]) -> bool
         }
     }
     false
+}
+
+// Whether a filter is an `and` of a test for texts and a `not`.
+fn begins_with_texts(filter: &FilterTree) -> bool {
+    match filter {
+        FilterTree::And(members) => {
+            members.len() == 2 && asks_for_texts(&members[0]) && is_opposite(&members[1])
+        }
+        _ => false,
+    }
+}
+
+fn asks_for_texts(filter: &FilterTree) -> bool {
+    match filter {
+        FilterTree::Dimension(test) => is_among(&test.test),
+        _ => false,
+    }
+}
+
+fn is_among(test: &ValueTest) -> bool {
+    match test {
+        ValueTest::Among(_) => true,
+        _ => false,
+    }
+}
+
+fn is_opposite(filter: &FilterTree) -> bool {
+    match filter {
+        FilterTree::Not(_) => true,
+        _ => false,
+    }
 }

@@ -7,10 +7,14 @@ mod fields;
 mod filter;
 mod filter_error;
 mod filter_tree;
+mod guarded;
+mod guarding;
 mod members;
+mod most_texts;
 mod parts;
 mod reading;
 mod test_reading;
+mod texts_asked;
 mod times;
 mod values;
 

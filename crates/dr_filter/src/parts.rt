@@ -6,6 +6,7 @@ ghost use Rattle.dr_base.specs.Told.{told};
 ghost use Rattle.dr_filter.specs.Parts.{parts_match};
 
 use crate::filter_tree::FilterTree;
+use crate::guarding::guarded;
 use crate::members::{all_of, put_filters, put_tests, put_times};
 use dr_predicate::{DimensionTest, DimensionTests};
 use dr_time::Union;
@@ -128,7 +129,7 @@ impl Parts {
             return Ok(all_of(members));
         }
         put_times(alloc, &mut members, times.as_slice(), no_times.as_slice())?;
-        put_filters(&mut members, others)?;
+        put_filters(&mut members, guarded(alloc, others)?)?;
         Ok(all_of(members))
     }
 }
