@@ -242,6 +242,34 @@ def likes(pattern):
     return asked_of_texts(groups(filter=one_of(*({"type": "like", "dimension": "page", "pattern": pattern.replace("x", f"x{it}")} for it in range(15000)))))
 
 
+def pairs(n):
+    yield spec(dims=("page", "lang"))
+    for it in range(n):
+        yield event(BEGIN + it, f"{it:x}", lang=str(it % 70))
+    both = [[{"type": "selector", "dimension": "page", "value": f"{it * 7:x}"}, {"type": "selector", "dimension": "lang", "value": str(it % 70)}] for it in range(5500)]
+    asked = series(filter=one_of(*({"type": "and", "fields": it} for it in both)))
+    yield asked
+    yield f"seal {instant(1)}"
+    yield f"publish {instant(1)} 0 1"
+    yield asked
+
+
+def likes_of_each(n):
+    yield spec()
+    for it in range(n):
+        yield event(BEGIN + it, f"an {it:x} end")
+    patterns = ["a%", "%", "%end", "% %", "%an%", "an %"] * 2500
+    yield groups(filter={"type": "and", "fields": [{"type": "like", "dimension": "page", "pattern": it} for it in patterns]})
+
+
+def likes_of_growing(n):
+    yield spec()
+    for it in range(n):
+        yield event(BEGIN + it, "a" * 800)
+    patterns = [form.replace("x", "a" * it) for it in range(1, 800) for form in ("x%", "%x", "%x%")]
+    yield series(filter={"type": "and", "fields": [{"type": "like", "dimension": "page", "pattern": it} for it in patterns[:2000]]})
+
+
 def order_columns(n):
     yield spec()
     for it in range(n):
@@ -344,6 +372,9 @@ INPUTS = {
     "rows under an or of 15,000 likes of a beginning": (likes("x%"), 100000),
     "rows under an or of 15,000 likes of an end": (likes("%x"), 100000),
     "rows under an or of 15,000 likes of a part": (likes("%x%"), 100000),
+    "rows under an or of 5,500 ands of two selectors": (pairs, 100000),
+    "rows under an and of 15,000 likes of six kinds": (likes_of_each, 100000),
+    "rows of 800 bytes under an and of 2,000 likes of growing texts": (likes_of_growing, 20000),
     "groups under a having that is an and of 7,500 ors of two comparisons": (asked_of_texts(ANDS_OF_A_HAVING), 100000),
     "groups under a having that is an or of 5,000 ors of two comparisons": (asked_of_texts(ORS_OF_A_HAVING), 100000),
     "groups under a having of 9,990 comparisons that don't hold": (asked_of_texts(LONG_HAVING_OF_DENIED), 100000),
