@@ -44,12 +44,12 @@ impl FilterTree {
         Ok(FilterTree::Not(Box::new(alloc, self)?))
     }
 
-    /// Whether it is asked soonest row by row, since an `and` within it is asked only of rows that have one of some texts (see
-    /// [`Filter::asked`](crate::Filter::asked)). What a filter keeps doesn't depend on it. It takes constant time.
+    /// Whether it is a tree of many filters (see [`Filter::asked`](crate::Filter::asked)), of which a row is asked those alone that ask
+    /// for its text: it is asked soonest row by row. What a filter keeps doesn't depend on it. It takes constant time.
     pub fn is_guarded(&self) -> bool {
-        match self {
-            FilterTree::Not(denied) => begins_with_texts(denied),
-            _ => false,
+        match first_behind_texts(self) {
+            Some(first) => has_pairs(first),
+            None => false,
         }
     }
 
@@ -93,13 +93,52 @@ fn some_matches(filters: &[FilterTree], time: i64, dims: &[Text]) -> bool
     false
 }
 
-// Whether a filter is an `and` of a test for texts and a `not`.
-fn begins_with_texts(filter: &FilterTree) -> bool {
+// Whether a filter is, two levels down its first members, guarded by texts still.
+fn has_pairs(filter: &FilterTree) -> bool {
+    match first_behind_texts(filter) {
+        Some(first) => first_behind_texts(first).is_some(),
+        None => false,
+    }
+}
+
+// The first of the two filters that a guarded one asks behind its texts: it is the opposite of an `and` of a test for texts and of
+// the opposite of both.
+fn first_behind_texts(filter: &FilterTree) -> Option<&FilterTree> {
+    match filter {
+        FilterTree::Not(denied) => first_of_asked(denied),
+        _ => None,
+    }
+}
+
+fn first_of_asked(filter: &FilterTree) -> Option<&FilterTree> {
     match filter {
         FilterTree::And(members) => {
-            members.len() == 2 && asks_for_texts(&members[0]) && is_opposite(&members[1])
+            if members.len() != 2 || !asks_for_texts(&members[0]) {
+                return None;
+            }
+            first_of_opposite(&members[1])
         }
-        _ => false,
+        _ => None,
+    }
+}
+
+fn first_of_opposite(filter: &FilterTree) -> Option<&FilterTree> {
+    match filter {
+        FilterTree::Not(both) => first_of_two(both),
+        _ => None,
+    }
+}
+
+fn first_of_two(filter: &FilterTree) -> Option<&FilterTree> {
+    match filter {
+        FilterTree::And(members) => {
+            if members.len() == 2 {
+                Some(&members[0])
+            } else {
+                None
+            }
+        }
+        _ => None,
     }
 }
 
@@ -113,13 +152,6 @@ fn asks_for_texts(filter: &FilterTree) -> bool {
 fn is_among(test: &ValueTest) -> bool {
     match test {
         ValueTest::Among(_) => true,
-        _ => false,
-    }
-}
-
-fn is_opposite(filter: &FilterTree) -> bool {
-    match filter {
-        FilterTree::Not(_) => true,
         _ => false,
     }
 }

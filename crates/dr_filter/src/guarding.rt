@@ -8,7 +8,7 @@ use crate::filter_tree::FilterTree;
 use crate::guarded::Guarded;
 use crate::members::all_of;
 use crate::most_texts::place_of_most_texts;
-use crate::texts_asked::{copied, texts_of_opposite};
+use crate::texts_asked::texts_of_opposite;
 use dr_dict::TextSet;
 use dr_predicate::{DimensionTest, ValueTest};
 use std::alloc::{AllocError, Global};
@@ -152,7 +152,7 @@ fn pair_of(
     let mut texts = one.texts;
     texts.add_all(&other.texts)?;
     let filter = both(alloc, one.filter, other.filter)?;
-    let filter = behind_texts(alloc, place, copied(alloc, &texts)?, filter)?;
+    let filter = behind_texts(alloc, place, &texts, filter)?;
     Ok(Guarded { texts, filter })
 }
 
@@ -160,15 +160,17 @@ fn pair_of(
 fn behind_texts(
     alloc: Global,
     place: Option<usize>,
-    texts: TextSet,
+    texts: &TextSet,
     filter: FilterTree,
 ) -> Result<FilterTree, AllocError>
-    ensures { IfOk result (λ f. (time : ℤ) (dims : List (List ℕ)) → matches time dims (condition_in f) ≡ not (list_any (bytes_eq (value_at place dims)) texts && not (matches time dims (condition_in filter)))) }
+    ensures { IfOk result (λ f. (time : ℤ) (dims : List (List ℕ)) → matches time dims (condition_in f) ≡ not (list_any (bytes_eq (value_at place dims)) texts.now && not (matches time dims (condition_in filter)))) }
 {
-    let test = ValueTest::Among(texts);
-    let asked = FilterTree::of_test(DimensionTest { place, test });
+    let mut asked = TextSet::new(alloc);
+    asked.add_all(texts)?;
+    let test = ValueTest::Among(asked);
+    let has_one = FilterTree::of_test(DimensionTest { place, test });
     let fails = filter.denied(alloc)?;
-    Ok(both(alloc, asked, fails)?.denied(alloc)?)
+    Ok(both(alloc, has_one, fails)?.denied(alloc)?)
 }
 
 // That both of two filters hold.

@@ -94,22 +94,13 @@ fn texts_at(
 fn texts_in(alloc: Global, test: &ValueTest) -> Result<Option<TextSet>, AllocError>
     ensures { IfOk result (λ texts. IfSome texts (λ t. (value : List ℕ) → passes test.now value ≡ true → list_any (bytes_eq value) t ≡ true)) }
 {
+    let mut asked = TextSet::new(alloc);
     match test {
         ValueTest::Equals(text) => {
-            let mut texts = TextSet::new(alloc);
-            texts.add(text)?;
-            Ok(Some(texts))
+            asked.add(text)?;
         }
-        ValueTest::Among(texts) => Ok(Some(copied(alloc, texts)?)),
-        _ => Ok(None),
+        ValueTest::Among(texts) => asked.add_all(texts)?,
+        _ => return Ok(None),
     }
-}
-
-/// The same texts, in memory of their own. The only error is that memory ran out.
-pub fn copied(alloc: Global, texts: &TextSet) -> Result<TextSet, AllocError>
-    ensures { IfOk result (λ copy. (value : List ℕ) → list_any (bytes_eq value) copy ≡ list_any (bytes_eq value) texts.now) }
-{
-    let mut copy = TextSet::new(alloc);
-    copy.add_all(texts)?;
-    Ok(copy)
+    Ok(Some(asked))
 }

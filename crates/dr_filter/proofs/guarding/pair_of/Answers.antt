@@ -12,5 +12,5 @@ returns-clause-same c = λ time dims.
     let b = matches time dims (condition_in c.args.other.filter) in
     let among = list_any (bytes_eq value) c.args.one.texts || list_any (bytes_eq value) c.args.other.texts in
     c.in_ok-filter-2.ensures time dims
-    ∙ (λ k. not ((c.in_ok-copied.ensures value ∙ c.in_ok-add_all.ensures.found value) k && not (c.in_ok-filter.ensures time dims k)))
+    ∙ (λ k. not (c.in_ok-add_all.ensures.found value k && not (c.in_ok-filter.ensures time dims k)))
     ∙ asked-where-needed among a b (λ h. in_either _ _ (c.requires.one time dims h)) (λ h. in_other _ _ (c.requires.other time dims h))
