@@ -100,6 +100,8 @@ class Writer:
             return self.nest(lambda: self.filter(3), "fields", "field")
         if depth == 0 and r.random() < 0.3:
             return self.nest(self.leaf_of_one_column(), "fields", "field")
+        if depth == 0 and r.random() < 0.2:
+            return self.ands_by_texts()
         kinds = ["selector", "in", "bound", "like", "interval"] + (["and", "or", "not"] if depth < 3 else [])
         kind = r.choice(kinds)
         if kind in ("and", "or"):
@@ -110,6 +112,18 @@ class Writer:
         if kind == "not":
             return {"type": kind, "field": self.filter(depth + 1)}
         return self.leaf(kind, r.choice(self.dims + ["nope"]))
+
+    def ands_by_texts(self):
+        """Many conditions of which one is to hold, or none: most ask for texts of one dimension, and for something else besides."""
+        r, column = self.random, self.random.choice(self.dims)
+        ands = []
+        for _ in range(r.randint(12, 40)):
+            fields = [self.leaf(r.choice(["selector", "selector", "in"]), column)] if r.random() < 0.9 else []
+            fields += [self.filter(2) for _ in range(r.choice([1, 1, 1, 2]))]
+            ands.append({"type": "and", "fields": r.sample(fields, len(fields))})
+        if r.random() < 0.5:
+            return {"type": "or", "fields": ands}
+        return {"type": "and", "fields": [{"type": "not", "field": it} for it in ands]}
 
     def leaf_of_one_column(self):
         """A maker of conditions on one dimension, or on the time: of all kinds that are joined there, or patterns alone."""
