@@ -10,4 +10,5 @@ pub mod LeafOf
 pub mod Placed
 pub mod Collected
 pub mod Gathered
+pub mod Guards
 pub mod HavingOf

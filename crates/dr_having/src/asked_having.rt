@@ -28,8 +28,9 @@ impl AskedHaving {
 
     /// Whether a group meets it: its dimension values and the values of its aggregations, each in the order of the query. It
     /// takes no memory, and expected time by the conditions that stand apart, as an `and` or an `or` over two outputs within the other
-    /// one does, and within each of them by the aggregations that it names, each with the logarithm of the comparisons of it, and the
-    /// bytes of the values of the dimensions that it names, however many conditions are on one of these.
+    /// one does, but of those that are a tree by the values of a dimension by the logarithm of their number and by those that ask for
+    /// the group's; and within each of them by the aggregations that it names, each with the logarithm of the comparisons of it, and
+    /// the bytes of the values of the dimensions that it names, however many conditions are on one of these.
     #[cycle(meeting)]
     pub fn meets(&self, dims: &OutputTexts<'_>, values: &OutputNumbers<'_>) -> bool
         ensures { result ≡ asked_meets dims.now values.now self.now }

@@ -9,6 +9,7 @@ use crate::asked_having::AskedHaving;
 use crate::asked_output::AskedOutput;
 use crate::dimension_value::DimensionValue;
 use crate::group_value::GroupValue;
+use crate::guarding::guarded;
 use crate::number_look_up::NumberLookUp;
 use crate::output_conditions::OutputConditions;
 use crate::text_look_up::TextLookUp;
@@ -38,7 +39,7 @@ impl Conjunction {
     {
         Ok(AskedHaving {
             outputs: self.outputs.asked(alloc)?,
-            denied: self.denied,
+            denied: guarded(alloc, self.denied)?,
         })
     }
 
