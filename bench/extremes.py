@@ -199,6 +199,8 @@ MANY_SUMS = series(aggregations=[{"type": "longSum", "name": f"v{it}", "fieldNam
 ONE_DIMENSION = [{"type": "default", "dimension": "none", "outputName": f"o{it}"} for it in range(16000)]
 ONE_DIMENSION_OFTEN = groups(dimensions=ONE_DIMENSION)
 COUNTS = [{"type": "count", "name": f"{it:05x}"} for it in range(14000)]
+LEAST_OF_EACH = [[{"type": "dimSelector", "dimension": "page", "value": str(it * 7)}, {"type": "greaterThan", "aggregation": "v", "value": it % 2}] for it in range(7400)]
+HAVING_OF_PAIRS = groups(having={"type": "or", "havingSpecs": [{"type": "and", "havingSpecs": it} for it in LEAST_OF_EACH]})
 LAST_COUNT_OFTEN = groups(aggregations=COUNTS, filter={"type": "selector", "dimension": "page", "value": "0"}, limitSpec={"type": "default", "columns": [COUNTS[-1]["name"]] * 60000})
 
 
@@ -377,6 +379,7 @@ INPUTS = {
     "rows of 800 bytes under an and of 2,000 likes of growing texts": (likes_of_growing, 20000),
     "groups under a having that is an and of 7,500 ors of two comparisons": (asked_of_texts(ANDS_OF_A_HAVING), 100000),
     "groups under a having that is an or of 5,000 ors of two comparisons": (asked_of_texts(ORS_OF_A_HAVING), 100000),
+    "groups under a having that is an or of 7,400 ands of a dimension value and a comparison": (asked_of_texts(HAVING_OF_PAIRS), 100000),
     "groups under a having of 9,990 comparisons that don't hold": (asked_of_texts(LONG_HAVING_OF_DENIED), 100000),
     "groups under a having of 14,000 comparisons": (long_having, 100000),
     "groups under a having of 17,000 dimension values": (asked_of_texts(LONG_HAVING_OF_TEXTS), 100000),

@@ -162,6 +162,8 @@ class Writer:
         if depth == 0 and r.random() < 0.2:
             few = (dims[:1], aggs[:1]) if r.random() < 0.5 else (dims, aggs)
             return self.nest(lambda: self.having(*few, 3), "havingSpecs", "havingSpec")
+        if depth == 0 and dims and r.random() < 0.2:
+            return self.ands_by_values(dims, aggs)
         kinds = ["and", "or", "not"] if depth < 3 else ["and", "or"]
         kinds += ["equalTo", "greaterThan", "lessThan"] * (2 if aggs else 0) + ["dimSelector"] * (2 if dims else 0)
         kind = r.choice(kinds)
@@ -174,6 +176,18 @@ class Writer:
         if kind == "dimSelector":
             return {"type": kind, "dimension": r.choice(dims), "value": r.choice(TEXTS[:5])}
         return {"type": kind, "aggregation": r.choice(aggs), "value": r.choice(NUMBERS)}
+
+    def ands_by_values(self, dims, aggs):
+        """Many conditions of which one is to hold, or none: most ask for a value of one dimension, and for something else besides."""
+        r, column = self.random, self.random.choice(dims)
+        ands = []
+        for _ in range(r.randint(12, 40)):
+            specs = [{"type": "dimSelector", "dimension": column, "value": r.choice(TEXTS)}] if r.random() < 0.9 else []
+            specs += [self.having(dims, aggs, 2) for _ in range(r.choice([1, 1, 1, 2]))]
+            ands.append({"type": "and", "havingSpecs": r.sample(specs, len(specs))})
+        if r.random() < 0.5:
+            return {"type": "or", "havingSpecs": ands}
+        return {"type": "and", "havingSpecs": [{"type": "not", "havingSpec": it} for it in ands]}
 
     def limit_spec(self, outputs):
         r = self.random
