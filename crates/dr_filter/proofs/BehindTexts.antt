@@ -4,7 +4,6 @@ use Rattle.std.proofs.Common.{◌≡◌, ◌∙◌, sym, refl, ap, Bool, true, f
 use Rattle.std.proofs.lemmas.List.{get_or_read}
 use Rattle.std.proofs.lemmas.List.Folds.{list_all-append}
 use Rattle.dr_base.proofs.Truths.{and_ends, and_regroups, and_swaps}
-use Rattle.dr_filter.specs.declared.filter_tree.FilterTree.{FilterTree}
 use Rattle.dr_filter.specs.declared.group.Group.{Group}
 use Rattle.dr_filter.specs.declared.guarded.Guarded.{Guarded}
 use Rattle.dr_filter.specs.declared.parts.Parts.{Parts}
