@@ -1,64 +1,81 @@
--- Filters that hold of every row without some texts, one by one and two as one.
-use Rattle.std.proofs.Common.{◌≡◌, ◌∙◌, sym, refl, ap, Bool, true, false, not, ◌&&◌, ◌||◌, ℕ, zero, suc, ◌<◌, ℤ, List, [], ◌∷◌, ◌++◌, length, get_or, Option, Some, None, IfSome, true≢false, arith}
+-- Filters that hold of every row without some texts: one more, two as one, and those with the same texts.
+use Rattle.std.specs.Cmp.Lexicographic.{pointwise, bytes_decides}
+use Rattle.std.proofs.Common.{◌≡◌, ◌∙◌, sym, refl, ap, Bool, true, false, not, ◌&&◌, ◌||◌, ℕ, zero, suc, ◌<◌, ℤ, List, [], ◌∷◌, ◌++◌, length, map, get_or, set, bytes_eq, true≢false, Option, Result, Ok, Err, OnOk, arith}
+use Rattle.std.proofs.lemmas.List.{get_or_read}
 use Rattle.std.proofs.lemmas.List.Folds.{list_all-append}
-use Rattle.dr_base.proofs.Truths.{and_ends}
-use Rattle.dr_filter.specs.declared.filter_tree.FilterTree.{FilterTree}
+use Rattle.dr_base.proofs.Truths.{and_ends, and_regroups, and_swaps}
+use Rattle.dr_filter.specs.declared.group.Group.{Group}
 use Rattle.dr_filter.specs.declared.guarded.Guarded.{Guarded}
-use Rattle.dr_filter.specs.Condition.{condition_in, conditions_in, matches, every_matches}
-use Rattle.dr_filter.specs.Guards.{AreGuarded, IsGuarded, guarded_match}
-
-pub guarded-behind : (time : ℤ) (dims : List (List ℕ)) (gs : List Guarded) (g : Guarded) → guarded_match time dims (gs ++ g ∷ []) ≡ (guarded_match time dims gs && matches time dims (condition_in g.filter))
-guarded-behind time dims gs g =
-    list_all-append (λ (x : Guarded). matches time dims (condition_in x.filter)) gs (g ∷ []) ∙ and_ends (guarded_match time dims gs) (matches time dims (condition_in g.filter))
-
-module _ (place : Option ℕ) where
-  pub all-behind : (gs : List Guarded) (g : Guarded) → AreGuarded place gs → IsGuarded place g → AreGuarded place (gs ++ g ∷ [])
-  all-behind [] g are is = (is, tt)
-  all-behind (x ∷ xs) g are is = (are.0, all-behind xs g are.1 is)
-
-  pub all-front : (gs : List Guarded) (g : Guarded) → AreGuarded place (gs ++ g ∷ []) → AreGuarded place gs
-  all-front [] g are = tt
-  all-front (x ∷ xs) g are = (are.0, all-front xs g are.1)
-
-  pub one-last : (gs : List Guarded) (g : Guarded) → AreGuarded place (gs ++ g ∷ []) → IsGuarded place g
-  one-last [] g are = are.0
-  one-last (x ∷ xs) g are = one-last xs g are.1
-
--- a row that is among texts wherever either of two filters fails
-pub asked-where-needed : (among a b : Bool) → (a ≡ false → among ≡ true) → (b ≡ false → among ≡ true) → not (among && not (a && b)) ≡ (a && b)
-asked-where-needed true true true h k = refl
-asked-where-needed true true false h k = refl
-asked-where-needed true false b h k = refl
-asked-where-needed false true true h k = refl
-asked-where-needed false true false h k = absurd (true≢false (sym (k refl)))
-asked-where-needed false false b h k = absurd (true≢false (sym (h refl)))
-
-pub in_either : (a b : Bool) → a ≡ true → (a || b) ≡ true
-in_either true b h = refl
-in_either false b h = absurd (true≢false (sym h))
-
-pub in_other : (a b : Bool) → b ≡ true → (a || b) ≡ true
-in_other true b h = refl
-in_other false b h = h
+use Rattle.dr_filter.specs.declared.parts.Parts.{Parts}
+use Rattle.dr_filter.specs.Condition.{condition_in, matches}
+use Rattle.dr_filter.specs.Guards.{is_among, is_met, all_met, is_group_met, groups_met}
+use Rattle.dr_filter.specs.Parts.{parts_match}
 
 pub turned : (a b c : Bool) → ((a && b) && c) ≡ (a && (c && b))
-turned false b c = refl
-turned true true true = refl
-turned true true false = refl
-turned true false true = refl
-turned true false false = refl
+turned a b c = grind (arith)
+
+-- what two deny of rows that have a text of the one or of the other
+pub one-for-both : (a b x y : Bool) → not ((a || b) && not (not (a && x) && not (b && y))) ≡ (not (a && x) && not (b && y))
+one-for-both a b x y = grind (arith)
+
+-- what is denied besides, of rows that have one of the same texts
+one-denied : (a none x : Bool) → not (a && not (none && not x)) ≡ (not (a && not none) && not (a && x))
+one-denied a none x = grind (arith)
+
+-- and where it is the first
+first-denied : (a x : Bool) → not (a && not (true && not x)) ≡ not (a && x)
+first-denied a x = grind (arith)
+
+module _ (place : Option ℕ) (time : ℤ) (dims : List (List ℕ)) where
+  pub met-behind : (gs all : List Guarded) (g : Guarded) → all ≡ gs ++ g ∷ [] → all_met place time dims all ≡ (all_met place time dims gs && is_met place time dims g)
+  met-behind gs all g is =
+      ap (all_met place time dims) is ∙ list_all-append (is_met place time dims) gs (g ∷ []) ∙ and_ends (all_met place time dims gs) (is_met place time dims g)
+
+  group-set : (gs : List Group) (i : ℕ) (old new : Group) (b : Bool) → i < length gs → old ≡ get_or gs i old → is_group_met place time dims new ≡ (is_group_met place time dims old && b)
+      → groups_met place time dims (set gs i new) ≡ (groups_met place time dims gs && b)
+  group-set [] i old new b lt is h = absurd (omega (arith, lt))
+  group-set (x ∷ xs) zero old new b lt is h =
+      ap (λ a. a && groups_met place time dims xs) (h ∙ ap (λ g. is_group_met place time dims g && b) is) ∙ and_swaps (is_group_met place time dims x) b (groups_met place time dims xs)
+  group-set (x ∷ xs) (suc i) old new b lt is h =
+      ap (λ a. is_group_met place time dims x && a) (group-set xs i old new b (omega (arith, lt)) is h) ∙ and_regroups (is_group_met place time dims x) (groups_met place time dims xs) b
+
+pub group-more : {E : Type 0} (gs : List Group) (i : ℕ) (at old : Group) (none : Parts) (one : Guarded) (r : Result (Unit {0}) E) → i < length gs → at ≡ get_or gs i at → at.texts ≡ one.texts → old ≡ get_or gs i old
+    → OnOk r ((time : ℤ) (dims : List (List ℕ)) → parts_match time dims none ≡ (parts_match time dims old.none && not (matches time dims (condition_in one.rest))))
+    → OnOk r ((place : Option ℕ) (time : ℤ) (dims : List (List ℕ)) → groups_met place time dims (set gs i (record { texts = old.texts; none = none })) ≡ (groups_met place time dims gs && is_met place time dims one))
+group-more gs i at old none one (Ok u) lt is_at texts is more = λ place time dims.
+    let same : old.texts ≡ one.texts = ap (λ g. g.texts) (get_or_read gs i old lt is at ∙ sym is_at) ∙ texts in
+    let denied = matches time dims (condition_in one.rest) in
+    group-set place time dims gs i old (record { texts = old.texts; none = none }) (is_met place time dims one) lt is
+    ((λ k. not (is_among place dims old.texts && not (more time dims k)))
+    ∙ one-denied (is_among place dims old.texts) (parts_match time dims old.none) denied
+    ∙ (λ k. is_group_met place time dims old && not (is_among place dims (same k) && denied)))
+group-more gs i at old none one (Err e) lt is_at texts is more = tt
+
+pub group-behind : (gs all : List Group) (empty none : Parts) (one : Guarded) → ((time : ℤ) (dims : List (List ℕ)) → parts_match time dims empty ≡ true)
+    → ((time : ℤ) (dims : List (List ℕ)) → parts_match time dims none ≡ (parts_match time dims empty && not (matches time dims (condition_in one.rest)))) → all ≡ gs ++ (record { texts = one.texts; none = none }) ∷ []
+    → (place : Option ℕ) (time : ℤ) (dims : List (List ℕ)) → groups_met place time dims all ≡ (groups_met place time dims gs && is_met place time dims one)
+group-behind gs all empty none one holds more is = λ place time dims.
+    let among = is_among place dims one.texts in
+    let denied = matches time dims (condition_in one.rest) in
+    let group : Group = record { texts = one.texts; none = none } in
+    ap (groups_met place time dims) is ∙ list_all-append (is_group_met place time dims) gs (group ∷ []) ∙ and_ends (groups_met place time dims gs) (is_group_met place time dims group)
+    ∙ (λ k. groups_met place time dims gs && not (among && not ((more time dims ∙ ap (λ b. b && not denied) (holds time dims)) k)))
+    ∙ ap (λ b. groups_met place time dims gs && b) (first-denied among denied)
+
+pub none-left : {A : Type 0} (xs : List A) → length xs ≡ 0 → xs ≡ []
+none-left [] h = refl
+none-left (x ∷ xs) h = absurd (omega (arith, h))
+
+-- ---- texts that are the same
 
 both_parts : (a b : Bool) → (a && b) ≡ true → (a ≡ true) × (b ≡ true)
 both_parts true b h = (refl, h)
 both_parts false b h = absurd (true≢false (sym h))
 
--- all of some filters hold, and so does the one at a place
-pub every-there : (time : ℤ) (dims : List (List ℕ)) (fs : List FilterTree) (i : ℕ) (f : FilterTree) → i < length fs → f ≡ get_or fs i f → every_matches time dims (conditions_in fs) ≡ true → matches time dims (condition_in f) ≡ true
-every-there time dims [] i f lt is h = absurd (omega (arith, lt))
-every-there time dims (x ∷ xs) zero f lt is h = ap (λ g. matches time dims (condition_in g)) is ∙ (both_parts (matches time dims (condition_in x)) (every_matches time dims (conditions_in xs)) h).0
-every-there time dims (x ∷ xs) (suc i) f lt is h = every-there time dims xs i f (omega (arith, lt)) is (both_parts (matches time dims (condition_in x)) (every_matches time dims (conditions_in xs)) h).1
-
--- what is known of texts, where there are any, says another thing of them
-pub some_more : (texts : Option (List (List ℕ))) (P Q : List (List ℕ) → Type 0) → ((t : List (List ℕ)) → P t → Q t) → IfSome texts P → IfSome texts Q
-some_more None P Q more h = h
-some_more (Some t) P Q more h = more t h
+pub same-texts : {A : Type 0} (f : A → List ℕ) (xs ys : List A) → pointwise (λ x y. bytes_eq (f x) (f y)) xs ys ≡ true → map f xs ≡ map f ys
+same-texts f [] [] h = refl
+same-texts f [] (y ∷ ys) h = absurd (true≢false (sym h))
+same-texts f (x ∷ xs) [] h = absurd (true≢false (sym h))
+same-texts f (x ∷ xs) (y ∷ ys) h =
+    let parts = both_parts (bytes_eq (f x) (f y)) (pointwise (λ a b. bytes_eq (f a) (f b)) xs ys) h in
+    (λ k. (bytes_decides (f x) (f y)).0 parts.0 k ∷ same-texts f xs ys parts.1 k)

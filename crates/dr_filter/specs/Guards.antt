@@ -1,25 +1,31 @@
--- Filters of which each holds of every row whose value of one dimension is none of some texts. No public contract cites this file.
-use Rattle.std.specs.Prelude.{◌≡◌, ℕ, ℤ, Bool, true, false, List, Option, bytes_eq}
-use Rattle.std.specs.List.{list_any, list_all, AllByRecursion}
+-- Filters that hold of every row whose value of one dimension is none of some texts. No public contract cites this file.
+use Rattle.std.specs.Prelude.{ℕ, ℤ, Bool, true, not, ◌&&◌, List, Option, Some, None, bytes_eq}
+use Rattle.std.specs.List.{list_any, list_all}
 use Rattle.dr_predicate.specs.Match.{value_at}
-use Rattle.dr_filter.specs.declared.filter_tree.FilterTree.{FilterTree}
+use Rattle.dr_filter.specs.declared.group.Group.{Group}
 use Rattle.dr_filter.specs.declared.guarded.Guarded.{Guarded}
 use Rattle.dr_filter.specs.Condition.{condition_in, matches}
+use Rattle.dr_filter.specs.Parts.{parts_match}
 
--- a filter doesn't hold of a row only where the value at a place is one of the texts
-abbrev pub FailsAmong : Option ℕ → List (List ℕ) → FilterTree → Type 0
-FailsAmong place texts f = (time : ℤ) (dims : List (List ℕ)) → matches time dims (condition_in f) ≡ false → list_any (bytes_eq (value_at place dims)) texts ≡ true
+-- the value at a place is one of some texts
+abbrev pub is_among : Option ℕ → List (List ℕ) → List (List ℕ) → Bool
+is_among place dims texts = list_any (bytes_eq (value_at place dims)) texts
 
--- a filter holds of a row only where the value at a place is one of the texts
-abbrev pub HoldsAmong : Option ℕ → List (List ℕ) → FilterTree → Type 0
-HoldsAmong place texts f = (time : ℤ) (dims : List (List ℕ)) → matches time dims (condition_in f) ≡ true → list_any (bytes_eq (value_at place dims)) texts ≡ true
+-- the same, where texts are asked for
+abbrev pub is_among_some : Option ℕ → List (List ℕ) → Option (List (List ℕ)) → Bool
+is_among_some place dims None = true
+is_among_some place dims (Some texts) = is_among place dims texts
 
-abbrev pub IsGuarded : Option ℕ → Guarded → Type 0
-IsGuarded place g = FailsAmong place g.texts g.filter
+-- a row has none of the texts, or doesn't meet the other filter
+abbrev pub is_met : Option ℕ → ℤ → List (List ℕ) → Guarded → Bool
+is_met place time dims g = not (is_among place dims g.texts && matches time dims (condition_in g.rest))
 
-abbrev pub AreGuarded : Option ℕ → List Guarded → Type 0
-AreGuarded place gs = AllByRecursion (IsGuarded place) gs
+abbrev pub all_met : Option ℕ → ℤ → List (List ℕ) → List Guarded → Bool
+all_met place time dims gs = list_all (is_met place time dims) gs
 
--- all of them hold
-abbrev pub guarded_match : ℤ → List (List ℕ) → List Guarded → Bool
-guarded_match time dims gs = list_all (λ g. matches time dims (condition_in g.filter)) gs
+-- a row has none of the texts, or meets all that is asked of those who have one
+abbrev pub is_group_met : Option ℕ → ℤ → List (List ℕ) → Group → Bool
+is_group_met place time dims g = not (is_among place dims g.texts && not (parts_match time dims g.none))
+
+abbrev pub groups_met : Option ℕ → ℤ → List (List ℕ) → List Group → Bool
+groups_met place time dims gs = list_all (is_group_met place time dims) gs

@@ -1,9 +1,9 @@
 use crate::filter_tree::FilterTree;
 use dr_dict::TextSet;
 
-/// A filter that holds of every row whose value of one dimension is none of some texts, and these.
+/// That a row has none of some texts, as its value of one dimension, or doesn't meet another filter.
 #[derive(Drop)]
 pub struct Guarded {
     pub texts: TextSet,
-    pub filter: FilterTree,
+    pub rest: FilterTree,
 }

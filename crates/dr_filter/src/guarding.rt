@@ -1,14 +1,13 @@
-ghost use Rattle.std.specs.Prelude.{◌≡◌, ◌≤◌, ◌&&◌, not, ℕ, ℤ, List, length, IfOk, OnOk, bytes_eq};
-ghost use Rattle.std.specs.List.{list_any};
-ghost use Rattle.dr_predicate.specs.Match.{value_at};
+ghost use Rattle.std.specs.Prelude.{◌≡◌, ◌≤◌, ◌&&◌, ℕ, ℤ, List, length, IfOk, OnOk};
 ghost use Rattle.dr_filter.specs.Condition.{condition_in, conditions_in, matches, every_matches};
-ghost use Rattle.dr_filter.specs.Guards.{AreGuarded, IsGuarded, guarded_match};
+ghost use Rattle.dr_filter.specs.Guards.{all_met, is_met};
 
 use crate::filter_tree::FilterTree;
+use crate::grouping::grouped;
 use crate::guarded::Guarded;
 use crate::members::all_of;
 use crate::most_texts::place_of_most_texts;
-use crate::texts_asked::texts_of_opposite;
+use crate::splitting::put;
 use dr_dict::TextSet;
 use dr_predicate::{DimensionTest, ValueTest};
 use std::alloc::{AllocError, Global};
@@ -20,9 +19,9 @@ const MANY: usize = 16;
 const ROUNDS: usize = 20;
 
 /// Filters that all hold just where all of these do. Where many are the opposite of an `and` that asks for texts of one dimension,
-/// they are made a tree: two of them are asked only of a row that has a text for which one of the two asks, and so are two such
-/// pairs. The only error is that memory ran out. It takes expected time and memory by the texts times the logarithm of the number of
-/// filters.
+/// those with the same texts are made one, and these a tree: two of them are asked only of a row that has a text for which one of the
+/// two asks, and so are two such pairs. The only error is that memory ran out. It takes expected time and memory by the texts times
+/// the logarithm of the number of filters, and what joining takes of filters with the same texts.
 pub fn guarded(alloc: Global, filters: Vec<FilterTree>) -> Result<Vec<FilterTree>, AllocError>
     ensures { IfOk result (λ r. (time : ℤ) (dims : List (List ℕ)) → every_matches time dims (conditions_in r.items) ≡ every_matches time dims (conditions_in filters.items)) }
 {
@@ -48,36 +47,24 @@ fn guarded_at(
     for filter in filters {
         put(alloc, place, filter, &mut kept, &mut found)?;
     }
-    let tree = paired_often(alloc, place, found)?;
-    put_all(&mut kept, tree)?;
+    let groups = grouped(alloc, found)?;
+    let tree = paired_often(alloc, place, groups)?;
+    put_all(alloc, place, &mut kept, tree)?;
     Ok(kept)
 }
 
-// Puts a filter to those that are guarded by texts at a place, or to the others.
-fn put(
+// Puts what guarded filters ask behind others.
+fn put_all(
     alloc: Global,
     place: Option<usize>,
-    filter: FilterTree,
-    kept: &mut Vec<FilterTree>,
-    found: &mut Vec<Guarded>,
+    filters: &mut Vec<FilterTree>,
+    found: Vec<Guarded>,
 ) -> Result<(), AllocError>
-    requires { AreGuarded place found.old.items }
-    ensures are { OnOk result (AreGuarded place found.new.items) }
-    ensures same { OnOk result ((time : ℤ) (dims : List (List ℕ)) → (every_matches time dims (conditions_in kept.new.items) && guarded_match time dims found.new.items) ≡ ((every_matches time dims (conditions_in kept.old.items) && guarded_match time dims found.old.items) && matches time dims (condition_in filter))) }
-{
-    match texts_of_opposite(alloc, &filter, place)? {
-        Some(texts) => found.push(Guarded { texts, filter })?,
-        None => kept.push(filter)?,
-    }
-    Ok(())
-}
-
-// Puts what guarded filters ask behind others.
-fn put_all(filters: &mut Vec<FilterTree>, found: Vec<Guarded>) -> Result<(), AllocError>
-    ensures { OnOk result ((time : ℤ) (dims : List (List ℕ)) → every_matches time dims (conditions_in filters.new.items) ≡ (every_matches time dims (conditions_in filters.old.items) && guarded_match time dims found.items)) }
+    ensures { OnOk result ((time : ℤ) (dims : List (List ℕ)) → every_matches time dims (conditions_in filters.new.items) ≡ (every_matches time dims (conditions_in filters.old.items) && all_met place time dims found.items)) }
 {
     for one in found {
-        filters.push(one.filter)?;
+        let filter = filter_of(alloc, place, one)?;
+        filters.push(filter)?;
     }
     Ok(())
 }
@@ -88,8 +75,7 @@ fn paired_often(
     place: Option<usize>,
     found: Vec<Guarded>,
 ) -> Result<Vec<Guarded>, AllocError>
-    requires { AreGuarded place found.items }
-    ensures { IfOk result (λ r. (time : ℤ) (dims : List (List ℕ)) → guarded_match time dims r.items ≡ guarded_match time dims found.items) }
+    ensures { IfOk result (λ r. (time : ℤ) (dims : List (List ℕ)) → all_met place time dims r.items ≡ all_met place time dims found.items) }
 {
     let mut left = found;
     for _ in 0..ROUNDS {
@@ -104,9 +90,7 @@ fn paired(
     place: Option<usize>,
     found: Vec<Guarded>,
 ) -> Result<Vec<Guarded>, AllocError>
-    requires { AreGuarded place found.items }
-    ensures are { IfOk result (λ r. AreGuarded place r.items) }
-    ensures same { IfOk result (λ r. (time : ℤ) (dims : List (List ℕ)) → guarded_match time dims r.items ≡ guarded_match time dims found.items) }
+    ensures { IfOk result (λ r. (time : ℤ) (dims : List (List ℕ)) → all_met place time dims r.items ≡ all_met place time dims found.items) }
 {
     let mut left = found;
     let mut pairs = Vec::new(alloc);
@@ -124,12 +108,8 @@ fn with_another(
     others: &mut Vec<Guarded>,
     one: Guarded,
 ) -> Result<Guarded, AllocError>
-    requires others { AreGuarded place others.old.items }
-    requires one { IsGuarded place one }
-    ensures others { OnOk result (AreGuarded place others.new.items) }
     ensures fewer { OnOk result (length others.new.items ≤ length others.old.items) }
-    ensures pair { IfOk result (λ r. IsGuarded place r) }
-    ensures same { IfOk result (λ r. (time : ℤ) (dims : List (List ℕ)) → (guarded_match time dims others.new.items && matches time dims (condition_in r.filter)) ≡ (guarded_match time dims others.old.items && matches time dims (condition_in one.filter))) }
+    ensures same { IfOk result (λ r. (time : ℤ) (dims : List (List ℕ)) → (all_met place time dims others.new.items && is_met place time dims r) ≡ (all_met place time dims others.old.items && is_met place time dims one)) }
 {
     match others.pop() {
         Some(other) => Ok(pair_of(alloc, place, other, one)?),
@@ -144,33 +124,26 @@ fn pair_of(
     one: Guarded,
     other: Guarded,
 ) -> Result<Guarded, AllocError>
-    requires one { IsGuarded place one }
-    requires other { IsGuarded place other }
-    ensures pair { IfOk result (λ r. IsGuarded place r) }
-    ensures same { IfOk result (λ r. (time : ℤ) (dims : List (List ℕ)) → matches time dims (condition_in r.filter) ≡ (matches time dims (condition_in one.filter) && matches time dims (condition_in other.filter))) }
+    ensures { IfOk result (λ r. (time : ℤ) (dims : List (List ℕ)) → is_met place time dims r ≡ (is_met place time dims one && is_met place time dims other)) }
 {
-    let mut texts = one.texts;
+    let mut texts = TextSet::new(alloc);
+    texts.add_all(&one.texts)?;
     texts.add_all(&other.texts)?;
-    let filter = both(alloc, one.filter, other.filter)?;
-    let filter = behind_texts(alloc, place, &texts, filter)?;
-    Ok(Guarded { texts, filter })
+    let first = filter_of(alloc, place, one)?;
+    let second = filter_of(alloc, place, other)?;
+    let none = both(alloc, first, second)?;
+    let rest = none.denied(alloc)?;
+    Ok(Guarded { texts, rest })
 }
 
-// That a filter holds, which is asked only of a row that has one of some texts, and told of each other one.
-fn behind_texts(
-    alloc: Global,
-    place: Option<usize>,
-    texts: &TextSet,
-    filter: FilterTree,
-) -> Result<FilterTree, AllocError>
-    ensures { IfOk result (λ f. (time : ℤ) (dims : List (List ℕ)) → matches time dims (condition_in f) ≡ not (list_any (bytes_eq (value_at place dims)) texts.now && not (matches time dims (condition_in filter)))) }
+// One filter for a guarded one: its other filter is asked only of a row that has one of the texts.
+fn filter_of(alloc: Global, place: Option<usize>, one: Guarded) -> Result<FilterTree, AllocError>
+    ensures { IfOk result (λ f. (time : ℤ) (dims : List (List ℕ)) → matches time dims (condition_in f) ≡ is_met place time dims one) }
 {
-    let mut asked = TextSet::new(alloc);
-    asked.add_all(texts)?;
-    let test = ValueTest::Among(asked);
+    let Guarded { texts, rest } = one;
+    let test = ValueTest::Among(texts);
     let has_one = FilterTree::of_test(DimensionTest { place, test });
-    let fails = filter.denied(alloc)?;
-    Ok(both(alloc, has_one, fails)?.denied(alloc)?)
+    Ok(both(alloc, has_one, rest)?.denied(alloc)?)
 }
 
 // That both of two filters hold.

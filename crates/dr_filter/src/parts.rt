@@ -112,8 +112,29 @@ impl Parts {
         Ok(())
     }
 
-    // One filter for all of them, in which the tests of a dimension are joined and the intervals are one.
+    // One filter for all of them, in which the tests of a dimension are joined, the intervals are one, and the filters a tree, where
+    // they are many.
     pub(crate) fn made(self, alloc: Global) -> Result<FilterTree, AllocError>
+        ensures { IfOk result (λ f. (time : ℤ) (dims : List (List ℕ)) → matches time dims (condition_in f) ≡ parts_match time dims self) }
+    {
+        let Parts {
+            tests,
+            times,
+            no_times,
+            others,
+        } = self;
+        let others = guarded(alloc, others)?;
+        let parts = Parts {
+            tests,
+            times,
+            no_times,
+            others,
+        };
+        Ok(parts.joined(alloc)?)
+    }
+
+    // One filter for all of them, in which the tests of a dimension are joined and the intervals are one.
+    pub(crate) fn joined(self, alloc: Global) -> Result<FilterTree, AllocError>
         ensures { IfOk result (λ f. (time : ℤ) (dims : List (List ℕ)) → matches time dims (condition_in f) ≡ parts_match time dims self) }
     {
         let Parts {
@@ -129,7 +150,7 @@ impl Parts {
             return Ok(all_of(members));
         }
         put_times(alloc, &mut members, times.as_slice(), no_times.as_slice())?;
-        put_filters(&mut members, guarded(alloc, others)?)?;
+        put_filters(&mut members, others)?;
         Ok(all_of(members))
     }
 }

@@ -1,12 +1,31 @@
--- What groups meet only with one of some texts, one by one and two as one.
-use Rattle.std.proofs.Common.{◌≡◌, ◌∙◌, sym, refl, ap, Bool, true, false, not, ◌&&◌, ◌||◌, ℕ, zero, suc, ◌<◌, ℤ, List, [], ◌∷◌, ◌++◌, length, get_or, Option, Some, None, IfSome, true≢false, arith}
+-- What no group meets without one of some texts: one more, two as one, and those with the same texts.
+use Rattle.std.specs.Cmp.Lexicographic.{pointwise, bytes_decides}
+use Rattle.std.proofs.Common.{◌≡◌, ◌∙◌, sym, refl, ap, Bool, true, false, not, ◌&&◌, ◌||◌, ℕ, ◌<◌, ℤ, List, [], ◌∷◌, ◌++◌, length, map, get_or, set, bytes_eq, true≢false, Result, Ok, Err, OnOk, arith}
+use Rattle.std.proofs.lemmas.List.{get_or_read}
 use Rattle.dr_base.proofs.Truths.{and_regroups, and_true}
 use Rattle.dr_having.specs.declared.asked_having.AskedHaving.{AskedHaving}
-use Rattle.dr_having.specs.declared.asked_output.AskedOutput.{AskedOutput}
+use Rattle.dr_having.specs.declared.conjunction.Conjunction.{Conjunction}
+use Rattle.dr_having.specs.declared.group.Group.{Group}
 use Rattle.dr_having.specs.declared.guarded.Guarded.{Guarded}
 use Rattle.dr_having.specs.Asked.{asked_meets}
-use Rattle.dr_having.specs.Guards.{AreGuarded, IsGuarded, none_guarded, none_met}
-use Rattle.dr_having.specs.OutputMeets.{output_meets, outputs_meet}
+use Rattle.dr_having.specs.Gathered.{conjunction_meets}
+use Rattle.dr_having.specs.Guards.{none_met, is_among, is_met, all_met, is_group_met, groups_met}
+use Rattle.dr_having.proofs.Collecting.{list_all-set, list_all-push}
+
+pub turned : (a b c : Bool) → ((a && b) && c) ≡ (a && (c && b))
+turned a b c = grind (arith)
+
+-- what two deny of groups that have a text of the one or of the other
+pub one-for-both : (a b x y : Bool) → not ((a || b) && not (not (a && x) && not (b && y))) ≡ (not (a && x) && not (b && y))
+one-for-both a b x y = grind (arith)
+
+-- what is denied besides, of groups that have one of the same texts
+one-denied : (a none x : Bool) → not (a && not (none && not x)) ≡ (not (a && not none) && not (a && x))
+one-denied a none x = grind (arith)
+
+-- and where it is the first
+first-denied : (a x : Bool) → not (a && not (true && not x)) ≡ not (a && x)
+first-denied a x = grind (arith)
 
 module _ (dims : List (List ℕ)) (values : List ℤ) where
   none-behind : (denied : List AskedHaving) (a : AskedHaving) → none_met dims values (denied ++ a ∷ []) ≡ (none_met dims values denied && not (asked_meets dims values a))
@@ -18,52 +37,46 @@ module _ (dims : List (List ℕ)) (values : List ℤ) where
   pub none-one-behind : (denied all : List AskedHaving) (a : AskedHaving) → all ≡ denied ++ a ∷ [] → none_met dims values all ≡ (none_met dims values denied && not (asked_meets dims values a))
   none-one-behind denied all a is = ap (none_met dims values) is ∙ none-behind denied a
 
-  pub guarded-behind : (gs : List Guarded) (g : Guarded) → none_guarded dims values (gs ++ g ∷ []) ≡ (none_guarded dims values gs && not (asked_meets dims values g.asked))
-  guarded-behind [] g = and_true (not (asked_meets dims values g.asked))
-  guarded-behind (x ∷ xs) g =
-      let met = asked_meets dims values x.asked in
-      ap (λ b. not met && b) (guarded-behind xs g) ∙ and_regroups (not met) (none_guarded dims values xs) (not (asked_meets dims values g.asked))
+pub met-behind : (place : ℕ) (dims : List (List ℕ)) (values : List ℤ) (gs all : List Guarded) (g : Guarded) → all ≡ gs ++ g ∷ [] → all_met place dims values all ≡ (all_met place dims values gs && is_met place dims values g)
+met-behind place dims values gs all g is = ap (all_met place dims values) is ∙ list_all-push (is_met place dims values) gs g
 
-module _ (place : ℕ) where
-  pub all-behind : (gs : List Guarded) (g : Guarded) → AreGuarded place gs → IsGuarded place g → AreGuarded place (gs ++ g ∷ [])
-  all-behind [] g are is = (is, tt)
-  all-behind (x ∷ xs) g are is = (are.0, all-behind xs g are.1 is)
+pub group-more : {E : Type 0} (gs : List Group) (i : ℕ) (at old : Group) (none : Conjunction) (one : Guarded) (r : Result (Unit {0}) E) → i < length gs → at ≡ get_or gs i at → at.texts ≡ one.texts → old ≡ get_or gs i old
+    → OnOk r ((dims : List (List ℕ)) (values : List ℤ) → conjunction_meets dims values none ≡ (conjunction_meets dims values old.none && not (asked_meets dims values one.rest)))
+    → OnOk r ((place : ℕ) (dims : List (List ℕ)) (values : List ℤ) → groups_met place dims values (set gs i (record { texts = old.texts; none = none })) ≡ (groups_met place dims values gs && is_met place dims values one))
+group-more gs i at old none one (Ok u) lt is_at texts is more = λ place dims values.
+    let same : old.texts ≡ one.texts = ap (λ g. g.texts) (get_or_read gs i old lt is at ∙ sym is_at) ∙ texts in
+    let denied = asked_meets dims values one.rest in
+    list_all-set (is_group_met place dims values) old (record { texts = old.texts; none = none }) (is_met place dims values one) gs i lt is
+    ((λ k. not (is_among place dims old.texts && not (more dims values k)))
+    ∙ one-denied (is_among place dims old.texts) (conjunction_meets dims values old.none) denied
+    ∙ (λ k. is_group_met place dims values old && not (is_among place dims (same k) && denied)))
+group-more gs i at old none one (Err e) lt is_at texts is more = tt
 
-  pub one-last : (gs : List Guarded) (g : Guarded) → AreGuarded place (gs ++ g ∷ []) → IsGuarded place g
-  one-last [] g are = are.0
-  one-last (x ∷ xs) g are = one-last xs g are.1
+pub group-behind : (gs all : List Group) (empty none : Conjunction) (one : Guarded) → ((dims : List (List ℕ)) (values : List ℤ) → conjunction_meets dims values empty ≡ true)
+    → ((dims : List (List ℕ)) (values : List ℤ) → conjunction_meets dims values none ≡ (conjunction_meets dims values empty && not (asked_meets dims values one.rest))) → all ≡ gs ++ (record { texts = one.texts; none = none }) ∷ []
+    → (place : ℕ) (dims : List (List ℕ)) (values : List ℤ) → groups_met place dims values all ≡ (groups_met place dims values gs && is_met place dims values one)
+group-behind gs all empty none one holds more is = λ place dims values.
+    let among = is_among place dims one.texts in
+    let denied = asked_meets dims values one.rest in
+    let group : Group = record { texts = one.texts; none = none } in
+    ap (groups_met place dims values) is ∙ list_all-push (is_group_met place dims values) gs group
+    ∙ (λ k. groups_met place dims values gs && not (among && not ((more dims values ∙ ap (λ b. b && not denied) (holds dims values)) k)))
+    ∙ ap (λ b. groups_met place dims values gs && b) (first-denied among denied)
 
--- a group that has one of some texts wherever it meets either of two conditions
-pub asked-where-needed : (among a b : Bool) → (a ≡ true → among ≡ true) → (b ≡ true → among ≡ true) → not (among && not (not a && not b)) ≡ (not a && not b)
-asked-where-needed true true b h k = refl
-asked-where-needed true false true h k = refl
-asked-where-needed true false false h k = refl
-asked-where-needed false true b h k = absurd (true≢false (sym (h refl)))
-asked-where-needed false false true h k = absurd (true≢false (sym (k refl)))
-asked-where-needed false false false h k = refl
+pub none-left : {A : Type 0} (xs : List A) → length xs ≡ 0 → xs ≡ []
+none-left [] h = refl
+none-left (x ∷ xs) h = absurd (omega (arith, h))
 
-pub in_either : (a b : Bool) → a ≡ true → (a || b) ≡ true
-in_either true b h = refl
-in_either false b h = absurd (true≢false (sym h))
-
-pub in_other : (a b : Bool) → b ≡ true → (a || b) ≡ true
-in_other true b h = refl
-in_other false b h = h
-
-pub turned : (a b c : Bool) → ((a && b) && c) ≡ (a && (c && b))
-turned a b c = grind (arith)
+-- ---- texts that are the same
 
 both_parts : (a b : Bool) → (a && b) ≡ true → (a ≡ true) × (b ≡ true)
 both_parts true b h = (refl, h)
 both_parts false b h = absurd (true≢false (sym h))
 
--- all that is asked of outputs is so, and so is what is asked at a place
-pub output-there : (dims : List (List ℕ)) (values : List ℤ) (os : List AskedOutput) (i : ℕ) (o : AskedOutput) → i < length os → o ≡ get_or os i o → outputs_meet dims values os ≡ true → output_meets dims values o ≡ true
-output-there dims values [] i o lt is h = absurd (omega (arith, lt))
-output-there dims values (x ∷ xs) zero o lt is h = ap (output_meets dims values) is ∙ (both_parts (output_meets dims values x) (outputs_meet dims values xs) h).0
-output-there dims values (x ∷ xs) (suc i) o lt is h = output-there dims values xs i o (omega (arith, lt)) is (both_parts (output_meets dims values x) (outputs_meet dims values xs) h).1
-
--- what is known of texts, where there are any, says another thing of them
-pub some_more : (texts : Option (List (List ℕ))) (P Q : List (List ℕ) → Type 0) → ((t : List (List ℕ)) → P t → Q t) → IfSome texts P → IfSome texts Q
-some_more None P Q more h = h
-some_more (Some t) P Q more h = more t h
+pub same-texts : {A : Type 0} (f : A → List ℕ) (xs ys : List A) → pointwise (λ x y. bytes_eq (f x) (f y)) xs ys ≡ true → map f xs ≡ map f ys
+same-texts f [] [] h = refl
+same-texts f [] (y ∷ ys) h = absurd (true≢false (sym h))
+same-texts f (x ∷ xs) [] h = absurd (true≢false (sym h))
+same-texts f (x ∷ xs) (y ∷ ys) h =
+    let parts = both_parts (bytes_eq (f x) (f y)) (pointwise (λ a b. bytes_eq (f a) (f b)) xs ys) h in
+    (λ k. (bytes_decides (f x) (f y)).0 parts.0 k ∷ same-texts f xs ys parts.1 k)

@@ -1,24 +1,36 @@
--- What is asked of groups of which each meets it only with one of some texts. No public contract cites this file.
-use Rattle.std.specs.Prelude.{◌≡◌, ℕ, ℤ, Bool, true, not, List, map, bytes_eq}
-use Rattle.std.specs.List.{list_any, list_all, AllByRecursion}
+-- What no group meets without one of some texts. No public contract cites this file.
+use Rattle.std.specs.Prelude.{ℕ, ℤ, Bool, true, not, ◌&&◌, List, map, Option, Some, None, bytes_eq}
+use Rattle.std.specs.List.{list_any, list_all}
 use Rattle.dr_having.specs.declared.asked_having.AskedHaving.{AskedHaving}
+use Rattle.dr_having.specs.declared.group.Group.{Group}
 use Rattle.dr_having.specs.declared.guarded.Guarded.{Guarded}
 use Rattle.dr_having.specs.Asked.{asked_meets}
+use Rattle.dr_having.specs.Gathered.{conjunction_meets}
 use Rattle.dr_outputs.specs.Numbered.{text_at}
-
--- a group meets it only where the value of the dimension at a place is one of the texts
-abbrev pub MeetsAmong : ℕ → List (List ℕ) → AskedHaving → Type 0
-MeetsAmong place texts asked = (dims : List (List ℕ)) (values : List ℤ) → asked_meets dims values asked ≡ true → list_any (bytes_eq (text_at place dims)) texts ≡ true
-
-abbrev pub IsGuarded : ℕ → Guarded → Type 0
-IsGuarded place g = MeetsAmong place g.texts g.asked
-
-abbrev pub AreGuarded : ℕ → List Guarded → Type 0
-AreGuarded place gs = AllByRecursion (IsGuarded place) gs
 
 -- a group meets none of them
 abbrev pub none_met : List (List ℕ) → List ℤ → List AskedHaving → Bool
 none_met dims values denied = list_all not (map (asked_meets dims values) denied)
 
-abbrev pub none_guarded : List (List ℕ) → List ℤ → List Guarded → Bool
-none_guarded dims values gs = list_all (λ g. not (asked_meets dims values g.asked)) gs
+-- the value of the dimension at a place is one of some texts
+abbrev pub is_among : ℕ → List (List ℕ) → List (List ℕ) → Bool
+is_among place dims texts = list_any (bytes_eq (text_at place dims)) texts
+
+-- the same, where texts are asked for
+abbrev pub is_among_some : ℕ → List (List ℕ) → Option (List (List ℕ)) → Bool
+is_among_some place dims None = true
+is_among_some place dims (Some texts) = is_among place dims texts
+
+-- a group has none of the texts, or doesn't meet the other condition
+abbrev pub is_met : ℕ → List (List ℕ) → List ℤ → Guarded → Bool
+is_met place dims values g = not (is_among place dims g.texts && asked_meets dims values g.rest)
+
+abbrev pub all_met : ℕ → List (List ℕ) → List ℤ → List Guarded → Bool
+all_met place dims values gs = list_all (is_met place dims values) gs
+
+-- a group has none of the texts, or meets all that is asked of those who have one
+abbrev pub is_group_met : ℕ → List (List ℕ) → List ℤ → Group → Bool
+is_group_met place dims values g = not (is_among place dims g.texts && not (conjunction_meets dims values g.none))
+
+abbrev pub groups_met : ℕ → List (List ℕ) → List ℤ → List Group → Bool
+groups_met place dims values gs = list_all (is_group_met place dims values) gs

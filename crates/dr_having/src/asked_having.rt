@@ -1,6 +1,7 @@
-ghost use Rattle.std.specs.Prelude.{◌≡◌, not, map, ℕ, ℤ, List};
+ghost use Rattle.std.specs.Prelude.{◌≡◌, ◌&&◌, not, map, ℕ, ℤ, List};
 ghost use Rattle.std.specs.List.{list_all};
 ghost use Rattle.dr_having.specs.Asked.{asked_meets};
+ghost use Rattle.dr_having.specs.Guards.{none_met};
 ghost use Rattle.dr_having.specs.OutputMeets.{outputs_meet};
 
 use crate::asked_output::AskedOutput;
@@ -24,6 +25,20 @@ impl AskedHaving {
             outputs,
             denied: Vec::new(alloc),
         }
+    }
+
+    // What is asked of outputs, and some conditions of which none is to hold.
+    pub(crate) fn of_parts(outputs: Vec<AskedOutput>, denied: Vec<AskedHaving>) -> AskedHaving
+        ensures { (dims : List (List ℕ)) (values : List ℤ) → asked_meets dims values result ≡ (outputs_meet dims values outputs.items && none_met dims values denied.items) }
+    {
+        AskedHaving { outputs, denied }
+    }
+
+    // These.
+    pub(crate) fn into_parts(self) -> (Vec<AskedOutput>, Vec<AskedHaving>)
+        ensures { (dims : List (List ℕ)) (values : List ℤ) → asked_meets dims values self ≡ (outputs_meet dims values result.0.items && none_met dims values result.1.items) }
+    {
+        (self.outputs, self.denied)
     }
 
     /// Whether a group meets it: its dimension values and the values of its aggregations, each in the order of the query. It

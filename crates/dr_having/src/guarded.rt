@@ -1,9 +1,9 @@
 use crate::asked_having::AskedHaving;
 use dr_dict::TextSet;
 
-/// What is asked of a group, which each group without one of some texts, as its value of one dimension, doesn't meet; and these texts.
+/// That a group has none of some texts, as its value of one dimension, or doesn't meet another condition.
 #[derive(Debug, Drop)]
 pub struct Guarded {
     pub texts: TextSet,
-    pub asked: AskedHaving,
+    pub rest: AskedHaving,
 }

@@ -1,15 +1,14 @@
-ghost use Rattle.std.specs.Prelude.{◌≡◌, ◌≤◌, ◌&&◌, not, ℕ, ℤ, List, length, IfOk, OnOk, bytes_eq};
-ghost use Rattle.std.specs.List.{list_any};
+ghost use Rattle.std.specs.Prelude.{◌≡◌, ◌≤◌, ◌&&◌, not, ℕ, ℤ, List, length, IfOk, OnOk};
 ghost use Rattle.dr_having.specs.Asked.{asked_meets};
-ghost use Rattle.dr_having.specs.Guards.{AreGuarded, IsGuarded, none_guarded, none_met};
-ghost use Rattle.dr_outputs.specs.Numbered.{text_at};
+ghost use Rattle.dr_having.specs.Guards.{all_met, is_among, is_met, none_met};
 
 use crate::asked_having::AskedHaving;
 use crate::asked_output::AskedOutput;
+use crate::grouping::grouped;
 use crate::guarded::Guarded;
 use crate::most_texts::place_of_most_texts;
+use crate::splitting::put;
 use crate::text_look_up::TextLookUp;
-use crate::texts_asked::texts_of;
 use dr_dict::TextSet;
 use std::alloc::{AllocError, Global};
 
@@ -19,9 +18,10 @@ const MANY: usize = 16;
 // More rounds than any number of conditions takes, since each halves it.
 const ROUNDS: usize = 20;
 
-/// Conditions of which a group meets none just where it meets none of these. Where many ask for texts of one dimension, they are made
-/// a tree: two of them are asked only of a group that has a text for which one of the two asks, and so are two such pairs. The only
-/// error is that memory ran out. It takes expected time and memory by the texts times the logarithm of the number of conditions.
+/// Conditions of which a group meets none just where it meets none of these. Where many ask for texts of one dimension, those with the
+/// same texts are made one, and these a tree: two of them are asked only of a group that has a text for which one of the two asks, and
+/// so are two such pairs. The only error is that memory ran out. It takes expected time and memory by the texts times the logarithm of
+/// the number of conditions, and what joining takes of conditions with the same texts.
 pub fn guarded(alloc: Global, denied: Vec<AskedHaving>) -> Result<Vec<AskedHaving>, AllocError>
     ensures { IfOk result (λ r. (dims : List (List ℕ)) (values : List ℤ) → none_met dims values r.items ≡ none_met dims values denied.items) }
 {
@@ -47,36 +47,24 @@ fn guarded_at(
     for asked in denied {
         put(alloc, place, asked, &mut kept, &mut found)?;
     }
-    let tree = paired_often(alloc, place, found)?;
-    put_all(&mut kept, tree)?;
+    let groups = grouped(alloc, found)?;
+    let tree = paired_often(alloc, place, groups)?;
+    put_all(alloc, place, &mut kept, tree)?;
     Ok(kept)
 }
 
-// Puts a condition to those that are guarded by texts at a place, or to the others.
-fn put(
+// Puts what is guarded behind others.
+fn put_all(
     alloc: Global,
     place: usize,
-    asked: AskedHaving,
     kept: &mut Vec<AskedHaving>,
-    found: &mut Vec<Guarded>,
+    found: Vec<Guarded>,
 ) -> Result<(), AllocError>
-    requires { AreGuarded place found.old.items }
-    ensures are { OnOk result (AreGuarded place found.new.items) }
-    ensures same { OnOk result ((dims : List (List ℕ)) (values : List ℤ) → (none_met dims values kept.new.items && none_guarded dims values found.new.items) ≡ ((none_met dims values kept.old.items && none_guarded dims values found.old.items) && not (asked_meets dims values asked))) }
-{
-    match texts_of(alloc, &asked, place)? {
-        Some(texts) => found.push(Guarded { texts, asked })?,
-        None => kept.push(asked)?,
-    }
-    Ok(())
-}
-
-// Puts what is guarded behind others.
-fn put_all(kept: &mut Vec<AskedHaving>, found: Vec<Guarded>) -> Result<(), AllocError>
-    ensures { OnOk result ((dims : List (List ℕ)) (values : List ℤ) → none_met dims values kept.new.items ≡ (none_met dims values kept.old.items && none_guarded dims values found.items)) }
+    ensures { OnOk result ((dims : List (List ℕ)) (values : List ℤ) → none_met dims values kept.new.items ≡ (none_met dims values kept.old.items && all_met place dims values found.items)) }
 {
     for one in found {
-        kept.push(one.asked)?;
+        let asked = behind_texts(alloc, place, one)?;
+        kept.push(asked)?;
     }
     Ok(())
 }
@@ -87,8 +75,7 @@ fn paired_often(
     place: usize,
     found: Vec<Guarded>,
 ) -> Result<Vec<Guarded>, AllocError>
-    requires { AreGuarded place found.items }
-    ensures { IfOk result (λ r. (dims : List (List ℕ)) (values : List ℤ) → none_guarded dims values r.items ≡ none_guarded dims values found.items) }
+    ensures { IfOk result (λ r. (dims : List (List ℕ)) (values : List ℤ) → all_met place dims values r.items ≡ all_met place dims values found.items) }
 {
     let mut left = found;
     for _ in 0..ROUNDS {
@@ -99,9 +86,7 @@ fn paired_often(
 
 // One guarded condition for each two.
 fn paired(alloc: Global, place: usize, found: Vec<Guarded>) -> Result<Vec<Guarded>, AllocError>
-    requires { AreGuarded place found.items }
-    ensures are { IfOk result (λ r. AreGuarded place r.items) }
-    ensures same { IfOk result (λ r. (dims : List (List ℕ)) (values : List ℤ) → none_guarded dims values r.items ≡ none_guarded dims values found.items) }
+    ensures { IfOk result (λ r. (dims : List (List ℕ)) (values : List ℤ) → all_met place dims values r.items ≡ all_met place dims values found.items) }
 {
     let mut left = found;
     let mut pairs = Vec::new(alloc);
@@ -119,12 +104,8 @@ fn with_another(
     others: &mut Vec<Guarded>,
     one: Guarded,
 ) -> Result<Guarded, AllocError>
-    requires others { AreGuarded place others.old.items }
-    requires one { IsGuarded place one }
-    ensures others { OnOk result (AreGuarded place others.new.items) }
     ensures fewer { OnOk result (length others.new.items ≤ length others.old.items) }
-    ensures pair { IfOk result (λ r. IsGuarded place r) }
-    ensures same { IfOk result (λ r. (dims : List (List ℕ)) (values : List ℤ) → (none_guarded dims values others.new.items && not (asked_meets dims values r.asked)) ≡ (none_guarded dims values others.old.items && not (asked_meets dims values one.asked))) }
+    ensures same { IfOk result (λ r. (dims : List (List ℕ)) (values : List ℤ) → (all_met place dims values others.new.items && is_met place dims values r) ≡ (all_met place dims values others.old.items && is_met place dims values one)) }
 {
     match others.pop() {
         Some(other) => Ok(pair_of(alloc, place, other, one)?),
@@ -132,50 +113,41 @@ fn with_another(
     }
 }
 
-// Two guarded conditions as one, guarded by the texts of both: a group meets it where it meets one of the two.
+// Two guarded conditions as one, guarded by the texts of both.
 fn pair_of(alloc: Global, place: usize, one: Guarded, other: Guarded) -> Result<Guarded, AllocError>
-    requires one { IsGuarded place one }
-    requires other { IsGuarded place other }
-    ensures pair { IfOk result (λ r. IsGuarded place r) }
-    ensures same { IfOk result (λ r. (dims : List (List ℕ)) (values : List ℤ) → not (asked_meets dims values r.asked) ≡ (not (asked_meets dims values one.asked) && not (asked_meets dims values other.asked))) }
+    ensures { IfOk result (λ r. (dims : List (List ℕ)) (values : List ℤ) → is_met place dims values r ≡ (is_met place dims values one && is_met place dims values other)) }
 {
-    let mut texts = one.texts;
+    let mut texts = TextSet::new(alloc);
+    texts.add_all(&one.texts)?;
     texts.add_all(&other.texts)?;
-    let none = neither(alloc, one.asked, other.asked)?;
-    let asked = behind_texts(alloc, place, &texts, none)?;
-    Ok(Guarded { texts, asked })
+    let first = behind_texts(alloc, place, one)?;
+    let second = behind_texts(alloc, place, other)?;
+    let rest = one_of(alloc, first, second)?;
+    Ok(Guarded { texts, rest })
 }
 
-// That a group has one of some texts and doesn't meet a condition, which is asked only where it has.
-fn behind_texts(
-    alloc: Global,
-    place: usize,
-    texts: &TextSet,
-    none: AskedHaving,
-) -> Result<AskedHaving, AllocError>
-    ensures { IfOk result (λ a. (dims : List (List ℕ)) (values : List ℤ) → asked_meets dims values a ≡ (list_any (bytes_eq (text_at place dims)) texts.now && not (asked_meets dims values none))) }
+// One condition for what a guarded one denies: the rest is asked only of a group that has one of the texts.
+fn behind_texts(alloc: Global, place: usize, one: Guarded) -> Result<AskedHaving, AllocError>
+    ensures { IfOk result (λ a. (dims : List (List ℕ)) (values : List ℤ) → asked_meets dims values a ≡ (is_among place dims one.texts && asked_meets dims values one.rest)) }
 {
-    let mut asked = TextSet::new(alloc);
-    asked.add_all(texts)?;
+    let Guarded { texts, rest } = one;
+    let (others, denied) = rest.into_parts();
+    let mut others = others;
     let mut outputs = Vec::new(alloc);
-    outputs.push(AskedOutput::Text(TextLookUp {
-        place,
-        texts: asked,
-    }))?;
-    let mut denied = Vec::new(alloc);
-    denied.push(none)?;
-    Ok(AskedHaving { outputs, denied })
+    outputs.push(AskedOutput::Text(TextLookUp { place, texts }))?;
+    outputs.append(&mut others)?;
+    Ok(AskedHaving::of_parts(outputs, denied))
 }
 
-// That a group meets neither of two conditions.
-fn neither(alloc: Global, one: AskedHaving, other: AskedHaving) -> Result<AskedHaving, AllocError>
-    ensures { IfOk result (λ a. (dims : List (List ℕ)) (values : List ℤ) → asked_meets dims values a ≡ (not (asked_meets dims values one) && not (asked_meets dims values other))) }
+// That a group meets one of two conditions.
+fn one_of(alloc: Global, one: AskedHaving, other: AskedHaving) -> Result<AskedHaving, AllocError>
+    ensures { IfOk result (λ a. (dims : List (List ℕ)) (values : List ℤ) → asked_meets dims values a ≡ not (not (asked_meets dims values one) && not (asked_meets dims values other))) }
 {
+    let mut both = Vec::new(alloc);
+    both.push(one)?;
+    both.push(other)?;
+    let neither = AskedHaving::of_parts(Vec::new(alloc), both);
     let mut denied = Vec::new(alloc);
-    denied.push(one)?;
-    denied.push(other)?;
-    Ok(AskedHaving {
-        outputs: Vec::new(alloc),
-        denied,
-    })
+    denied.push(neither)?;
+    Ok(AskedHaving::of_parts(Vec::new(alloc), denied))
 }

@@ -1,7 +1,6 @@
-use Rattle.std.proofs.Common.{◌∙◌, sym, ap, subst, ◌&&◌, ◌∷◌, [], length, length-append, arith}
-use Rattle.dr_filter.specs.Condition.{condition_in, matches}
-use Rattle.dr_filter.specs.Guards.{AreGuarded, guarded_match}
-use Rattle.dr_filter.proofs.BehindTexts.{guarded-behind, all-behind, turned}
+use Rattle.std.proofs.Common.{◌∙◌, sym, ap, ◌&&◌, ◌∷◌, [], length, length-append, arith}
+use Rattle.dr_filter.specs.Guards.{all_met, is_met}
+use Rattle.dr_filter.proofs.BehindTexts.{met-behind, turned}
 use Rattle.dr_filter.proofs.guarding.paired.Goals as goal
 
 pub loop-last-smaller : goal.loop-last-smaller
@@ -12,19 +11,13 @@ loop-last-smaller c =
     omega (arith, fewer, split, count)
 
 pub loop-last-preserved : goal.loop-last-preserved
-loop-last-preserved c =
+loop-last-preserved c = λ time dims.
     let at = c.loop-last in
-    let last = c.in-Some.last in
-    let pair = c.in_ok-pair.pair in (
-      c.in_ok-pair.ensures.others,
-      subst (AreGuarded c.args.place) (sym c.in_ok-push.ensures.items) (all-behind c.args.place at.pairs.items pair at.invariant.1 c.in_ok-pair.ensures.pair),
-      λ time dims.
-          let made = guarded_match time dims at.pairs.items in
-          let rest = guarded_match time dims c.with_another.new.others.items in
-          let one = matches time dims (condition_in pair.filter) in
-          ap (λ l. guarded_match time dims l && rest) c.in_ok-push.ensures.items
-          ∙ ap (λ b. b && rest) (guarded-behind time dims at.pairs.items pair)
-          ∙ turned made one rest
-          ∙ ap (λ b. made && b) (c.in_ok-pair.ensures.same time dims ∙ sym (guarded-behind time dims c.pop.new.self.items last) ∙ ap (guarded_match time dims) (sym c.in-Some.ensures.items))
-          ∙ at.invariant.2 time dims,
-    )
+    let place = c.args.place in
+    let pair = c.in_ok-pair.pair in
+    let made = all_met place time dims at.pairs.items in
+    let rest = all_met place time dims c.with_another.new.others.items in
+    ap (λ b. b && rest) (met-behind place time dims at.pairs.items c.push.new.self.items pair c.in_ok-push.ensures.items)
+    ∙ turned made (is_met place time dims pair) rest
+    ∙ ap (λ b. made && b) (c.in_ok-pair.ensures.same time dims ∙ sym (met-behind place time dims c.pop.new.self.items _ c.in-Some.last c.in-Some.ensures.items))
+    ∙ at.invariant time dims

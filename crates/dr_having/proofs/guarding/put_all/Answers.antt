@@ -1,8 +1,7 @@
 use Rattle.std.proofs.Common.{◌≡◌, ◌∙◌, sym, ap, ◌&&◌, ◌∷◌, not, length, arith}
 use Rattle.std.specs.Vec.Iter.{into_iter_items}
 use Rattle.dr_base.proofs.Truths.{and_regroups}
-use Rattle.dr_having.specs.Asked.{asked_meets}
-use Rattle.dr_having.specs.Guards.{none_guarded, none_met}
+use Rattle.dr_having.specs.Guards.{all_met, is_met, none_met}
 use Rattle.dr_having.proofs.AmongTexts.{none-one-behind}
 use Rattle.dr_having.proofs.guarding.put_all.Goals as goal
 
@@ -10,12 +9,13 @@ pub loop-one-preserved : goal.loop-one-preserved
 loop-one-preserved c =
     let at = c.loop-one in
     let one = c.in-Some.one in
+    let place = c.args.place in
     let steps : into_iter_items at.one-iterator ≡ one ∷ into_iter_items c.next.new.self = c.in-Some.ensures.steps.0 in (
       (let len = at.invariant.0 in let gone = c.in-Some.ensures.steps.1 in let short = ap length steps in omega (arith, len, gone, short)),
       λ dims values.
           let before = none_met dims values at.kept.items in
-          let rest = none_guarded dims values (into_iter_items c.next.new.self) in
-          ap (λ b. b && rest) (none-one-behind dims values at.kept.items c.push.new.self.items _ c.in_ok-push.ensures.items)
-          ∙ sym (and_regroups before (not (asked_meets dims values one.asked)) rest)
-          ∙ ap (λ l. before && none_guarded dims values l) (sym steps) ∙ at.invariant.1 dims values,
+          let rest = all_met place dims values (into_iter_items c.next.new.self) in
+          ap (λ b. b && rest) (none-one-behind dims values at.kept.items c.push.new.self.items _ c.in_ok-push.ensures.items ∙ ap (λ b. before && not b) (c.in_ok-asked.ensures dims values))
+          ∙ sym (and_regroups before (is_met place dims values one) rest)
+          ∙ ap (λ l. before && all_met place dims values l) (sym steps) ∙ at.invariant.1 dims values,
     )
