@@ -256,6 +256,20 @@ def pairs(n):
     yield asked
 
 
+def windows(n):
+    """One value of a dimension in many stretches of time."""
+    yield spec()
+    for it in range(n):
+        yield event(BEGIN + it * 800, "p0")
+    clock = lambda second: f"2024-01-01T{second // 3600:02d}:{second // 60 % 60:02d}:{second % 60:02d}Z"
+    spans = [[f"{clock(it * 14)}/{clock(it * 14 + 5)}"] for it in range(5700)]
+    asked = series(filter=one_of(*({"type": "and", "fields": [selector("p0"), {"type": "interval", "dimension": "__time", "intervals": it}]} for it in spans)))
+    yield asked
+    yield f"seal {instant(1)}"
+    yield f"publish {instant(1)} 0 1"
+    yield asked
+
+
 def likes_of_each(n):
     yield spec()
     for it in range(n):
@@ -375,6 +389,7 @@ INPUTS = {
     "rows under an or of 15,000 likes of an end": (likes("%x"), 100000),
     "rows under an or of 15,000 likes of a part": (likes("%x%"), 100000),
     "rows under an or of 5,500 ands of two selectors": (pairs, 100000),
+    "rows under an or of 5,700 ands of one selector and an interval": (windows, 100000),
     "rows under an and of 15,000 likes of six kinds": (likes_of_each, 100000),
     "rows of 800 bytes under an and of 2,000 likes of growing texts": (likes_of_growing, 20000),
     "groups under a having that is an and of 7,500 ors of two comparisons": (asked_of_texts(ANDS_OF_A_HAVING), 100000),
