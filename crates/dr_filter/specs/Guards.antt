@@ -1,5 +1,5 @@
 -- Filters that hold of every row whose value of one dimension is none of some texts. No public contract cites this file.
-use Rattle.std.specs.Prelude.{ℕ, ℤ, Bool, true, not, ◌&&◌, List, Option, Some, None, bytes_eq}
+use Rattle.std.specs.Prelude.{ℕ, ℤ, Bool, true, not, ◌&&◌, List, Option, Some, None, bytes_eq, box_value}
 use Rattle.std.specs.List.{list_any, list_all}
 use Rattle.dr_predicate.specs.Match.{value_at}
 use Rattle.dr_filter.specs.declared.group.Group.{Group}
@@ -18,7 +18,7 @@ is_among_some place dims (Some texts) = is_among place dims texts
 
 -- a row has none of the texts, or doesn't meet the other filter
 abbrev pub is_met : Option ℕ → ℤ → List (List ℕ) → Guarded → Bool
-is_met place time dims g = not (is_among place dims g.texts && matches time dims (condition_in g.rest))
+is_met place time dims g = not (is_among place dims g.texts && matches time dims (condition_in (box_value g.rest)))
 
 abbrev pub all_met : Option ℕ → ℤ → List (List ℕ) → List Guarded → Bool
 all_met place time dims gs = list_all (is_met place time dims) gs

@@ -47,10 +47,10 @@ fn put_likely(
     let Guarded { texts, rest } = one;
     if likely < groups.len() && are_same(&groups[likely].texts, &texts) {
         let group = &mut groups[likely];
-        return group.none.add_made(alloc, rest, false);
+        return group.none.add_made(alloc, Box::into_inner(rest), false);
     }
     let mut none = Parts::new(alloc);
-    none.add_made(alloc, rest, false)?;
+    none.add_made(alloc, Box::into_inner(rest), false)?;
     groups.push(Group { texts, none })?;
     Ok(())
 }
@@ -68,7 +68,7 @@ fn ungrouped(alloc: Global, groups: Vec<Group>) -> Result<Vec<Guarded>, AllocErr
     for group in groups {
         let Group { texts, none } = group;
         let joined = none.joined(alloc)?;
-        let rest = opposite(alloc, joined)?;
+        let rest = Box::new(alloc, opposite(alloc, joined)?)?;
         found.push(Guarded { texts, rest })?;
     }
     Ok(found)

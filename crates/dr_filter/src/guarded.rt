@@ -5,5 +5,5 @@ use dr_dict::TextSet;
 #[derive(Drop)]
 pub struct Guarded {
     pub texts: TextSet,
-    pub rest: FilterTree,
+    pub rest: Box<FilterTree>,
 }

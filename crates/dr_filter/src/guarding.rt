@@ -1,4 +1,5 @@
-ghost use Rattle.std.specs.Prelude.{◌≡◌, ◌≤◌, ◌&&◌, ℕ, ℤ, List, length, IfOk, OnOk};
+ghost use Rattle.std.specs.Prelude.{◌≡◌, ◌≤◌, ◌&&◌, ◌||◌, not, ℕ, ℤ, List, length, IfOk, OnOk, bytes_eq, box_value};
+ghost use Rattle.std.specs.List.{list_any};
 ghost use Rattle.dr_filter.specs.Condition.{condition_in, conditions_in, matches, every_matches};
 ghost use Rattle.dr_filter.specs.Guards.{all_met, is_met};
 
@@ -64,7 +65,7 @@ fn put_all(
 {
     for one in found {
         let filter = filter_of(alloc, place, one)?;
-        filters.push(filter)?;
+        filters.push(Box::into_inner(filter))?;
     }
     Ok(())
 }
@@ -126,32 +127,47 @@ fn pair_of(
 ) -> Result<Guarded, AllocError>
     ensures { IfOk result (λ r. (time : ℤ) (dims : List (List ℕ)) → is_met place time dims r ≡ (is_met place time dims one && is_met place time dims other)) }
 {
-    let mut texts = TextSet::new(alloc);
-    texts.add_all(&one.texts)?;
-    texts.add_all(&other.texts)?;
+    let texts = texts_of_both(alloc, &one.texts, &other.texts)?;
     let first = filter_of(alloc, place, one)?;
     let second = filter_of(alloc, place, other)?;
-    let none = both(alloc, first, second)?;
-    let rest = none.denied(alloc)?;
+    let rest = not_both(alloc, first, second)?;
     Ok(Guarded { texts, rest })
 }
 
+fn texts_of_both(alloc: Global, texts: &TextSet, others: &TextSet) -> Result<TextSet, AllocError>
+    ensures { IfOk result (λ t. (text : List ℕ) → list_any (bytes_eq text) t ≡ (list_any (bytes_eq text) texts.now || list_any (bytes_eq text) others.now)) }
+{
+    let mut both = TextSet::new(alloc);
+    both.add_all(texts)?;
+    both.add_all(others)?;
+    Ok(both)
+}
+
 // One filter for a guarded one: its other filter is asked only of a row that has one of the texts.
-fn filter_of(alloc: Global, place: Option<usize>, one: Guarded) -> Result<FilterTree, AllocError>
-    ensures { IfOk result (λ f. (time : ℤ) (dims : List (List ℕ)) → matches time dims (condition_in f) ≡ is_met place time dims one) }
+fn filter_of(
+    alloc: Global,
+    place: Option<usize>,
+    one: Guarded,
+) -> Result<Box<FilterTree>, AllocError>
+    ensures { IfOk result (λ f. (time : ℤ) (dims : List (List ℕ)) → matches time dims (condition_in (box_value f)) ≡ is_met place time dims one) }
 {
     let Guarded { texts, rest } = one;
     let test = ValueTest::Among(texts);
-    let has_one = FilterTree::of_test(DimensionTest { place, test });
-    Ok(both(alloc, has_one, rest)?.denied(alloc)?)
+    let has_one = Box::new(alloc, FilterTree::of_test(DimensionTest { place, test }))?;
+    Ok(not_both(alloc, has_one, rest)?)
 }
 
-// That both of two filters hold.
-fn both(alloc: Global, one: FilterTree, other: FilterTree) -> Result<FilterTree, AllocError>
-    ensures { IfOk result (λ f. (time : ℤ) (dims : List (List ℕ)) → matches time dims (condition_in f) ≡ (matches time dims (condition_in one) && matches time dims (condition_in other))) }
+// That not both of two filters hold.
+fn not_both(
+    alloc: Global,
+    one: Box<FilterTree>,
+    other: Box<FilterTree>,
+) -> Result<Box<FilterTree>, AllocError>
+    ensures { IfOk result (λ f. (time : ℤ) (dims : List (List ℕ)) → matches time dims (condition_in (box_value f)) ≡ not (matches time dims (condition_in (box_value one)) && matches time dims (condition_in (box_value other)))) }
 {
     let mut members = Vec::new(alloc);
-    members.push(one)?;
-    members.push(other)?;
-    Ok(all_of(members))
+    members.push(Box::into_inner(one))?;
+    members.push(Box::into_inner(other))?;
+    let denied = all_of(members).denied(alloc)?;
+    Ok(Box::new(alloc, denied)?)
 }

@@ -64,7 +64,10 @@ fn put_not_all(
     }
     let rest = all_of(others);
     match texts {
-        Some(texts) => found.push(Guarded { texts, rest })?,
+        Some(texts) => {
+            let rest = Box::new(alloc, rest)?;
+            found.push(Guarded { texts, rest })?;
+        }
         None => {
             let opposite = rest.denied(alloc)?;
             kept.push(opposite)?;

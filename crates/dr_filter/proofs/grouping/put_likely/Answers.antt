@@ -7,7 +7,7 @@ returns-then-are_same c =
     let groups = c.args.groups.now.items in
     let len : c.len.result ≡ length groups = search rules in
     let there : c.args.likely < length groups = let within = c.if-likely-len.true in omega (arith, within, len) in
-    group-more groups c.args.likely c.index.result.now c.index_mut-group.result.now c.add_made.new.self c.args.one c.add_made.result there c.index.ensures (c.are_same.ensures c.if-are_same.true) c.index_mut-group.ensures.value c.add_made.ensures
+    group-more groups c.args.likely c.index.result.now c.index_mut-group.result.now c.add_made.new.self c.args.one c.into_inner.result c.add_made.result there c.index.ensures (c.are_same.ensures c.if-are_same.true) c.index_mut-group.ensures.value c.into_inner.ensures c.add_made.ensures
 
 pub returns : goal.returns
-returns c = group-behind c.args.groups.now.items c.push.new.self.items c.new-none.result c.add_made-2.new.self c.args.one c.new-none.ensures c.in_ok-add_made.ensures c.in_ok-push.ensures.items
+returns c = group-behind c.args.groups.now.items c.push.new.self.items c.new-none.result c.add_made-2.new.self c.args.one c.into_inner-2.result c.new-none.ensures c.into_inner-2.ensures c.in_ok-add_made.ensures c.in_ok-push.ensures.items

@@ -1,6 +1,7 @@
 use Rattle.std.proofs.Common.{◌≡◌, ◌∙◌, sym, ap, ◌&&◌, ◌∷◌, not, length, arith}
 use Rattle.std.specs.Vec.Iter.{into_iter_items}
 use Rattle.dr_base.proofs.Truths.{and_regroups}
+use Rattle.dr_filter.specs.Condition.{condition_in, matches}
 use Rattle.dr_filter.specs.Guards.{all_met, groups_met, is_among, is_group_met}
 use Rattle.dr_filter.proofs.BehindTexts.{met-behind}
 use Rattle.dr_filter.proofs.grouping.ungrouped.Goals as goal
@@ -16,7 +17,7 @@ loop-group-preserved c =
           let rest = groups_met place time dims (into_iter_items c.next.new.self) in
           ap (λ b. b && rest)
           (met-behind place time dims at.found.items c.push.new.self.items _ c.in_ok-push.ensures.items
-          ∙ (λ k. before && not (is_among place dims group.texts && (c.in_ok-rest.ensures time dims ∙ ap not (c.in_ok-joined.ensures time dims)) k)))
+          ∙ (λ k. before && not (is_among place dims group.texts && ((λ j. matches time dims (condition_in (c.in_ok-rest.ensures.ok j))) ∙ c.in_ok-opposite.ensures time dims ∙ ap not (c.in_ok-joined.ensures time dims)) k)))
           ∙ sym (and_regroups before (is_group_met place time dims group) rest)
           ∙ ap (λ l. before && groups_met place time dims l) (sym steps) ∙ at.invariant.1 place time dims,
     )

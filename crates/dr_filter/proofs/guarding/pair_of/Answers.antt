@@ -1,4 +1,4 @@
-use Rattle.std.proofs.Common.{◌∙◌, ap, ◌&&◌, ◌||◌, not, bytes_eq}
+use Rattle.std.proofs.Common.{◌∙◌, ◌&&◌, not, bytes_eq, box_value}
 use Rattle.std.specs.List.{list_any}
 use Rattle.dr_predicate.specs.Match.{value_at}
 use Rattle.dr_filter.specs.Condition.{condition_in, matches}
@@ -10,11 +10,6 @@ returns c = λ time dims.
     let value = value_at c.args.place dims in
     let one = c.args.one in
     let other = c.args.other in
-    let among =
-    c.in_ok-add_all-2.ensures.found value
-    ∙ (λ k. c.in_ok-add_all.ensures.found value k || list_any (bytes_eq value) other.texts)
-    ∙ (λ k. (list_any (bytes_eq value) (c.new-texts.ensures k) || list_any (bytes_eq value) one.texts) || list_any (bytes_eq value) other.texts)
-    in
-    let denied = ap (matches time dims) c.in_ok-rest.ensures ∙ (λ k. not (c.in_ok-none.ensures time dims k)) ∙ (λ k. not (c.in_ok-first.ensures time dims k && c.in_ok-second.ensures time dims k)) in
-    (λ k. not (among k && denied k))
-    ∙ one-for-both (list_any (bytes_eq value) one.texts) (list_any (bytes_eq value) other.texts) (matches time dims (condition_in one.rest)) (matches time dims (condition_in other.rest))
+    (λ k. not (c.in_ok-texts.ensures value k && c.in_ok-rest.ensures time dims k))
+    ∙ (λ k. not (c.in_ok-texts.ensures value 1 && not (c.in_ok-first.ensures time dims k && c.in_ok-second.ensures time dims k)))
+    ∙ one-for-both (list_any (bytes_eq value) one.texts) (list_any (bytes_eq value) other.texts) (matches time dims (condition_in (box_value one.rest))) (matches time dims (condition_in (box_value other.rest)))

@@ -1,7 +1,7 @@
 use Rattle.std.proofs.Common.{◌≡◌, ◌∙◌, sym, ap, ◌&&◌, ◌∷◌, length, arith}
 use Rattle.std.specs.Vec.Iter.{into_iter_items}
 use Rattle.dr_base.proofs.Truths.{and_regroups}
-use Rattle.dr_filter.specs.Condition.{conditions_in, every_matches}
+use Rattle.dr_filter.specs.Condition.{condition_in, conditions_in, matches, every_matches}
 use Rattle.dr_filter.specs.Guards.{all_met, is_met}
 use Rattle.dr_filter.proofs.EveryMember.{every-one-behind}
 use Rattle.dr_filter.proofs.guarding.put_all.Goals as goal
@@ -16,7 +16,7 @@ loop-one-preserved c =
       λ time dims.
           let before = every_matches time dims (conditions_in at.filters.items) in
           let rest = all_met place time dims (into_iter_items c.next.new.self) in
-          ap (λ b. b && rest) (every-one-behind time dims at.filters.items c.push.new.self.items _ c.in_ok-push.ensures.items ∙ ap (λ b. before && b) (c.in_ok-filter.ensures time dims))
+          ap (λ b. b && rest) (every-one-behind time dims at.filters.items c.push.new.self.items _ c.in_ok-push.ensures.items ∙ ap (λ b. before && b) (ap (λ f. matches time dims (condition_in f)) c.into_inner.ensures ∙ c.in_ok-filter.ensures time dims))
           ∙ sym (and_regroups before (is_met place time dims one) rest)
           ∙ ap (λ l. before && all_met place time dims l) (sym steps) ∙ at.invariant.1 time dims,
     )
