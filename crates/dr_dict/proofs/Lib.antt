@@ -1,3 +1,4 @@
 pub mod Texts
+pub mod SameTexts
 pub mod SortedTexts
 pub mod AddedTexts

@@ -1,5 +1,7 @@
 ghost use Rattle.std.specs.Prelude.{◌≡◌, ◌∷◌, ◌++◌, [], true, false, not, length, map, string_bytes, take, IfOk, OnErr, bytes_eq};
+ghost use Rattle.std.specs.Cmp.Lexicographic.{pointwise};
 ghost use Rattle.std.specs.List.{list_any};
+ghost use Rattle.dr_dict.specs.Dictionary.{lines_of};
 
 use dr_base::Text;
 use indexmap::IndexSet;
@@ -67,6 +69,26 @@ impl TextSet {
         ensures { self.new ≡ take count self.old }
     {
         self.0.truncate(count);
+    }
+
+    /// Whether another set has the same texts in the same order. It takes no memory, and time by the bytes of the texts.
+    pub fn is_same_list(&self, others: &TextSet) -> bool
+        ensures { result ≡ pointwise bytes_eq self.now others.now }
+    {
+        self.as_texts() == others.as_texts()
+    }
+
+    /// The texts, each with a line break behind it: sets of the same list have the same lines. The only error is that memory ran out.
+    /// It takes time and memory by the bytes of the texts.
+    pub fn to_lines(&self) -> Result<String, AllocError>
+        ensures { IfOk result (λ lines. string_bytes lines ≡ lines_of self.now) }
+    {
+        let mut lines = String::new(*self.0.allocator());
+        for text in self.as_texts() {
+            lines.push_str(text.as_str())?;
+            lines.push_str("\n")?;
+        }
+        Ok(lines)
     }
 
     /// The texts, in the order in which they were added. It takes constant time and no memory.
