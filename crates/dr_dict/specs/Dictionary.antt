@@ -1,6 +1,6 @@
 -- Dictionaries of the values of a dimension (Apache Druid documentation, segments: dictionary encoding).
-use Rattle.std.specs.Prelude.{ℕ, List, [], ◌∷◌, ◌++◌, Option, bytes_eq, codes, if◌then◌else◌}
-use Rattle.std.specs.List.{flat_map, position, list_any}
+use Rattle.std.specs.Prelude.{ℕ, List, [], ◌∷◌, ◌++◌, Option, bytes_eq, if◌then◌else◌}
+use Rattle.std.specs.List.{position, list_any}
 
 -- distinct texts in the order in which they first came, and how many there may be
 pub record Dictionary : Type 0 where
@@ -18,7 +18,3 @@ with_text texts text = if list_any (bytes_eq text) texts then texts else texts +
 -- a dictionary with other texts
 abbrev pub with_texts : Dictionary → List (List ℕ) → Dictionary
 with_texts dict texts = record { limit = dict.limit; texts = texts }
-
--- each text with a line break behind it
-abbrev pub lines_of : List (List ℕ) → List ℕ
-lines_of texts = flat_map (λ text. text ++ codes "\n") texts

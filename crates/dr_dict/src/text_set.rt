@@ -1,7 +1,6 @@
 ghost use Rattle.std.specs.Prelude.{◌≡◌, ◌∷◌, ◌++◌, [], true, false, not, length, map, string_bytes, take, IfOk, OnErr, bytes_eq};
 ghost use Rattle.std.specs.Cmp.Lexicographic.{pointwise};
 ghost use Rattle.std.specs.List.{list_any};
-ghost use Rattle.dr_dict.specs.Dictionary.{lines_of};
 
 use dr_base::Text;
 use indexmap::IndexSet;
@@ -78,17 +77,16 @@ impl TextSet {
         self.as_texts() == others.as_texts()
     }
 
-    /// The texts, each with a line break behind it: sets of the same list have the same lines. The only error is that memory ran out.
-    /// It takes time and memory by the bytes of the texts.
-    pub fn to_lines(&self) -> Result<String, AllocError>
-        ensures { IfOk result (λ lines. string_bytes lines ≡ lines_of self.now) }
+    /// A copy of the list of them. The only error is that memory ran out. It takes time and memory by the bytes of the texts.
+    pub fn to_vec(&self) -> Result<Vec<String>, AllocError>
+        ensures { IfOk result (λ texts. map string_bytes texts.items ≡ self.now) }
     {
-        let mut lines = String::new(*self.0.allocator());
+        let alloc = *self.0.allocator();
+        let mut texts = Vec::with_capacity(alloc, self.count())?;
         for text in self.as_texts() {
-            lines.push_str(text.as_str())?;
-            lines.push_str("\n")?;
+            texts.push(String::from_str(alloc, text.as_str())?)?;
         }
-        Ok(lines)
+        Ok(texts)
     }
 
     /// The texts, in the order in which they were added. It takes constant time and no memory.
