@@ -1,6 +1,6 @@
 -- Lists of the same texts.
 use Rattle.std.specs.Cmp.Lexicographic.{pointwise, bytes_decides}
-use Rattle.std.proofs.Common.{◌≡◌, ◌∙◌, sym, refl, ap, Bool, true, false, ◌&&◌, ℕ, List, [], ◌∷◌, map, bytes_eq, true≢false}
+use Rattle.std.proofs.Common.{◌≡◌, sym, refl, ap, Bool, true, false, ◌&&◌, ℕ, List, [], ◌∷◌, map, bytes_eq, true≢false}
 
 both_parts : (a b : Bool) → (a && b) ≡ true → (a ≡ true) × (b ≡ true)
 both_parts true b h = (refl, h)

@@ -1,9 +1,8 @@
--- Filters that hold of every row without some texts: one more, two as one, and those with the same texts.
-use Rattle.std.specs.Cmp.Lexicographic.{pointwise, bytes_decides}
-use Rattle.std.proofs.Common.{◌≡◌, ◌∙◌, sym, refl, ap, Bool, true, false, not, ◌&&◌, ◌||◌, ℕ, zero, suc, ◌<◌, ℤ, List, [], ◌∷◌, ◌++◌, length, map, get_or, set, box_value, bytes_eq, true≢false, Option, Result, Ok, Err, OnOk, arith}
+-- Filters that hold of every row without some texts: one more, and those with the same texts.
+use Rattle.std.proofs.Common.{◌≡◌, ◌∙◌, sym, refl, ap, Bool, true, not, ◌&&◌, ℕ, zero, suc, ◌<◌, ℤ, List, [], ◌∷◌, ◌++◌, length, get_or, set, box_value, Option, Result, Ok, Err, OnOk, arith}
 use Rattle.std.proofs.lemmas.List.{get_or_read}
 use Rattle.std.proofs.lemmas.List.Folds.{list_all-append}
-use Rattle.dr_base.proofs.Truths.{and_ends, and_regroups, and_swaps}
+use Rattle.dr_base.proofs.Truths.{and_ends, and_regroups, and_swaps, denies_besides, denies_first}
 use Rattle.dr_filter.specs.declared.filter_tree.FilterTree.{FilterTree}
 use Rattle.dr_filter.specs.declared.group.Group.{Group}
 use Rattle.dr_filter.specs.declared.guarded.Guarded.{Guarded}
@@ -11,21 +10,6 @@ use Rattle.dr_filter.specs.declared.parts.Parts.{Parts}
 use Rattle.dr_filter.specs.Condition.{condition_in, matches}
 use Rattle.dr_filter.specs.Guards.{is_among, is_met, all_met, is_group_met, groups_met}
 use Rattle.dr_filter.specs.Parts.{parts_match}
-
-pub turned : (a b c : Bool) → ((a && b) && c) ≡ (a && (c && b))
-turned a b c = grind (arith)
-
--- what two deny of rows that have a text of the one or of the other
-pub one-for-both : (a b x y : Bool) → not ((a || b) && not (not (a && x) && not (b && y))) ≡ (not (a && x) && not (b && y))
-one-for-both a b x y = grind (arith)
-
--- what is denied besides, of rows that have one of the same texts
-one-denied : (a none x : Bool) → not (a && not (none && not x)) ≡ (not (a && not none) && not (a && x))
-one-denied a none x = grind (arith)
-
--- and where it is the first
-first-denied : (a x : Bool) → not (a && not (true && not x)) ≡ not (a && x)
-first-denied a x = grind (arith)
 
 module _ (place : Option ℕ) (time : ℤ) (dims : List (List ℕ)) where
   pub met-behind : (gs all : List Guarded) (g : Guarded) → all ≡ gs ++ g ∷ [] → all_met place time dims all ≡ (all_met place time dims gs && is_met place time dims g)
@@ -47,7 +31,7 @@ group-more gs i at old none one rest (Ok u) lt is_at texts is inside more = λ p
     let same : old.texts ≡ one.texts = ap (λ g. g.texts) (get_or_read gs i old lt is at ∙ sym is_at) ∙ texts in
     group-set place time dims gs i old (record { texts = old.texts; none = none }) (is_met place time dims one) lt is
     ((λ k. not (is_among place dims old.texts && not (more time dims k)))
-    ∙ one-denied (is_among place dims old.texts) (parts_match time dims old.none) (matches time dims (condition_in rest))
+    ∙ denies_besides (is_among place dims old.texts) (parts_match time dims old.none) (matches time dims (condition_in rest))
     ∙ (λ k. is_group_met place time dims old && not (is_among place dims (same k) && matches time dims (condition_in (inside k)))))
 group-more gs i at old none one rest (Err e) lt is_at texts is inside more = tt
 
@@ -60,22 +44,8 @@ group-behind gs all empty none one rest holds inside more is = λ place time dim
     let group : Group = record { texts = one.texts; none = none } in
     ap (groups_met place time dims) is ∙ list_all-append (is_group_met place time dims) gs (group ∷ []) ∙ and_ends (groups_met place time dims gs) (is_group_met place time dims group)
     ∙ (λ k. groups_met place time dims gs && not (among && not ((more time dims ∙ (λ j. holds time dims j && not (matches time dims (condition_in (inside j))))) k)))
-    ∙ ap (λ b. groups_met place time dims gs && b) (first-denied among denied)
+    ∙ ap (λ b. groups_met place time dims gs && b) (denies_first among denied)
 
 pub none-left : {A : Type 0} (xs : List A) → length xs ≡ 0 → xs ≡ []
 none-left [] h = refl
 none-left (x ∷ xs) h = absurd (omega (arith, h))
-
--- ---- texts that are the same
-
-both_parts : (a b : Bool) → (a && b) ≡ true → (a ≡ true) × (b ≡ true)
-both_parts true b h = (refl, h)
-both_parts false b h = absurd (true≢false (sym h))
-
-pub same-texts : {A : Type 0} (f : A → List ℕ) (xs ys : List A) → pointwise (λ x y. bytes_eq (f x) (f y)) xs ys ≡ true → map f xs ≡ map f ys
-same-texts f [] [] h = refl
-same-texts f [] (y ∷ ys) h = absurd (true≢false (sym h))
-same-texts f (x ∷ xs) [] h = absurd (true≢false (sym h))
-same-texts f (x ∷ xs) (y ∷ ys) h =
-    let parts = both_parts (bytes_eq (f x) (f y)) (pointwise (λ a b. bytes_eq (f a) (f b)) xs ys) h in
-    (λ k. (bytes_decides (f x) (f y)).0 parts.0 k ∷ same-texts f xs ys parts.1 k)

@@ -6,6 +6,9 @@ use dr_predicate::{DimensionTest, ValueTest};
 use dr_time::Union;
 use std::alloc::{AllocError, Global};
 
+// How many tests for texts stand one behind the other in a tree that is asked soonest row by row.
+const GUARDS: usize = 3;
+
 /// What is asked of the time and of the dimension values of a row: a test, or filters and how they are joined. Contracts see it as
 /// the condition that it stands for, `condition_in`.
 #[derive(Drop)]
@@ -45,12 +48,9 @@ impl FilterTree {
     }
 
     /// Whether it is a tree of many filters (see [`Filter::asked`](crate::Filter::asked)), of which a row is asked those alone that ask
-    /// for its text: it is asked soonest row by row. What a filter keeps doesn't depend on it. It takes constant time.
+    /// for its texts: it is asked soonest row by row. What a filter keeps doesn't depend on it. It takes time by the levels of the tree.
     pub fn is_guarded(&self) -> bool {
-        match first_behind_texts(self) {
-            Some(first) => has_pairs(first),
-            None => false,
-        }
+        has_guards(self, GUARDS)
     }
 
     /// Whether a row of this time, in milliseconds since the epoch, and these dimension values, in the order of the schema, meets the
@@ -93,52 +93,26 @@ fn some_matches(filters: &[FilterTree], time: i64, dims: &[Text]) -> bool
     false
 }
 
-// Whether a filter is, two levels down its first members, guarded by texts still.
-fn has_pairs(filter: &FilterTree) -> bool {
-    match first_behind_texts(filter) {
-        Some(first) => first_behind_texts(first).is_some(),
-        None => false,
+// Whether so many tests for texts stand one behind the other before the first that a filter asks besides.
+#[cycle(guards)]
+fn has_guards(filter: &FilterTree, guards: usize) -> bool {
+    match filter {
+        FilterTree::Not(denied) => has_guards(denied, guards),
+        FilterTree::And(members) => has_guards_in(members.as_slice(), guards),
+        _ => guards == 0,
     }
 }
 
-// The first of the two filters that a guarded one asks behind its texts: it is the opposite of an `and` of a test for texts and of
-// the opposite of both.
-fn first_behind_texts(filter: &FilterTree) -> Option<&FilterTree> {
-    match filter {
-        FilterTree::Not(denied) => first_of_asked(denied),
-        _ => None,
+// The same of an `and`: a test for texts is one before what its only other member asks.
+#[cycle(guards)]
+fn has_guards_in(members: &[FilterTree], guards: usize) -> bool {
+    if guards == 0 {
+        return true;
     }
-}
-
-fn first_of_asked(filter: &FilterTree) -> Option<&FilterTree> {
-    match filter {
-        FilterTree::And(members) => {
-            if members.len() != 2 || !asks_for_texts(&members[0]) {
-                return None;
-            }
-            first_of_opposite(&members[1])
-        }
-        _ => None,
-    }
-}
-
-fn first_of_opposite(filter: &FilterTree) -> Option<&FilterTree> {
-    match filter {
-        FilterTree::Not(both) => first_of_two(both),
-        _ => None,
-    }
-}
-
-fn first_of_two(filter: &FilterTree) -> Option<&FilterTree> {
-    match filter {
-        FilterTree::And(members) => {
-            if members.len() == 2 {
-                Some(&members[0])
-            } else {
-                None
-            }
-        }
-        _ => None,
+    match members {
+        [] => false,
+        [first, second] if asks_for_texts(first) => has_guards(second, guards - 1),
+        [first, ..] => has_guards(first, guards),
     }
 }
 

@@ -1,45 +1,58 @@
-ghost use Rattle.std.specs.Prelude.{◌≡◌, ◌≤◌, ◌&&◌, ◌||◌, not, ℕ, ℤ, List, length, IfOk, OnOk, bytes_eq, box_value};
-ghost use Rattle.std.specs.List.{list_any};
+ghost use Rattle.std.specs.Prelude.{◌≡◌, not, ℕ, ℤ, List, Option, IfOk};
 ghost use Rattle.dr_filter.specs.Condition.{condition_in, conditions_in, matches, every_matches};
-ghost use Rattle.dr_filter.specs.Guards.{all_met, is_met};
+ghost use Rattle.dr_filter.specs.Guards.{all_met, groups_met, is_met, is_group_met};
 
 use crate::filter_tree::FilterTree;
+use crate::group::Group;
 use crate::grouping::grouped;
 use crate::guarded::Guarded;
-use crate::members::all_of;
 use crate::most_texts::place_of_most_texts;
+use crate::pairing::put_paired;
+use crate::parts::Parts;
 use crate::splitting::put;
-use dr_dict::TextSet;
-use dr_predicate::{DimensionTest, ValueTest};
 use std::alloc::{AllocError, Global};
 
 // From how many filters on they are made a tree.
 const MANY: usize = 16;
 
-// More rounds than any number of filters takes, since each halves it.
-const ROUNDS: usize = 20;
+// How deep such trees may stand behind the texts of others: as deep as a row has dimensions.
+const LEVELS: usize = 64;
 
 /// Filters that all hold just where all of these do. Where many are the opposite of an `and` that asks for texts of one dimension,
-/// those with the same texts are made one, and these a tree: two of them are asked only of a row that has a text for which one of the
-/// two asks, and so are two such pairs. The only error is that memory ran out. It takes expected time and memory by the texts times
-/// the logarithm of the number of filters, and what joining takes of filters with the same texts.
+/// those with the same texts are made one, and these a tree; and so is what is asked besides of those with the same texts. The only
+/// error is that memory ran out. It takes expected time and memory by the texts times the logarithm of the number of filters, what
+/// joining takes of filters with the same texts, and for each further dimension by the filters that ask for texts of it too.
 pub fn guarded(alloc: Global, filters: Vec<FilterTree>) -> Result<Vec<FilterTree>, AllocError>
     ensures { IfOk result (λ r. (time : ℤ) (dims : List (List ℕ)) → every_matches time dims (conditions_in r.items) ≡ every_matches time dims (conditions_in filters.items)) }
 {
-    if filters.len() < MANY {
+    Ok(guarded_to(alloc, filters, LEVELS)?)
+}
+
+// The same, with trees behind the texts of others so deep at most.
+#[cycle(guarding)]
+fn guarded_to(
+    alloc: Global,
+    filters: Vec<FilterTree>,
+    levels: usize,
+) -> Result<Vec<FilterTree>, AllocError>
+    ensures { IfOk result (λ r. (time : ℤ) (dims : List (List ℕ)) → every_matches time dims (conditions_in r.items) ≡ every_matches time dims (conditions_in filters.items)) }
+{
+    if levels == 0 || filters.len() < MANY {
         return Ok(filters);
     }
     match place_of_most_texts(alloc, filters.as_slice())? {
-        Some(place) => Ok(guarded_at(alloc, Some(place), filters)?),
+        Some(place) => Ok(guarded_at(alloc, Some(place), filters, levels - 1)?),
         None => Ok(filters),
     }
 }
 
 // The same, by the texts of the dimension at a place.
+#[cycle(guarding)]
 fn guarded_at(
     alloc: Global,
     place: Option<usize>,
     filters: Vec<FilterTree>,
+    inside: usize,
 ) -> Result<Vec<FilterTree>, AllocError>
     ensures { IfOk result (λ r. (time : ℤ) (dims : List (List ℕ)) → every_matches time dims (conditions_in r.items) ≡ every_matches time dims (conditions_in filters.items)) }
 {
@@ -49,125 +62,54 @@ fn guarded_at(
         put(alloc, place, filter, &mut kept, &mut found)?;
     }
     let groups = grouped(alloc, found)?;
-    let tree = paired_often(alloc, place, groups)?;
-    put_all(alloc, place, &mut kept, tree)?;
+    let guards = guards_of(alloc, groups, inside)?;
+    put_paired(alloc, place, &mut kept, guards)?;
     Ok(kept)
 }
 
-// Puts what guarded filters ask behind others.
-fn put_all(
-    alloc: Global,
-    place: Option<usize>,
-    filters: &mut Vec<FilterTree>,
-    found: Vec<Guarded>,
-) -> Result<(), AllocError>
-    ensures { OnOk result ((time : ℤ) (dims : List (List ℕ)) → every_matches time dims (conditions_in filters.new.items) ≡ (every_matches time dims (conditions_in filters.old.items) && all_met place time dims found.items)) }
+// A guarded filter for each group.
+#[cycle(guarding)]
+fn guards_of(alloc: Global, groups: Vec<Group>, inside: usize) -> Result<Vec<Guarded>, AllocError>
+    ensures { IfOk result (λ r. (place : Option ℕ) (time : ℤ) (dims : List (List ℕ)) → all_met place time dims r.items ≡ groups_met place time dims groups.items) }
 {
-    for one in found {
-        let filter = filter_of(alloc, place, one)?;
-        filters.push(Box::into_inner(filter))?;
+    let mut guards = Vec::new(alloc);
+    for group in groups {
+        let guard = guard_of(alloc, group, inside)?;
+        guards.push(guard)?;
     }
-    Ok(())
+    Ok(guards)
 }
 
-// One guarded filter for all of some.
-fn paired_often(
-    alloc: Global,
-    place: Option<usize>,
-    found: Vec<Guarded>,
-) -> Result<Vec<Guarded>, AllocError>
-    ensures { IfOk result (λ r. (time : ℤ) (dims : List (List ℕ)) → all_met place time dims r.items ≡ all_met place time dims found.items) }
+// The guarded filter of a group: what is asked besides is joined, and the filters in it are made a tree.
+#[cycle(guarding)]
+fn guard_of(alloc: Global, group: Group, inside: usize) -> Result<Guarded, AllocError>
+    ensures { IfOk result (λ r. (place : Option ℕ) (time : ℤ) (dims : List (List ℕ)) → is_met place time dims r ≡ is_group_met place time dims group) }
 {
-    let mut left = found;
-    for _ in 0..ROUNDS {
-        left = paired(alloc, place, left)?;
-    }
-    Ok(left)
-}
-
-// One guarded filter for each two.
-fn paired(
-    alloc: Global,
-    place: Option<usize>,
-    found: Vec<Guarded>,
-) -> Result<Vec<Guarded>, AllocError>
-    ensures { IfOk result (λ r. (time : ℤ) (dims : List (List ℕ)) → all_met place time dims r.items ≡ all_met place time dims found.items) }
-{
-    let mut left = found;
-    let mut pairs = Vec::new(alloc);
-    while let Some(last) = left.pop() {
-        let pair = with_another(alloc, place, &mut left, last)?;
-        pairs.push(pair)?;
-    }
-    Ok(pairs)
-}
-
-// A guarded filter together with the last one of some, where there is any.
-fn with_another(
-    alloc: Global,
-    place: Option<usize>,
-    others: &mut Vec<Guarded>,
-    one: Guarded,
-) -> Result<Guarded, AllocError>
-    ensures fewer { OnOk result (length others.new.items ≤ length others.old.items) }
-    ensures same { IfOk result (λ r. (time : ℤ) (dims : List (List ℕ)) → (all_met place time dims others.new.items && is_met place time dims r) ≡ (all_met place time dims others.old.items && is_met place time dims one)) }
-{
-    match others.pop() {
-        Some(other) => Ok(pair_of(alloc, place, other, one)?),
-        None => Ok(one),
-    }
-}
-
-// Two guarded filters as one, guarded by the texts of both.
-fn pair_of(
-    alloc: Global,
-    place: Option<usize>,
-    one: Guarded,
-    other: Guarded,
-) -> Result<Guarded, AllocError>
-    ensures { IfOk result (λ r. (time : ℤ) (dims : List (List ℕ)) → is_met place time dims r ≡ (is_met place time dims one && is_met place time dims other)) }
-{
-    let texts = texts_of_both(alloc, &one.texts, &other.texts)?;
-    let first = filter_of(alloc, place, one)?;
-    let second = filter_of(alloc, place, other)?;
-    let rest = not_both(alloc, first, second)?;
+    let Group { texts, none } = group;
+    let Parts {
+        tests,
+        times,
+        no_times,
+        others,
+    } = none;
+    let others = guarded_to(alloc, others, inside)?;
+    let parts = Parts {
+        tests,
+        times,
+        no_times,
+        others,
+    };
+    let joined = parts.joined(alloc)?;
+    let rest = Box::new(alloc, opposite(alloc, joined)?)?;
     Ok(Guarded { texts, rest })
 }
 
-fn texts_of_both(alloc: Global, texts: &TextSet, others: &TextSet) -> Result<TextSet, AllocError>
-    ensures { IfOk result (λ t. (text : List ℕ) → list_any (bytes_eq text) t ≡ (list_any (bytes_eq text) texts.now || list_any (bytes_eq text) others.now)) }
+// That a filter doesn't hold.
+fn opposite(alloc: Global, filter: FilterTree) -> Result<FilterTree, AllocError>
+    ensures { IfOk result (λ f. (time : ℤ) (dims : List (List ℕ)) → matches time dims (condition_in f) ≡ not (matches time dims (condition_in filter))) }
 {
-    let mut both = TextSet::new(alloc);
-    both.add_all(texts)?;
-    both.add_all(others)?;
-    Ok(both)
-}
-
-// One filter for a guarded one: its other filter is asked only of a row that has one of the texts.
-fn filter_of(
-    alloc: Global,
-    place: Option<usize>,
-    one: Guarded,
-) -> Result<Box<FilterTree>, AllocError>
-    ensures { IfOk result (λ f. (time : ℤ) (dims : List (List ℕ)) → matches time dims (condition_in (box_value f)) ≡ is_met place time dims one) }
-{
-    let Guarded { texts, rest } = one;
-    let test = ValueTest::Among(texts);
-    let has_one = Box::new(alloc, FilterTree::of_test(DimensionTest { place, test }))?;
-    Ok(not_both(alloc, has_one, rest)?)
-}
-
-// That not both of two filters hold.
-fn not_both(
-    alloc: Global,
-    one: Box<FilterTree>,
-    other: Box<FilterTree>,
-) -> Result<Box<FilterTree>, AllocError>
-    ensures { IfOk result (λ f. (time : ℤ) (dims : List (List ℕ)) → matches time dims (condition_in (box_value f)) ≡ not (matches time dims (condition_in (box_value one)) && matches time dims (condition_in (box_value other)))) }
-{
-    let mut members = Vec::new(alloc);
-    members.push(Box::into_inner(one))?;
-    members.push(Box::into_inner(other))?;
-    let denied = all_of(members).denied(alloc)?;
-    Ok(Box::new(alloc, denied)?)
+    match filter {
+        FilterTree::Not(denied) => Ok(Box::into_inner(denied)),
+        other => Ok(other.denied(alloc)?),
+    }
 }

@@ -13,6 +13,7 @@ mod guarded;
 mod guarding;
 mod members;
 mod most_texts;
+mod pairing;
 mod parts;
 mod reading;
 mod splitting;

@@ -1,8 +1,7 @@
--- What no group meets without one of some texts: one more, two as one, and those with the same texts.
-use Rattle.std.specs.Cmp.Lexicographic.{pointwise, bytes_decides}
-use Rattle.std.proofs.Common.{◌≡◌, ◌∙◌, sym, refl, ap, Bool, true, false, not, ◌&&◌, ◌||◌, ℕ, ◌<◌, ℤ, List, [], ◌∷◌, ◌++◌, length, map, get_or, set, bytes_eq, true≢false, Result, Ok, Err, OnOk, arith}
+-- What no group meets without one of some texts: one more, and those with the same texts.
+use Rattle.std.proofs.Common.{◌≡◌, ◌∙◌, sym, refl, ap, true, not, ◌&&◌, ℕ, ◌<◌, ℤ, List, [], ◌∷◌, ◌++◌, length, get_or, set, Result, Ok, Err, OnOk, arith}
 use Rattle.std.proofs.lemmas.List.{get_or_read}
-use Rattle.dr_base.proofs.Truths.{and_regroups, and_true}
+use Rattle.dr_base.proofs.Truths.{and_regroups, and_true, denies_besides, denies_first}
 use Rattle.dr_having.specs.declared.asked_having.AskedHaving.{AskedHaving}
 use Rattle.dr_having.specs.declared.conjunction.Conjunction.{Conjunction}
 use Rattle.dr_having.specs.declared.group.Group.{Group}
@@ -11,21 +10,6 @@ use Rattle.dr_having.specs.Asked.{asked_meets}
 use Rattle.dr_having.specs.Gathered.{conjunction_meets}
 use Rattle.dr_having.specs.Guards.{none_met, is_among, is_met, all_met, is_group_met, groups_met}
 use Rattle.dr_having.proofs.Collecting.{list_all-set, list_all-push}
-
-pub turned : (a b c : Bool) → ((a && b) && c) ≡ (a && (c && b))
-turned a b c = grind (arith)
-
--- what two deny of groups that have a text of the one or of the other
-pub one-for-both : (a b x y : Bool) → not ((a || b) && not (not (a && x) && not (b && y))) ≡ (not (a && x) && not (b && y))
-one-for-both a b x y = grind (arith)
-
--- what is denied besides, of groups that have one of the same texts
-one-denied : (a none x : Bool) → not (a && not (none && not x)) ≡ (not (a && not none) && not (a && x))
-one-denied a none x = grind (arith)
-
--- and where it is the first
-first-denied : (a x : Bool) → not (a && not (true && not x)) ≡ not (a && x)
-first-denied a x = grind (arith)
 
 module _ (dims : List (List ℕ)) (values : List ℤ) where
   none-behind : (denied : List AskedHaving) (a : AskedHaving) → none_met dims values (denied ++ a ∷ []) ≡ (none_met dims values denied && not (asked_meets dims values a))
@@ -48,7 +32,7 @@ group-more gs i at old none one (Ok u) lt is_at texts is more = λ place dims va
     let denied = asked_meets dims values one.rest in
     list_all-set (is_group_met place dims values) old (record { texts = old.texts; none = none }) (is_met place dims values one) gs i lt is
     ((λ k. not (is_among place dims old.texts && not (more dims values k)))
-    ∙ one-denied (is_among place dims old.texts) (conjunction_meets dims values old.none) denied
+    ∙ denies_besides (is_among place dims old.texts) (conjunction_meets dims values old.none) denied
     ∙ (λ k. is_group_met place dims values old && not (is_among place dims (same k) && denied)))
 group-more gs i at old none one (Err e) lt is_at texts is more = tt
 
@@ -61,22 +45,8 @@ group-behind gs all empty none one holds more is = λ place dims values.
     let group : Group = record { texts = one.texts; none = none } in
     ap (groups_met place dims values) is ∙ list_all-push (is_group_met place dims values) gs group
     ∙ (λ k. groups_met place dims values gs && not (among && not ((more dims values ∙ ap (λ b. b && not denied) (holds dims values)) k)))
-    ∙ ap (λ b. groups_met place dims values gs && b) (first-denied among denied)
+    ∙ ap (λ b. groups_met place dims values gs && b) (denies_first among denied)
 
 pub none-left : {A : Type 0} (xs : List A) → length xs ≡ 0 → xs ≡ []
 none-left [] h = refl
 none-left (x ∷ xs) h = absurd (omega (arith, h))
-
--- ---- texts that are the same
-
-both_parts : (a b : Bool) → (a && b) ≡ true → (a ≡ true) × (b ≡ true)
-both_parts true b h = (refl, h)
-both_parts false b h = absurd (true≢false (sym h))
-
-pub same-texts : {A : Type 0} (f : A → List ℕ) (xs ys : List A) → pointwise (λ x y. bytes_eq (f x) (f y)) xs ys ≡ true → map f xs ≡ map f ys
-same-texts f [] [] h = refl
-same-texts f [] (y ∷ ys) h = absurd (true≢false (sym h))
-same-texts f (x ∷ xs) [] h = absurd (true≢false (sym h))
-same-texts f (x ∷ xs) (y ∷ ys) h =
-    let parts = both_parts (bytes_eq (f x) (f y)) (pointwise (λ a b. bytes_eq (f a) (f b)) xs ys) h in
-    (λ k. (bytes_decides (f x) (f y)).0 parts.0 k ∷ same-texts f xs ys parts.1 k)

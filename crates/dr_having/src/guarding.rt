@@ -1,44 +1,58 @@
-ghost use Rattle.std.specs.Prelude.{◌≡◌, ◌≤◌, ◌&&◌, not, ℕ, ℤ, List, length, IfOk, OnOk};
+ghost use Rattle.std.specs.Prelude.{◌≡◌, not, ℕ, ℤ, List, IfOk};
 ghost use Rattle.dr_having.specs.Asked.{asked_meets};
-ghost use Rattle.dr_having.specs.Guards.{all_met, is_among, is_met, none_met};
+ghost use Rattle.dr_having.specs.Guards.{all_met, groups_met, is_met, is_group_met, none_met};
 
 use crate::asked_having::AskedHaving;
-use crate::asked_output::AskedOutput;
+use crate::conjunction::Conjunction;
+use crate::group::Group;
 use crate::grouping::grouped;
 use crate::guarded::Guarded;
 use crate::most_texts::place_of_most_texts;
+use crate::pairing::put_paired;
 use crate::splitting::put;
-use crate::text_look_up::TextLookUp;
-use dr_dict::TextSet;
 use std::alloc::{AllocError, Global};
 
 // From how many on they are made a tree.
 const MANY: usize = 16;
 
-// More rounds than any number of conditions takes, since each halves it.
-const ROUNDS: usize = 20;
+// How deep such trees may stand behind the texts of others: as deep as a group has dimensions.
+const LEVELS: usize = 64;
 
 /// Conditions of which a group meets none just where it meets none of these. Where many ask for texts of one dimension, those with the
-/// same texts are made one, and these a tree: two of them are asked only of a group that has a text for which one of the two asks, and
-/// so are two such pairs. The only error is that memory ran out. It takes expected time and memory by the texts times the logarithm of
-/// the number of conditions, and what joining takes of conditions with the same texts.
+/// same texts are made one, and these a tree; and so is what is asked besides of those with the same texts. The only error is that
+/// memory ran out. It takes expected time and memory by the texts times the logarithm of the number of conditions, what joining takes
+/// of conditions with the same texts, and for each further dimension by the conditions that ask for texts of it too.
 pub fn guarded(alloc: Global, denied: Vec<AskedHaving>) -> Result<Vec<AskedHaving>, AllocError>
     ensures { IfOk result (λ r. (dims : List (List ℕ)) (values : List ℤ) → none_met dims values r.items ≡ none_met dims values denied.items) }
 {
-    if denied.len() < MANY {
+    guarded_to(alloc, denied, LEVELS)
+}
+
+// The same, with trees behind the texts of others so deep at most.
+#[cycle(guarding)]
+fn guarded_to(
+    alloc: Global,
+    denied: Vec<AskedHaving>,
+    levels: usize,
+) -> Result<Vec<AskedHaving>, AllocError>
+    ensures { IfOk result (λ r. (dims : List (List ℕ)) (values : List ℤ) → none_met dims values r.items ≡ none_met dims values denied.items) }
+{
+    if levels == 0 || denied.len() < MANY {
         return Ok(denied);
     }
     match place_of_most_texts(alloc, denied.as_slice())? {
-        Some(place) => guarded_at(alloc, place, denied),
+        Some(place) => guarded_at(alloc, place, denied, levels - 1),
         None => Ok(denied),
     }
 }
 
 // The same, by the texts of the dimension at a place.
+#[cycle(guarding)]
 fn guarded_at(
     alloc: Global,
     place: usize,
     denied: Vec<AskedHaving>,
+    inside: usize,
 ) -> Result<Vec<AskedHaving>, AllocError>
     ensures { IfOk result (λ r. (dims : List (List ℕ)) (values : List ℤ) → none_met dims values r.items ≡ none_met dims values denied.items) }
 {
@@ -48,106 +62,42 @@ fn guarded_at(
         put(alloc, place, asked, &mut kept, &mut found)?;
     }
     let groups = grouped(alloc, found)?;
-    let tree = paired_often(alloc, place, groups)?;
-    put_all(alloc, place, &mut kept, tree)?;
+    let guards = guards_of(alloc, groups, inside)?;
+    put_paired(alloc, place, &mut kept, guards)?;
     Ok(kept)
 }
 
-// Puts what is guarded behind others.
-fn put_all(
-    alloc: Global,
-    place: usize,
-    kept: &mut Vec<AskedHaving>,
-    found: Vec<Guarded>,
-) -> Result<(), AllocError>
-    ensures { OnOk result ((dims : List (List ℕ)) (values : List ℤ) → none_met dims values kept.new.items ≡ (none_met dims values kept.old.items && all_met place dims values found.items)) }
+// A guarded condition for each group.
+#[cycle(guarding)]
+fn guards_of(alloc: Global, groups: Vec<Group>, inside: usize) -> Result<Vec<Guarded>, AllocError>
+    ensures { IfOk result (λ r. (place : ℕ) (dims : List (List ℕ)) (values : List ℤ) → all_met place dims values r.items ≡ groups_met place dims values groups.items) }
 {
-    for one in found {
-        let asked = behind_texts(alloc, place, one)?;
-        kept.push(asked)?;
+    let mut guards = Vec::new(alloc);
+    for group in groups {
+        let guard = guard_of(alloc, group, inside)?;
+        guards.push(guard)?;
     }
-    Ok(())
+    Ok(guards)
 }
 
-// One guarded condition for all of some.
-fn paired_often(
-    alloc: Global,
-    place: usize,
-    found: Vec<Guarded>,
-) -> Result<Vec<Guarded>, AllocError>
-    ensures { IfOk result (λ r. (dims : List (List ℕ)) (values : List ℤ) → all_met place dims values r.items ≡ all_met place dims values found.items) }
+// The guarded condition of a group: what is asked besides is joined, and what is denied in it is made a tree.
+#[cycle(guarding)]
+fn guard_of(alloc: Global, group: Group, inside: usize) -> Result<Guarded, AllocError>
+    ensures { IfOk result (λ r. (place : ℕ) (dims : List (List ℕ)) (values : List ℤ) → is_met place dims values r ≡ is_group_met place dims values group) }
 {
-    let mut left = found;
-    for _ in 0..ROUNDS {
-        left = paired(alloc, place, left)?;
-    }
-    Ok(left)
-}
-
-// One guarded condition for each two.
-fn paired(alloc: Global, place: usize, found: Vec<Guarded>) -> Result<Vec<Guarded>, AllocError>
-    ensures { IfOk result (λ r. (dims : List (List ℕ)) (values : List ℤ) → all_met place dims values r.items ≡ all_met place dims values found.items) }
-{
-    let mut left = found;
-    let mut pairs = Vec::new(alloc);
-    while let Some(last) = left.pop() {
-        let pair = with_another(alloc, place, &mut left, last)?;
-        pairs.push(pair)?;
-    }
-    Ok(pairs)
-}
-
-// A guarded condition together with the last one of some, where there is any.
-fn with_another(
-    alloc: Global,
-    place: usize,
-    others: &mut Vec<Guarded>,
-    one: Guarded,
-) -> Result<Guarded, AllocError>
-    ensures fewer { OnOk result (length others.new.items ≤ length others.old.items) }
-    ensures same { IfOk result (λ r. (dims : List (List ℕ)) (values : List ℤ) → (all_met place dims values others.new.items && is_met place dims values r) ≡ (all_met place dims values others.old.items && is_met place dims values one)) }
-{
-    match others.pop() {
-        Some(other) => Ok(pair_of(alloc, place, other, one)?),
-        None => Ok(one),
-    }
-}
-
-// Two guarded conditions as one, guarded by the texts of both.
-fn pair_of(alloc: Global, place: usize, one: Guarded, other: Guarded) -> Result<Guarded, AllocError>
-    ensures { IfOk result (λ r. (dims : List (List ℕ)) (values : List ℤ) → is_met place dims values r ≡ (is_met place dims values one && is_met place dims values other)) }
-{
-    let mut texts = TextSet::new(alloc);
-    texts.add_all(&one.texts)?;
-    texts.add_all(&other.texts)?;
-    let first = behind_texts(alloc, place, one)?;
-    let second = behind_texts(alloc, place, other)?;
-    let rest = one_of(alloc, first, second)?;
+    let Group { texts, none } = group;
+    let Conjunction { outputs, denied } = none;
+    let denied = guarded_to(alloc, denied, inside)?;
+    let joined = Conjunction { outputs, denied }.joined(alloc)?;
+    let rest = opposite(alloc, joined)?;
     Ok(Guarded { texts, rest })
 }
 
-// One condition for what a guarded one denies: the rest is asked only of a group that has one of the texts.
-fn behind_texts(alloc: Global, place: usize, one: Guarded) -> Result<AskedHaving, AllocError>
-    ensures { IfOk result (λ a. (dims : List (List ℕ)) (values : List ℤ) → asked_meets dims values a ≡ (is_among place dims one.texts && asked_meets dims values one.rest)) }
+// That a condition doesn't hold.
+fn opposite(alloc: Global, asked: AskedHaving) -> Result<AskedHaving, AllocError>
+    ensures { IfOk result (λ a. (dims : List (List ℕ)) (values : List ℤ) → asked_meets dims values a ≡ not (asked_meets dims values asked)) }
 {
-    let Guarded { texts, rest } = one;
-    let (others, denied) = rest.into_parts();
-    let mut others = others;
-    let mut outputs = Vec::new(alloc);
-    outputs.push(AskedOutput::Text(TextLookUp { place, texts }))?;
-    outputs.append(&mut others)?;
-    Ok(AskedHaving::of_parts(outputs, denied))
-}
-
-// That a group meets one of two conditions.
-fn one_of(alloc: Global, one: AskedHaving, other: AskedHaving) -> Result<AskedHaving, AllocError>
-    ensures { IfOk result (λ a. (dims : List (List ℕ)) (values : List ℤ) → asked_meets dims values a ≡ not (not (asked_meets dims values one) && not (asked_meets dims values other))) }
-{
-    let mut both = Vec::new(alloc);
-    both.push(one)?;
-    both.push(other)?;
-    let neither = AskedHaving::of_parts(Vec::new(alloc), both);
-    let mut denied = Vec::new(alloc);
-    denied.push(neither)?;
-    Ok(AskedHaving::of_parts(Vec::new(alloc), denied))
+    let mut denied = Conjunction::new(alloc);
+    denied.deny_made(alloc, asked)?;
+    Ok(denied.joined(alloc)?)
 }

@@ -21,6 +21,7 @@ mod number_conditions;
 mod number_look_up;
 mod number_steps;
 mod output_conditions;
+mod pairing;
 mod reading;
 mod splitting;
 mod text_conditions;

@@ -1,7 +1,8 @@
 use Rattle.std.proofs.Common.{◌∙◌, sym, ap, ◌&&◌, ◌∷◌, [], length, length-append, arith}
 use Rattle.dr_filter.specs.Guards.{all_met, is_met}
-use Rattle.dr_filter.proofs.BehindTexts.{met-behind, turned}
-use Rattle.dr_filter.proofs.guarding.paired.Goals as goal
+use Rattle.dr_base.proofs.Truths.{and_turns}
+use Rattle.dr_filter.proofs.BehindTexts.{met-behind}
+use Rattle.dr_filter.proofs.pairing.paired.Goals as goal
 
 pub loop-last-smaller : goal.loop-last-smaller
 loop-last-smaller c =
@@ -18,6 +19,6 @@ loop-last-preserved c = λ time dims.
     let made = all_met place time dims at.pairs.items in
     let rest = all_met place time dims c.with_another.new.others.items in
     ap (λ b. b && rest) (met-behind place time dims at.pairs.items c.push.new.self.items pair c.in_ok-push.ensures.items)
-    ∙ turned made (is_met place time dims pair) rest
+    ∙ and_turns made (is_met place time dims pair) rest
     ∙ ap (λ b. made && b) (c.in_ok-pair.ensures.same time dims ∙ sym (met-behind place time dims c.pop.new.self.items _ c.in-Some.last c.in-Some.ensures.items))
     ∙ at.invariant time dims

@@ -4,7 +4,7 @@ use Rattle.dr_base.proofs.Truths.{and_regroups}
 use Rattle.dr_filter.specs.Condition.{condition_in, conditions_in, matches, every_matches}
 use Rattle.dr_filter.specs.Guards.{all_met, is_met}
 use Rattle.dr_filter.proofs.EveryMember.{every-one-behind}
-use Rattle.dr_filter.proofs.guarding.put_all.Goals as goal
+use Rattle.dr_filter.proofs.pairing.put_all.Goals as goal
 
 pub loop-one-preserved : goal.loop-one-preserved
 loop-one-preserved c =

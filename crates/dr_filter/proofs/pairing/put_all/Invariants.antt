@@ -2,7 +2,7 @@ use Rattle.std.proofs.Common.{◌≡◌, ◌&&◌, ℕ, ℤ, List, length}
 use Rattle.std.specs.Vec.Iter.{into_iter_items, into_iter_len}
 use Rattle.dr_filter.specs.Condition.{conditions_in, every_matches}
 use Rattle.dr_filter.specs.Guards.{all_met}
-use Rattle.dr_filter.proofs.guarding.put_all.Given as goal
+use Rattle.dr_filter.proofs.pairing.put_all.Given as goal
 
 abbrev pub invariant-loop-one : goal.invariant-loop-one
 invariant-loop-one l = (into_iter_len l.one-iterator ≡ length (into_iter_items l.one-iterator))

@@ -2,7 +2,7 @@ use Rattle.std.proofs.Common.{◌∙◌, sym, ap, ◌&&◌}
 use Rattle.dr_base.proofs.Truths.{and_regroups}
 use Rattle.dr_filter.specs.Guards.{all_met, is_met}
 use Rattle.dr_filter.proofs.BehindTexts.{met-behind}
-use Rattle.dr_filter.proofs.guarding.with_another.Goals as goal
+use Rattle.dr_filter.proofs.pairing.with_another.Goals as goal
 
 pub returns-in_ok-pair_of-in-Some-clause-same : goal.returns-in_ok-pair_of-in-Some-clause-same
 returns-in_ok-pair_of-in-Some-clause-same c = λ time dims.

@@ -1,22 +1,20 @@
-use Rattle.std.proofs.Common.{◌≡◌, ◌∙◌, sym, ap, ◌&&◌, ◌∷◌, not, length, arith}
+use Rattle.std.proofs.Common.{◌≡◌, ◌∙◌, sym, ap, ◌&&◌, ◌∷◌, length, arith}
 use Rattle.std.specs.Vec.Iter.{into_iter_items}
 use Rattle.dr_base.proofs.Truths.{and_regroups}
-use Rattle.dr_having.specs.Guards.{all_met, groups_met, is_among, is_group_met}
+use Rattle.dr_having.specs.Guards.{all_met, groups_met, is_group_met}
 use Rattle.dr_having.proofs.AmongTexts.{met-behind}
-use Rattle.dr_having.proofs.grouping.ungrouped.Goals as goal
+use Rattle.dr_having.proofs.guarding.+guarding.Goals as goal
 
-pub loop-group-preserved : goal.loop-group-preserved
-loop-group-preserved c =
+pub guards_of-loop-group-preserved : goal.guards_of-loop-group-preserved
+guards_of-loop-group-preserved t c =
     let at = c.loop-group in
     let group = c.in-Some.group in
     let steps : into_iter_items at.group-iterator ≡ group ∷ into_iter_items c.next.new.self = c.in-Some.ensures.steps.0 in (
       (let len = at.invariant.0 in let gone = c.in-Some.ensures.steps.1 in let short = ap length steps in omega (arith, len, gone, short)),
       λ place dims values.
-          let before = all_met place dims values at.found.items in
+          let before = all_met place dims values at.guards.items in
           let rest = groups_met place dims values (into_iter_items c.next.new.self) in
-          ap (λ b. b && rest)
-          (met-behind place dims values at.found.items c.push.new.self.items _ c.in_ok-push.ensures.items
-          ∙ (λ k. before && not (is_among place dims group.texts && (c.in_ok-rest.ensures dims values ∙ ap not (c.in_ok-joined.ensures dims values)) k)))
+          ap (λ b. b && rest) (met-behind place dims values at.guards.items c.push.new.self.items _ c.in_ok-push.ensures.items ∙ ap (λ b. before && b) (c.in_ok-guard.ensures place dims values))
           ∙ sym (and_regroups before (is_group_met place dims values group) rest)
           ∙ ap (λ l. before && groups_met place dims values l) (sym steps) ∙ at.invariant.1 place dims values,
     )

@@ -1,7 +1,8 @@
 use Rattle.std.proofs.Common.{◌∙◌, sym, ap, ◌&&◌, ◌∷◌, [], length, length-append, arith}
 use Rattle.dr_having.specs.Guards.{all_met, is_met}
-use Rattle.dr_having.proofs.AmongTexts.{met-behind, turned}
-use Rattle.dr_having.proofs.guarding.paired.Goals as goal
+use Rattle.dr_base.proofs.Truths.{and_turns}
+use Rattle.dr_having.proofs.AmongTexts.{met-behind}
+use Rattle.dr_having.proofs.pairing.paired.Goals as goal
 
 pub loop-last-smaller : goal.loop-last-smaller
 loop-last-smaller c =
@@ -18,6 +19,6 @@ loop-last-preserved c = λ dims values.
     let made = all_met place dims values at.pairs.items in
     let rest = all_met place dims values c.with_another.new.others.items in
     ap (λ b. b && rest) (met-behind place dims values at.pairs.items c.push.new.self.items pair c.in_ok-push.ensures.items)
-    ∙ turned made (is_met place dims values pair) rest
+    ∙ and_turns made (is_met place dims values pair) rest
     ∙ ap (λ b. made && b) (c.in_ok-pair.ensures.same dims values ∙ sym (met-behind place dims values c.pop.new.self.items _ c.in-Some.last c.in-Some.ensures.items))
     ∙ at.invariant dims values

@@ -1,9 +1,9 @@
 use Rattle.std.proofs.Common.{◌∙◌, ◌&&◌, ◌||◌, not, bytes_eq}
 use Rattle.std.specs.List.{list_any}
+use Rattle.dr_base.proofs.Truths.{denies_of_either}
 use Rattle.dr_outputs.specs.Numbered.{text_at}
 use Rattle.dr_having.specs.Asked.{asked_meets}
-use Rattle.dr_having.proofs.AmongTexts.{one-for-both}
-use Rattle.dr_having.proofs.guarding.pair_of.Goals as goal
+use Rattle.dr_having.proofs.pairing.pair_of.Goals as goal
 
 pub returns : goal.returns
 returns c = λ dims values.
@@ -17,4 +17,4 @@ returns c = λ dims values.
     in
     let denied = c.in_ok-rest.ensures dims values ∙ (λ k. not (not (c.in_ok-first.ensures dims values k) && not (c.in_ok-second.ensures dims values k))) in
     (λ k. not (among k && denied k))
-    ∙ one-for-both (list_any (bytes_eq value) one.texts) (list_any (bytes_eq value) other.texts) (asked_meets dims values one.rest) (asked_meets dims values other.rest)
+    ∙ denies_of_either (list_any (bytes_eq value) one.texts) (list_any (bytes_eq value) other.texts) (asked_meets dims values one.rest) (asked_meets dims values other.rest)

@@ -3,7 +3,7 @@ use Rattle.std.specs.Vec.Iter.{into_iter_items}
 use Rattle.dr_base.proofs.Truths.{and_regroups}
 use Rattle.dr_having.specs.Guards.{all_met, is_met, none_met}
 use Rattle.dr_having.proofs.AmongTexts.{none-one-behind}
-use Rattle.dr_having.proofs.guarding.put_all.Goals as goal
+use Rattle.dr_having.proofs.pairing.put_all.Goals as goal
 
 pub loop-one-preserved : goal.loop-one-preserved
 loop-one-preserved c =
