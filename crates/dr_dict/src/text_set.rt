@@ -78,7 +78,7 @@ impl TextSet {
     }
 
     /// A copy of the list of them. The only error is that memory ran out. It takes time and memory by the bytes of the texts.
-    pub fn to_vec(&self) -> Result<Vec<String>, AllocError>
+    pub fn to_texts(&self) -> Result<Vec<String>, AllocError>
         ensures { IfOk result (λ texts. map string_bytes texts.items ≡ self.now) }
     {
         let alloc = *self.0.allocator();

@@ -6,9 +6,6 @@ use dr_predicate::{DimensionTest, ValueTest};
 use dr_time::Union;
 use std::alloc::{AllocError, Global};
 
-// How many tests for texts stand one behind the other in a tree that is asked soonest row by row.
-const GUARDS: usize = 3;
-
 /// What is asked of the time and of the dimension values of a row: a test, or filters and how they are joined. Contracts see it as
 /// the condition that it stands for, `condition_in`.
 #[derive(Drop)]
@@ -50,7 +47,7 @@ impl FilterTree {
     /// Whether it is a tree of many filters (see [`Filter::asked`](crate::Filter::asked)), of which a row is asked those alone that ask
     /// for its texts: it is asked soonest row by row. What a filter keeps doesn't depend on it. It takes time by the levels of the tree.
     pub fn is_guarded(&self) -> bool {
-        has_guards(self, GUARDS)
+        has_guards(self, 3)
     }
 
     /// Whether a row of this time, in milliseconds since the epoch, and these dimension values, in the order of the schema, meets the

@@ -15,7 +15,7 @@ pub fn grouped(alloc: Global, found: Vec<Guarded>) -> Result<Vec<Group>, AllocEr
     let mut groups = Vec::new(alloc);
     let mut places = IndexMap::new(alloc);
     for one in found {
-        let key = one.texts.to_vec()?;
+        let key = one.texts.to_texts()?;
         let likely = *places.entry(key)?.or_insert(groups.len());
         put_likely(alloc, &mut groups, likely, one)?;
     }

@@ -43,7 +43,7 @@ fn texts(alloc: Global, words: &[&str]) -> Result<TextSet, Fail> {
 fn tells_sets_of_texts_by_their_order(rt: HostRuntime) -> Result<(), Fail> {
     let alloc = rt.alloc();
     let one = texts(alloc, &["b", "", "a", "b"])?;
-    let list = one.to_vec()?;
+    let list = one.to_texts()?;
     assert!(rt; list.len() == 3 && list[0].as_str() == "b");
     assert!(rt; list[1].as_str() == "" && list[2].as_str() == "a");
     assert!(rt; one.is_same_list(&texts(alloc, &["b", "", "a"])?));
