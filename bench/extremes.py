@@ -200,6 +200,8 @@ ONE_DIMENSION = [{"type": "default", "dimension": "none", "outputName": f"o{it}"
 ONE_DIMENSION_OFTEN = groups(dimensions=ONE_DIMENSION)
 COUNTS = [{"type": "count", "name": f"{it:05x}"} for it in range(14000)]
 LEAST_OF_EACH = [[{"type": "dimSelector", "dimension": "page", "value": str(it * 7)}, {"type": "greaterThan", "aggregation": "v", "value": it % 2}] for it in range(7400)]
+OF_TWO = [[{"type": "dimSelector", "dimension": "page", "value": str(it % 70)}, {"type": "dimSelector", "dimension": "lang", "value": str(it // 70)}, {"type": "greaterThan", "aggregation": "v", "value": it + 1}] for it in range(4900)]
+HAVING_OF_TWO = groups(dimensions=["page", "lang", "user"], having={"type": "or", "havingSpecs": [{"type": "and", "havingSpecs": it} for it in OF_TWO]})
 HAVING_OF_PAIRS = groups(having={"type": "or", "havingSpecs": [{"type": "and", "havingSpecs": it} for it in LEAST_OF_EACH]})
 LAST_COUNT_OFTEN = groups(aggregations=COUNTS, filter={"type": "selector", "dimension": "page", "value": "0"}, limitSpec={"type": "default", "columns": [COUNTS[-1]["name"]] * 60000})
 
@@ -256,6 +258,16 @@ def pairs(n):
     yield asked
 
 
+def of_two(n):
+    yield spec(dims=("page", "lang", "user"))
+    for it in range(n):
+        yield event(BEGIN, str(it % 70), lang=str(it // 70 % 70), user=str(it))
+    yield HAVING_OF_TWO
+    yield f"seal {instant(1)}"
+    yield f"publish {instant(1)} 0 1"
+    yield HAVING_OF_TWO
+
+
 def windows(n):
     """One value of a dimension in many stretches of time."""
     yield spec()
@@ -268,6 +280,26 @@ def windows(n):
     yield f"seal {instant(1)}"
     yield f"publish {instant(1)} 0 1"
     yield asked
+
+
+def ranked(most, dims, values):
+    """Many `and`s of a value of each of some dimensions and a stretch of time, of rows with these values."""
+    names = [f"d{it}" for it in range(dims)]
+    texts = lambda it: [str(it // values**place % values) for place in range(dims)]
+    clock = lambda second: f"2024-01-01T{second // 3600:02d}:{second // 60 % 60:02d}:{second % 60:02d}Z"
+    span = lambda it: {"type": "interval", "dimension": "__time", "intervals": [f"{clock(it * 14)}/{clock(it * 14 + 5)}"]}
+    both = lambda it: [{"type": "selector", "dimension": name, "value": text} for name, text in zip(names, texts(it))] + [span(it)]
+    asked = series(filter=one_of(*({"type": "and", "fields": both(it)} for it in range(most))))
+
+    def lines(n):
+        yield spec(dims=names)
+        for it in range(n):
+            yield "+ " + compact({"t": BEGIN + it * 800, "v": 1} | dict(zip(names, texts(it))))
+        yield asked
+        yield f"seal {instant(1)}"
+        yield f"publish {instant(1)} 0 1"
+        yield asked
+    return lines
 
 
 def likes_of_each(n):
@@ -390,11 +422,15 @@ INPUTS = {
     "rows under an or of 15,000 likes of a part": (likes("%x%"), 100000),
     "rows under an or of 5,500 ands of two selectors": (pairs, 100000),
     "rows under an or of 5,700 ands of one selector and an interval": (windows, 100000),
+    "rows under an or of 4,500 ands of two selectors, all the same, and an interval": (ranked(4500, 2, 1), 100000),
+    "rows under an or of 4,500 ands of two selectors of 67 each and an interval": (ranked(4500, 2, 67), 100000),
+    "rows under an or of 2,000 ands of seven selectors of three each and an interval": (ranked(2000, 7, 3), 100000),
     "rows under an and of 15,000 likes of six kinds": (likes_of_each, 100000),
     "rows of 800 bytes under an and of 2,000 likes of growing texts": (likes_of_growing, 20000),
     "groups under a having that is an and of 7,500 ors of two comparisons": (asked_of_texts(ANDS_OF_A_HAVING), 100000),
     "groups under a having that is an or of 5,000 ors of two comparisons": (asked_of_texts(ORS_OF_A_HAVING), 100000),
     "groups under a having that is an or of 7,400 ands of a dimension value and a comparison": (asked_of_texts(HAVING_OF_PAIRS), 100000),
+    "groups under a having that is an or of 4,900 ands of two dimension values and a comparison": (of_two, 100000),
     "groups under a having of 9,990 comparisons that don't hold": (asked_of_texts(LONG_HAVING_OF_DENIED), 100000),
     "groups under a having of 14,000 comparisons": (long_having, 100000),
     "groups under a having of 17,000 dimension values": (asked_of_texts(LONG_HAVING_OF_TEXTS), 100000),
