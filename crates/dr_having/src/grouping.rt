@@ -4,6 +4,7 @@ ghost use Rattle.dr_having.specs.Guards.{all_met, groups_met, is_met};
 use crate::conjunction::Conjunction;
 use crate::group::Group;
 use crate::guarded::Guarded;
+use dr_dict::TextSet;
 use indexmap::IndexMap;
 use std::alloc::{AllocError, Global};
 
@@ -15,11 +16,20 @@ pub fn grouped(alloc: Global, found: Vec<Guarded>) -> Result<Vec<Group>, AllocEr
     let mut groups = Vec::new(alloc);
     let mut places = IndexMap::new(alloc);
     for one in found {
-        let key = one.texts.to_texts()?;
-        let likely = *places.entry(key)?.or_insert(groups.len());
+        let likely = first_place(&mut places, &one.texts, groups.len())?;
         put_likely(alloc, &mut groups, likely, one)?;
     }
     Ok(groups)
+}
+
+// The place that the same texts got before, or this one, where they come for the first time.
+fn first_place(
+    places: &mut IndexMap<Vec<String>, usize>,
+    texts: &TextSet,
+    place: usize,
+) -> Result<usize, AllocError> {
+    let first = places.entry(texts.to_texts()?)?.or_insert(place);
+    Ok(*first)
 }
 
 // Puts a guarded condition to the group at a place, where that has the same texts, or behind all.

@@ -1,4 +1,5 @@
-ghost use Rattle.std.specs.Prelude.{◌≡◌, ◌≤◌, ◌&&◌, not, ℕ, ℤ, List, length, IfOk, OnOk};
+ghost use Rattle.std.specs.Prelude.{◌≡◌, ◌≤◌, ◌&&◌, ◌||◌, not, ℕ, ℤ, List, length, IfOk, OnOk, bytes_eq};
+ghost use Rattle.std.specs.List.{list_any};
 ghost use Rattle.dr_having.specs.Asked.{asked_meets};
 ghost use Rattle.dr_having.specs.Guards.{all_met, is_among, is_met, none_met};
 
@@ -91,13 +92,20 @@ fn with_another(
 fn pair_of(alloc: Global, place: usize, one: Guarded, other: Guarded) -> Result<Guarded, AllocError>
     ensures { IfOk result (λ r. (dims : List (List ℕ)) (values : List ℤ) → is_met place dims values r ≡ (is_met place dims values one && is_met place dims values other)) }
 {
-    let mut texts = TextSet::new(alloc);
-    texts.add_all(&one.texts)?;
-    texts.add_all(&other.texts)?;
+    let texts = texts_of_both(alloc, &one.texts, &other.texts)?;
     let first = behind_texts(alloc, place, one)?;
     let second = behind_texts(alloc, place, other)?;
     let rest = one_of(alloc, first, second)?;
     Ok(Guarded { texts, rest })
+}
+
+fn texts_of_both(alloc: Global, texts: &TextSet, others: &TextSet) -> Result<TextSet, AllocError>
+    ensures { IfOk result (λ t. (text : List ℕ) → list_any (bytes_eq text) t ≡ (list_any (bytes_eq text) texts.now || list_any (bytes_eq text) others.now)) }
+{
+    let mut both = TextSet::new(alloc);
+    both.add_all(texts)?;
+    both.add_all(others)?;
+    Ok(both)
 }
 
 // One condition for what a guarded one denies: the rest is asked only of a group that has one of the texts.

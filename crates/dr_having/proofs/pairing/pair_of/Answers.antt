@@ -1,4 +1,4 @@
-use Rattle.std.proofs.Common.{◌∙◌, ◌&&◌, ◌||◌, not, bytes_eq}
+use Rattle.std.proofs.Common.{◌∙◌, ◌&&◌, not, bytes_eq}
 use Rattle.std.specs.List.{list_any}
 use Rattle.dr_base.proofs.Truths.{denies_of_either}
 use Rattle.dr_outputs.specs.Numbered.{text_at}
@@ -10,11 +10,6 @@ returns c = λ dims values.
     let value = text_at c.args.place dims in
     let one = c.args.one in
     let other = c.args.other in
-    let among =
-    c.in_ok-add_all-2.ensures.found value
-    ∙ (λ k. c.in_ok-add_all.ensures.found value k || list_any (bytes_eq value) other.texts)
-    ∙ (λ k. (list_any (bytes_eq value) (c.new-texts.ensures k) || list_any (bytes_eq value) one.texts) || list_any (bytes_eq value) other.texts)
-    in
     let denied = c.in_ok-rest.ensures dims values ∙ (λ k. not (not (c.in_ok-first.ensures dims values k) && not (c.in_ok-second.ensures dims values k))) in
-    (λ k. not (among k && denied k))
+    (λ k. not (c.in_ok-texts.ensures value k && denied k))
     ∙ denies_of_either (list_any (bytes_eq value) one.texts) (list_any (bytes_eq value) other.texts) (asked_meets dims values one.rest) (asked_meets dims values other.rest)
