@@ -425,6 +425,7 @@ INPUTS = {
     "rows under an or of 4,500 ands of two selectors, all the same, and an interval": (ranked(4500, 2, 1), 100000),
     "rows under an or of 4,500 ands of two selectors of 67 each and an interval": (ranked(4500, 2, 67), 100000),
     "rows under an or of 2,000 ands of seven selectors of three each and an interval": (ranked(2000, 7, 3), 100000),
+    "rows under an or of 320 ands of 60 selectors, all the same, and an interval": (ranked(320, 60, 1), 20000),
     "rows under an and of 15,000 likes of six kinds": (likes_of_each, 100000),
     "rows of 800 bytes under an and of 2,000 likes of growing texts": (likes_of_growing, 20000),
     "groups under a having that is an and of 7,500 ors of two comparisons": (asked_of_texts(ANDS_OF_A_HAVING), 100000),
