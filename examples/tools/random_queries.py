@@ -114,16 +114,22 @@ class Writer:
         return self.leaf(kind, r.choice(self.dims + ["nope"]))
 
     def ands_by_texts(self):
-        """Many conditions of which one is to hold, or none: most ask for texts of one dimension, and for something else besides."""
-        r, column = self.random, self.random.choice(self.dims)
+        """Many conditions of which one is to hold, or none: most ask for texts of one dimension or of some, and for something else besides."""
+        r, columns, few = self.random, self.some_of(self.dims), self.random.sample(TEXTS, 2)
+        selector = lambda column: {"type": "selector", "dimension": column, "value": r.choice(few)}
+        by_texts = r.choice([lambda column: self.leaf(r.choice(["selector", "selector", "in"]), column), selector])
         ands = []
-        for _ in range(r.randint(12, 40)):
-            fields = [self.leaf(r.choice(["selector", "selector", "in"]), column)] if r.random() < 0.9 else []
+        for _ in range(r.randint(12, 40 * len(columns))):
+            fields = [by_texts(it) for it in columns if r.random() < 0.9]
             fields += [self.filter(2) for _ in range(r.choice([1, 1, 1, 2]))]
             ands.append({"type": "and", "fields": r.sample(fields, len(fields))})
         if r.random() < 0.5:
             return {"type": "or", "fields": ands}
         return {"type": "and", "fields": [{"type": "not", "field": it} for it in ands]}
+
+    def some_of(self, dims):
+        """One of some dimensions, or a few of them."""
+        return self.random.sample(dims, min(len(dims), self.random.choice([1, 1, 2, 3])))
 
     def leaf_of_one_column(self):
         """A maker of conditions on one dimension, or on the time: of all kinds that are joined there, or patterns alone."""
@@ -178,11 +184,11 @@ class Writer:
         return {"type": kind, "aggregation": r.choice(aggs), "value": r.choice(NUMBERS)}
 
     def ands_by_values(self, dims, aggs):
-        """Many conditions of which one is to hold, or none: most ask for a value of one dimension, and for something else besides."""
-        r, column = self.random, self.random.choice(dims)
+        """Many conditions of which one is to hold, or none: most ask for a value of one dimension or of some, and for something else."""
+        r, columns, texts = self.random, self.some_of(dims), self.random.choice([TEXTS, self.random.sample(TEXTS, 2)])
         ands = []
-        for _ in range(r.randint(12, 40)):
-            specs = [{"type": "dimSelector", "dimension": column, "value": r.choice(TEXTS)}] if r.random() < 0.9 else []
+        for _ in range(r.randint(12, 40 * len(columns))):
+            specs = [{"type": "dimSelector", "dimension": it, "value": r.choice(texts)} for it in columns if r.random() < 0.9]
             specs += [self.having(dims, aggs, 2) for _ in range(r.choice([1, 1, 1, 2]))]
             ands.append({"type": "and", "havingSpecs": r.sample(specs, len(specs))})
         if r.random() < 0.5:
