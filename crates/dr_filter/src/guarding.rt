@@ -2,11 +2,11 @@ ghost use Rattle.std.specs.Prelude.{◌≡◌, not, ℕ, ℤ, List, Option, IfOk
 ghost use Rattle.dr_filter.specs.Condition.{condition_in, conditions_in, matches, every_matches};
 ghost use Rattle.dr_filter.specs.Guards.{all_met, groups_met, is_met, is_group_met};
 
+use crate::best_place::best_place;
 use crate::filter_tree::FilterTree;
 use crate::group::Group;
 use crate::grouping::grouped;
 use crate::guarded::Guarded;
-use crate::most_texts::place_of_most_texts;
 use crate::pairing::put_paired;
 use crate::parts::Parts;
 use crate::splitting::put;
@@ -19,9 +19,9 @@ const MANY: usize = 16;
 const LEVELS: usize = 64;
 
 /// Filters that all hold just where all of these do. Where many are the opposite of an `and` that asks for texts of one dimension,
-/// those with the same texts are made one, and these a tree; and so is what is asked besides of those with the same texts. The only
-/// error is that memory ran out. It takes expected time and memory by the texts times the logarithm of the number of filters, what
-/// joining takes of filters with the same texts, and for each further dimension by the filters that ask for texts of it too.
+/// those with the same texts are made one, and these a tree; and so, by another dimension, is what is asked besides of those with the
+/// same texts, and are those that don't ask for texts of this one. The only error is that memory ran out. It takes expected time and
+/// memory by the texts times the logarithm of the number of filters, and what joining takes, once for each dimension.
 pub fn guarded(alloc: Global, filters: Vec<FilterTree>) -> Result<Vec<FilterTree>, AllocError>
     ensures { IfOk result (λ r. (time : ℤ) (dims : List (List ℕ)) → every_matches time dims (conditions_in r.items) ≡ every_matches time dims (conditions_in filters.items)) }
 {
@@ -40,7 +40,7 @@ fn guarded_to(
     if levels == 0 || filters.len() < MANY {
         return Ok(filters);
     }
-    match place_of_most_texts(alloc, filters.as_slice())? {
+    match best_place(alloc, filters.as_slice())? {
         Some(place) => Ok(guarded_at(alloc, Some(place), filters, levels - 1)?),
         None => Ok(filters),
     }
@@ -63,6 +63,7 @@ fn guarded_at(
     }
     let groups = grouped(alloc, found)?;
     let guards = guards_of(alloc, groups, inside)?;
+    let mut kept = guarded_to(alloc, kept, inside)?;
     put_paired(alloc, place, &mut kept, guards)?;
     Ok(kept)
 }

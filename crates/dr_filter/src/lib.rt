@@ -3,6 +3,7 @@
 #![tactic(auto)]
 
 mod asking;
+mod best_place;
 mod fields;
 mod filter;
 mod filter_error;
@@ -12,7 +13,6 @@ mod grouping;
 mod guarded;
 mod guarding;
 mod members;
-mod most_texts;
 mod pairing;
 mod parts;
 mod reading;

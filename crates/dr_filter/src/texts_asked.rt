@@ -36,8 +36,8 @@ fn texts_at(
     Ok(texts_in(alloc, &test.test)?)
 }
 
-// The texts of which a value that passes is one, where the test asks for texts.
-fn texts_in(alloc: Global, test: &ValueTest) -> Result<Option<TextSet>, AllocError>
+/// The texts of which a value that passes is one, where the test asks for texts. The only error is that memory ran out.
+pub fn texts_in(alloc: Global, test: &ValueTest) -> Result<Option<TextSet>, AllocError>
     ensures { IfOk result (λ texts. IfSome texts (λ t. (value : List ℕ) → passes test.now value ≡ list_any (bytes_eq value) t)) }
 {
     let mut asked = TextSet::new(alloc);

@@ -3,11 +3,11 @@ ghost use Rattle.dr_having.specs.Asked.{asked_meets};
 ghost use Rattle.dr_having.specs.Guards.{all_met, groups_met, is_met, is_group_met, none_met};
 
 use crate::asked_having::AskedHaving;
+use crate::best_place::best_place;
 use crate::conjunction::Conjunction;
 use crate::group::Group;
 use crate::grouping::grouped;
 use crate::guarded::Guarded;
-use crate::most_texts::place_of_most_texts;
 use crate::pairing::put_paired;
 use crate::splitting::put;
 use std::alloc::{AllocError, Global};
@@ -19,9 +19,9 @@ const MANY: usize = 16;
 const LEVELS: usize = 64;
 
 /// Conditions of which a group meets none just where it meets none of these. Where many ask for texts of one dimension, those with the
-/// same texts are made one, and these a tree; and so is what is asked besides of those with the same texts. The only error is that
-/// memory ran out. It takes expected time and memory by the texts times the logarithm of the number of conditions, what joining takes
-/// of conditions with the same texts, and for each further dimension by the conditions that ask for texts of it too.
+/// same texts are made one, and these a tree; and so, by another dimension, is what is asked besides of those with the same texts, and
+/// are those that don't ask for texts of this one. The only error is that memory ran out. It takes expected time and memory by the texts
+/// times the logarithm of the number of conditions, and what joining takes, once for each dimension.
 pub fn guarded(alloc: Global, denied: Vec<AskedHaving>) -> Result<Vec<AskedHaving>, AllocError>
     ensures { IfOk result (λ r. (dims : List (List ℕ)) (values : List ℤ) → none_met dims values r.items ≡ none_met dims values denied.items) }
 {
@@ -40,7 +40,7 @@ fn guarded_to(
     if levels == 0 || denied.len() < MANY {
         return Ok(denied);
     }
-    match place_of_most_texts(alloc, denied.as_slice())? {
+    match best_place(alloc, denied.as_slice())? {
         Some(place) => guarded_at(alloc, place, denied, levels - 1),
         None => Ok(denied),
     }
@@ -63,6 +63,7 @@ fn guarded_at(
     }
     let groups = grouped(alloc, found)?;
     let guards = guards_of(alloc, groups, inside)?;
+    let mut kept = guarded_to(alloc, kept, inside)?;
     put_paired(alloc, place, &mut kept, guards)?;
     Ok(kept)
 }

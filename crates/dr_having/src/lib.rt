@@ -5,6 +5,7 @@
 mod asked_having;
 mod asked_output;
 mod asking;
+mod best_place;
 mod comparison;
 mod conjunction;
 mod dimension_value;
@@ -16,7 +17,6 @@ mod guarding;
 mod having;
 mod having_error;
 mod leaf_reading;
-mod most_texts;
 mod number_conditions;
 mod number_look_up;
 mod number_steps;

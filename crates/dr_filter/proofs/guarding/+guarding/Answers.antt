@@ -15,7 +15,7 @@ guarded_at-loop-filter-preserved t c =
       λ time dims.
           let before = every_matches time dims (conditions_in at.kept.items) && all_met c.args.place time dims at.found.items in
           let rest = every_matches time dims (conditions_in (into_iter_items c.next.new.self)) in
-          ap (λ b. b && rest) (c.in_ok-put.ensures time dims)
+          (λ k. c.in_ok-put.ensures time dims k && rest)
           ∙ sym (and_regroups before (matches time dims (condition_in filter)) rest)
           ∙ ap (λ l. before && every_matches time dims (conditions_in l)) (sym steps) ∙ at.invariant.1 time dims,
     )

@@ -15,7 +15,7 @@ guarded_at-loop-asked-preserved t c =
       λ dims values.
           let before = none_met dims values at.kept.items && all_met c.args.place dims values at.found.items in
           let rest = none_met dims values (into_iter_items c.next.new.self) in
-          ap (λ b. b && rest) (c.in_ok-put.ensures dims values)
+          (λ k. c.in_ok-put.ensures dims values k && rest)
           ∙ sym (and_regroups before (not (asked_meets dims values asked)) rest)
           ∙ ap (λ l. before && none_met dims values l) (sym steps) ∙ at.invariant.1 dims values,
     )
