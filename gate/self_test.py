@@ -120,14 +120,27 @@ FAULTS = [
     ("", {"crates/low/must-fail/gone.edit": "file: src/lib.rt\nold: left\nnew: wrong\n"}, ["low/must-fail/gone.edit"]),
 ]
 
-# A crate of which another names a type and one of its functions, whose contract names a definition, and that another one.
+# A crate of which another names a type, which has another one, and one of its functions, whose contract names a definition, and that
+# another one.
 USED = {
     "crates.txt": "low:\ntop: low\n",
-    "crates/low/src/lib.rt": "mod inner;\n\npub use inner::Shown;\n",
+    "crates/low/src/lib.rt": "mod inner;\n\npub use inner::{Held, Other, Shown};\n",
     "crates/low/src/inner.rt": """ghost use Rattle.low.specs.Told.{is_told};
 use std::mem::swap;
 
-pub struct Shown(u64);
+pub struct Shown(u64, Held);
+
+pub struct Held(u8);
+
+pub struct Other(u16);
+
+impl Other {
+    pub fn named(&self) -> u16
+        ensures { result ≡ 5 }
+    {
+        5
+    }
+}
 
 impl Shown {
     pub fn named(&self) -> u64
@@ -164,9 +177,13 @@ CHANGES = [
     ("low/src/inner.rt", "result ≡ 2", "result ≡ 3", False),
     ("low/src/inner.rt", "fn inside(&self)", "fn inside(&self, by: u64)", False),
     ("low/src/inner.rt", "std::mem::swap", "std::mem::take", False),
-    ("low/src/inner.rt", "Shown(u64)", "Shown(u32)", True),
+    ("low/src/inner.rt", "Shown(u64", "Shown(u32", True),
+    ("low/src/inner.rt", "Held(u8)", "Held(u16)", True),
+    ("low/src/inner.rt", "Other(u16)", "Other(u8)", False),
+    ("low/src/inner.rt", "result ≡ 5", "result ≡ 6", False),
     ("low/src/inner.rt", "fn drop(&mut self)", "fn drop(self)", True),
     ("low/src/lib.rt", "mod inner;", "mod inner;\nmod more;", False),
+    ("low/src/lib.rt", "Other, Shown", "More, Other, Shown", False),
     ("low/specs/Told.antt", "{deeper}", "{deeper, deepest}", True),
     ("low/specs/Deeper.antt", "deeper = 1", "deeper = 2", True),
     ("low/specs/Deeper.antt", "-- a remark", "-- another", False),

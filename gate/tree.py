@@ -18,9 +18,12 @@ MUST_FAIL, FURTHER = "must-fail", "further-edits"
 CITED = re.compile(r"Rattle\.(\w+)\.specs\.([\w.+-]+)")
 
 
-# A line that imports names, for code or for contracts, and an item that is a function, or what a type has.
+# A line that imports names, for code or for contracts; one by which a root shows names; an item that is a function, a type, or what a
+# type has.
 IMPORT = re.compile(r"( *(?:ghost )?use (?:[\w.]+\.|(?:\w+::)+))(\{[^{}]*\}|\w+);$", re.M)
 FUNCTION = re.compile(r"(?: *#.*\n)* *(pub(?:\(\w+\))? |)(?:const )?fn (\w+)")
+SHOWN = re.compile(r"(pub use (?:\w+::)+)(\{[^{}]*\}|\w+);$")
+TYPE = re.compile(r"(?:#.*\n)*pub (?:struct|enum|trait|type) (\w+)")
 IMPL = re.compile(r"impl(?:<[^{]*?>)? (.* for )?(\w+)")
 
 
@@ -76,25 +79,29 @@ class Tree:
 
     def contracts(self, above):
         """A digest of what a crate may use of those below it: of their functions those that it names, without bodies, and of their
-        definitions those that it names, or what counts already, and so on."""
+        definitions and types those that it names, or what counts already, and so on."""
         names = {it for file in self.files(above, "src", "specs", "proofs") for it in CITED.findall(self.text(above, file))}
+        known = self.words(above)
         while True:
             words = self.words(above) | {word for _, name in names for word in name.split(".")}
-            texts = {(crate, file): text for crate in self.below(above) for file, text in self.said_by(crate, names, words)}
+            known = known | words
+            texts = {(crate, file): text for crate in self.below(above) for file, text in self.said_by(crate, names, words, known)}
             found = names.union(*(CITED.findall(it) for it in texts.values()))
-            if found == names:
+            told = {word for it in texts.values() for word in re.findall(r"\w+", it)}
+            if found == names and told <= known:
                 return digest_of((f"{crate}/{file}", text) for (crate, file), text in sorted(texts.items()) if text)
-            names = found
+            names, known = found, known | told
 
-    def said_by(self, crate, names, words):
-        """What the modules of a crate say, by functions of these words, and its files of the definitions of these names."""
+    def said_by(self, crate, names, words, known):
+        """What the modules of a crate say, by functions of these words and of types that are known, and its files of the definitions
+        of these names."""
         shown, types = self.shown(crate), self.types(crate)
         for file in self.files(crate, "src"):
             is_shown = shown is None or file.split("/")[1].removesuffix(".rt") in shown
-            yield file, said_of(self.interface(crate, file), words, None if is_shown else types)
+            yield file, said_of(self.interface(crate, file), words, known, None if is_shown else types)
         for file in sorted({self.file_of(crate, name) for of, name in names if of == crate}):
             text = self.interface(crate, file)
-            yield file, said_of(text, words) if file.endswith(".rt") else text
+            yield file, said_of(text, words, known) if file.endswith(".rt") else text
 
     def words(self, crate):
         """The words of a crate's code, definitions and proofs."""
@@ -182,17 +189,24 @@ def items_of(lines, indent=""):
     return ["\n".join(it).rstrip() for it in items]
 
 
-def said_of(text, words, types=None):
-    """What code without bodies says by functions of these words. Where it stands in a module that a root doesn't show, it speaks of
-    the types alone that the root does. A function of a trait counts with the trait."""
+def said_of(text, words, known, types=None):
+    """What code without bodies says by functions of these words and of types that are known. Where it stands in a module that a root
+    doesn't show, it speaks of the types alone that the root does. A function of a trait counts with the trait."""
 
     def is_said(item):
+        if named := TYPE.match(item):
+            return named[1] in known
         function = FUNCTION.match(item)
         return not function or function[1] == "pub " and function[2] in words
 
     kept = []
     for item in items_of(text.split("\n")):
+        if shown := SHOWN.match(item):
+            names = ", ".join(it for it in names_in(shown[2]) if it.split(" as ")[-1] in known)
+            item = f"{shown[1]}{{{names}}};" if names else ""
         head = IMPL.match(item)
+        if head and head[2] not in known:
+            continue
         if head and not head[1]:
             first, *inside = item.split("\n")
             inside = [it for it in items_of(inside, "    ") if is_said(it)]
