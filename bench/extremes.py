@@ -302,6 +302,34 @@ def ranked(most, dims, values):
     return lines
 
 
+def with_text(n):
+    """Many `and`s that ask for one text, or another one, and for one of another dimension, of rows that have the one."""
+    yield spec(dims=("page", "lang"))
+    for it in range(n):
+        yield event(BEGIN + it, "p0", lang=f"m{it % 70}")
+    both = lambda it: [{"type": "in", "dimension": "page", "values": ["p0", f"x{it}"]}, {"type": "selector", "dimension": "lang", "value": f"l{it}"}]
+    asked = series(filter=one_of(*({"type": "and", "fields": both(it)} for it in range(5500))))
+    yield asked
+    yield f"seal {instant(1)}"
+    yield f"publish {instant(1)} 0 1"
+    yield asked
+
+
+def by_turns(n):
+    """Many `and`s of a stretch of time and a value, of one dimension and of another in turn."""
+    yield spec(dims=("page", "lang"))
+    for it in range(n):
+        yield event(BEGIN + it * 800, f"p{it % 3000}", lang=f"l{it // 7 % 3000}")
+    clock = lambda second: f"2024-01-01T{second // 3600:02d}:{second // 60 % 60:02d}:{second % 60:02d}Z"
+    span = lambda it: {"type": "interval", "dimension": "__time", "intervals": [f"{clock(it * 14)}/{clock(it * 14 + 5)}"]}
+    text = lambda it: {"type": "selector", "dimension": "lang", "value": f"l{it // 2}"} if it % 2 else selector(f"p{it // 2}")
+    asked = series(filter=one_of(*({"type": "and", "fields": [text(it), span(it)]} for it in range(5700))))
+    yield asked
+    yield f"seal {instant(1)}"
+    yield f"publish {instant(1)} 0 1"
+    yield asked
+
+
 def likes_of_each(n):
     yield spec()
     for it in range(n):
@@ -422,6 +450,8 @@ INPUTS = {
     "rows under an or of 15,000 likes of a part": (likes("%x%"), 100000),
     "rows under an or of 5,500 ands of two selectors": (pairs, 100000),
     "rows under an or of 5,700 ands of one selector and an interval": (windows, 100000),
+    "rows with a text of each of 5,500 ands of an in and a selector, under their or": (with_text, 100000),
+    "rows under an or of 5,700 ands of an interval and a selector of two dimensions in turn": (by_turns, 100000),
     "rows under an or of 4,500 ands of two selectors, all the same, and an interval": (ranked(4500, 2, 1), 100000),
     "rows under an or of 4,500 ands of two selectors of 67 each and an interval": (ranked(4500, 2, 67), 100000),
     "rows under an or of 2,000 ands of seven selectors of three each and an interval": (ranked(2000, 7, 3), 100000),

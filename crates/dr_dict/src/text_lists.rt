@@ -2,6 +2,11 @@ use crate::text_set::TextSet;
 use indexmap::{IndexMap, IndexSet};
 use std::alloc::{AllocError, Global};
 
+// So many lists are few, and one of so many.
+const FEW: usize = 8;
+
+const OF: usize = 32;
+
 /// Lists of texts, those that are the same as one: how many came, and in how many stands the text that stands in most.
 #[derive(Drop)]
 pub struct TextLists {
@@ -35,9 +40,9 @@ impl TextLists {
         Ok(())
     }
 
-    /// Whether each text stands in one list, or in few of them.
+    /// Whether each text stands in few lists, or in few of those that there are.
     pub fn share_few(&self) -> bool {
-        self.most == 1 || self.most.saturating_mul(FEW) <= self.lists.len()
+        self.most <= FEW || self.most.saturating_mul(OF) <= self.lists.len()
     }
 
     /// Of so many things, of which some came with a list, how many a text leaves at most: those without a list, and one for each list
@@ -51,6 +56,3 @@ impl TextLists {
         self.lists.len()
     }
 }
-
-// A text stands in few of some lists where it stands in one of so many.
-const FEW: usize = 32;
