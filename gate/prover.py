@@ -14,6 +14,8 @@ ANSWER = re.compile(r"(?:\./)?(proofs/(\S+)/\w+\.antt:\d+:\d+): error: (.*)")
 # Such a file only names what an edit took away, which says nothing of the contract.
 NAME_IS_GONE = re.compile(r"has no field|is not in scope|has no `|was not admitted")
 FUNCTION = re.compile(r"fn (\S+): (no proof|not proved|proved)?")
+# Of a body with a raw pointer the prover takes nothing but a proof by hand of all that its contract says: it leaves that open.
+BY_HAND = re.compile(r"fn (\S+): no proof: expected .*: (src/\S+): a raw pointer$")
 # In the answers of functions that call each other, each is named by the function that it belongs to.
 DECLARED = re.compile(r"(?:pub )?(\w+)-")
 
@@ -34,6 +36,9 @@ class Said:
             elif answer := ANSWER.match(line):
                 found = self.lacking if NAME_IS_GONE.search(answer[3]) else self.open
                 found.setdefault(self.function_of(*answer.group(1, 2)), answer[1])
+            elif by_hand := BY_HAND.match(line):
+                self.open.setdefault(by_hand[1], f"{by_hand[2]}, a raw pointer")
+                place = None
             elif function := FUNCTION.match(line):
                 # the notes on a function's goals stand above its line
                 if function[2] == "proved":

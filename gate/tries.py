@@ -2,8 +2,9 @@
 
 A function is proved against the contracts of those that it calls, whatever their bodies are. So wrong bodies of different
 functions are tried in one check, and an edit is refused where the prover leaves a goal open of the very function that it
-changes, whose unedited code it proves by the same means. A goal of another function, or a proof file that only names what
-the edit took away, is told, and shows nothing of the promise that the edit stands for.
+changes, whose unedited code it proves by the same means, or all that its contract says, as of a body with a raw pointer. A
+goal of another function, or a proof file that only names what the edit took away, is told, and shows nothing of the promise
+that the edit stands for.
 """
 import tempfile
 import time
