@@ -1,3 +1,4 @@
 pub mod NarrowLemmas
 pub mod ValueLemmas
 pub mod RunLemmas
+pub mod AtOnce

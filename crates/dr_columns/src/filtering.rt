@@ -5,12 +5,14 @@ ghost use Rattle.dr_predicate.specs.Match.{holds_of, passes};
 ghost use Rattle.dr_image.specs.Checked.{column_at};
 ghost use Rattle.dr_columns.specs.Rows.{Narrows, key_at, meets};
 
+use crate::at_once::narrow_at_once;
 use crate::by_rows::narrow_by_rows;
 use crate::cells::{known_place, value_at};
 use crate::telling::{all_true, drop_where, keep_true};
 use dr_filter::{Filter, FilterTree};
 use dr_image::SegmentView;
 use dr_predicate::{DimensionTest, ValueTest};
+use dr_select::has_many_tests;
 use dr_time::Union;
 use std::alloc::{AllocError, Global};
 
@@ -18,7 +20,9 @@ use std::alloc::{AllocError, Global};
 /// of the dimension's dictionary, and the time of a row once for each run of equal times. The only error is that memory ran out.
 /// It takes time by the tests and the nests of [`Filter::asked`], each by the rows, and each test as
 /// [`ValueTest::passes`](dr_predicate::ValueTest::passes) by the values; but what [`FilterTree::is_guarded`] tells of is asked of each
-/// row that is left, as [`FilterTree::matches`], with the row's texts in memory of its own meanwhile.
+/// row that is left, as [`FilterTree::matches`], with the row's texts in memory of its own meanwhile; and a filter of many tests takes
+/// what [`select_rows`](dr_select::select_rows) takes of as many rows at once as [`lot_end`](dr_select::lot_end) says, in memory of
+/// their own meanwhile.
 pub fn narrow(
     alloc: Global,
     view: &SegmentView<'_>,
@@ -28,6 +32,9 @@ pub fn narrow(
     requires { length told.old ≡ length view.now.times }
     ensures { OnOk result (Narrows (meets view.now (condition_in filter.now)) told.old told.new) }
 {
+    if has_many_tests(filter) {
+        return narrow_at_once(alloc, view, filter, told);
+    }
     narrow_asked(alloc, view, filter.asked(), told)?;
     Ok(())
 }

@@ -49,7 +49,8 @@ impl Selection {
 /// Which rows of an image a query selects. Where the query's intervals, one or several that touch, hold each time from the image's
 /// least to its greatest, which takes time logarithmic in their number, and the query has no filter, it is each row, which takes
 /// no memory. Else it takes a byte for each row and each level of the filter, and time by the tests of the filter, each by the
-/// rows and the dictionary's values. The only error is that memory ran out.
+/// rows and the dictionary's values, but with many tests as [`select_rows`](dr_select::select_rows). The only error is that memory ran
+/// out.
 pub fn rows_selected(
     alloc: Global,
     query: &Query,

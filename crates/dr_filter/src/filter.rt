@@ -15,6 +15,7 @@ use std::marker::Model;
 pub struct Filter {
     spelled: FilterTree,
     asked: FilterTree,
+    tests: usize,
 }
 
 impl Model for Filter {
@@ -39,7 +40,12 @@ impl Filter {
         ensures { IfOk result (λ f. f ≡ spelled) }
     {
         let asked = asked_of(alloc, &spelled)?;
-        Ok(Filter { spelled, asked })
+        let tests = asked.test_count();
+        Ok(Filter {
+            spelled,
+            asked,
+            tests,
+        })
     }
 
     /// Whether a row of this time, in milliseconds since the epoch, and these dimension values, in the order of the schema,
@@ -62,5 +68,11 @@ impl Filter {
         ensures { KeepSame (condition_in result.now) (condition_in self.now) }
     {
         &self.asked
+    }
+
+    /// How many tests of dimensions and of intervals [`Filter::asked`] has. What a filter keeps doesn't depend on it. It takes constant
+    /// time.
+    pub fn test_count(&self) -> usize {
+        self.tests
     }
 }

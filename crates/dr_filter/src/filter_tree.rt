@@ -50,6 +50,18 @@ impl FilterTree {
         has_guards(self, 3)
     }
 
+    // How many tests of dimensions and of intervals there are.
+    #[cycle(counting)]
+    pub(crate) fn test_count(&self) -> usize {
+        match self {
+            FilterTree::Dimension(_) => 1,
+            FilterTree::Interval(_) => 1,
+            FilterTree::And(filters) => test_count_of(filters.as_slice()),
+            FilterTree::Or(filters) => test_count_of(filters.as_slice()),
+            FilterTree::Not(filter) => filter.test_count(),
+        }
+    }
+
     /// Whether a row of this time, in milliseconds since the epoch, and these dimension values, in the order of the schema, meets the
     /// filter. It takes no memory, and time by its tests, but only by those of an `and` or `or` up to the first that tells.
     #[cycle(matching)]
@@ -64,6 +76,15 @@ impl FilterTree {
             FilterTree::Not(filter) => !filter.matches(time, dims),
         }
     }
+}
+
+#[cycle(counting)]
+fn test_count_of(filters: &[FilterTree]) -> usize {
+    let mut count = 0usize;
+    for filter in filters {
+        count = count.saturating_add(filter.test_count());
+    }
+    count
 }
 
 #[cycle(matching)]

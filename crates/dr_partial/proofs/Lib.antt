@@ -8,3 +8,4 @@ pub mod Moved
 pub mod Merged
 pub mod Runs
 pub mod Windows
+pub mod AtOnce

@@ -2,7 +2,7 @@
 use Rattle.std.proofs.Common.{◌≡◌, ◌∙◌, sym, refl, ap, subst, ℕ, zero, suc, ◌+◌, ◌-◌, ◌<◌, ◌≤◌, ℤ, true, List, [], ◌∷◌, ◌++◌, map, length, take, drop, get_or, slice_get, slice_range, Some, None, is_some, unwrap_or, true≢false, ◌&&◌, ◌==◌, Result, Ok, Err, OnOk, arith}
 use Rattle.std.proofs.Math.Dec.{eqb-suc-zero}
 use Rattle.std.proofs.Math.Seq.{take-add}
-use Rattle.std.proofs.lemmas.List.{drop_more, take_more, length-drop, get_or-drop}
+use Rattle.std.proofs.lemmas.List.{drop_more, take_more, length-drop, length-take, get_or-drop}
 use Rattle.std.proofs.lemmas.Option.{get_or_from_slice_get}
 use Rattle.std.specs.List.{AllByRecursion, fold}
 use Rattle.dr_base.specs.declared.key.Key.{Key}
@@ -101,6 +101,12 @@ pub in-run : {X : Type 0} (P : X → Type 0) (xs : List X) (from to i : ℕ) (x 
 in-run P xs from to i x le lt at all =
     let same : from + (i - from) ≡ i = omega (arith, le) in
     member P (slice_range xs from to) (i - from) x (taken (drop from xs) (to - from) (i - from) (omega (arith, le, lt)) ∙ dropped xs from (i - from) ∙ ap (slice_get xs) same ∙ at) all
+
+pub in_range : {X : Type 0} (xs : List X) (from to i : ℕ) (x : X) → from ≤ i → i < to → to ≤ length xs → slice_get xs i ≡ Some x → (i - from < length (slice_range xs from to)) × (x ≡ get_or (slice_range xs from to) (i - from) x)
+in_range xs from to i x le lt within at =
+    let same : from + (i - from) ≡ i = omega (arith, le) in
+    (omega (arith, le, lt, within, length-take (to - from) (drop from xs), length-drop from xs),
+     sym (get_or_from_slice_get (slice_range xs from to) (i - from) x x (taken (drop from xs) (to - from) (i - from) (omega (arith, le, lt)) ∙ dropped xs from (i - from) ∙ ap (slice_get xs) same ∙ at)))
 
 pub absent : {X : Type 0} (xs : List X) (i : ℕ) → length xs ≤ i → slice_get xs i ≡ None
 absent [] i le = refl

@@ -1,21 +1,27 @@
-ghost use Rattle.std.specs.Prelude.{◌≡◌, ◌∷◌, [], map, OnOk};
+ghost use Rattle.std.specs.Prelude.{◌≡◌, ◌∷◌, [], Some, map, option_map, IfOk, OnOk};
 ghost use Rattle.std.specs.List.{AllByRecursion, flat_map};
 ghost use Rattle.dr_schema.specs.Fits.{FitsSchema};
 ghost use Rattle.dr_rollup.specs.Entries.{row_of};
 ghost use Rattle.dr_rollup.specs.Unrolled.{unrolled, contributions};
+ghost use Rattle.dr_answers.specs.Selection.{passes as passes_of};
+ghost use Rattle.dr_filter.specs.Condition.{condition_in};
 ghost use Rattle.dr_ask.specs.Once.{asked_once};
 ghost use Rattle.dr_partial.specs.Grouped.{IsSound, AddsAll};
 ghost use Rattle.dr_partial.specs.Partial.{kinds_in};
 
+use crate::at_once::{filter_of_many, is_told};
 use crate::rows::add_selected;
 use crate::selecting::is_selected;
 use dr_ask::Query;
 use dr_base::{Event, Key, Numbers, Text};
+use dr_filter::Filter;
 use dr_fragment::SharedEvent;
-use dr_rollup::push_contributions;
+use dr_rollup::{KeyOf, push_contributions};
+use dr_rowindex::RowSet;
 use dr_schema::{Metric, Schema};
+use dr_select::{lot_end, select};
 use indexmap::IndexMap;
-use std::alloc::AllocError;
+use std::alloc::{AllocError, Global};
 
 /// Adds the events of some pieces, each as a row of its own, one piece after another. `group` is memory to use again.
 pub fn add_event_pieces(
@@ -49,10 +55,125 @@ fn add_events(
     requires sound { IsSound (kinds_in (asked_once query.now).aggregations) (map row_of groups.old.entries) }
     ensures { OnOk result (AddsAll (asked_once query.now) (map row_of groups.old.entries) (map (unrolled schema.now) events.now) (map row_of groups.new.entries)) }
 {
+    match filter_of_many(query) {
+        Some(filter) => add_at_once(groups, group, metrics, query, filter, schema, events),
+        None => add_each(groups, group, metrics, query, schema, events),
+    }
+}
+
+// Adds events one by one.
+fn add_each(
+    groups: &mut IndexMap<Key, Numbers>,
+    group: &mut Vec<Text>,
+    metrics: &mut Vec<i64>,
+    query: &Query,
+    schema: &Schema,
+    events: &[SharedEvent],
+) -> Result<(), AllocError>
+    requires fit { AllByRecursion (FitsSchema schema.now) events.now }
+    requires sound { IsSound (kinds_in (asked_once query.now).aggregations) (map row_of groups.old.entries) }
+    ensures { OnOk result (AddsAll (asked_once query.now) (map row_of groups.old.entries) (map (unrolled schema.now) events.now) (map row_of groups.new.entries)) }
+{
     for shared in events {
         add_event(groups, group, metrics, query, schema, shared.event())?;
     }
     Ok(())
+}
+
+// Adds events, of which a filter is asked many at once.
+fn add_at_once(
+    groups: &mut IndexMap<Key, Numbers>,
+    group: &mut Vec<Text>,
+    metrics: &mut Vec<i64>,
+    query: &Query,
+    filter: &Filter,
+    schema: &Schema,
+    events: &[SharedEvent],
+) -> Result<(), AllocError>
+    requires filter { option_map condition_in query.now.filter ≡ Some (condition_in filter.now) }
+    requires fit { AllByRecursion (FitsSchema schema.now) events.now }
+    requires sound { IsSound (kinds_in (asked_once query.now).aggregations) (map row_of groups.old.entries) }
+    ensures { OnOk result (AddsAll (asked_once query.now) (map row_of groups.old.entries) (map (unrolled schema.now) events.now) (map row_of groups.new.entries)) }
+{
+    let count = events.len();
+    let mut from = 0;
+    while from < count {
+        let to = lot_end(from, count);
+        add_lot(groups, group, metrics, query, filter, schema, &events[from..to])?;
+        from = to;
+    }
+    Ok(())
+}
+
+// Adds events of which the filter is asked at once.
+fn add_lot(
+    groups: &mut IndexMap<Key, Numbers>,
+    group: &mut Vec<Text>,
+    metrics: &mut Vec<i64>,
+    query: &Query,
+    filter: &Filter,
+    schema: &Schema,
+    events: &[SharedEvent],
+) -> Result<(), AllocError>
+    requires filter { option_map condition_in query.now.filter ≡ Some (condition_in filter.now) }
+    requires fit { AllByRecursion (FitsSchema schema.now) events.now }
+    requires sound { IsSound (kinds_in (asked_once query.now).aggregations) (map row_of groups.old.entries) }
+    ensures { OnOk result (AddsAll (asked_once query.now) (map row_of groups.old.entries) (map (unrolled schema.now) events.now) (map row_of groups.new.entries)) }
+{
+    let told = events_told(*group.allocator(), filter, schema, events)?;
+    for i in 0..events.len() {
+        add_told_event(groups, group, metrics, query, schema, told.contains(i), events[i].event())?;
+    }
+    Ok(())
+}
+
+// Of each event, whether a filter passes its row.
+fn events_told(
+    alloc: Global,
+    filter: &Filter,
+    schema: &Schema,
+    events: &[SharedEvent],
+) -> Result<RowSet, AllocError>
+    requires { AllByRecursion (FitsSchema schema.now) events.now }
+    ensures { IfOk result (λ told. told ≡ map (λ e. passes_of (Some (condition_in filter.now)) (unrolled schema.now e).key) events.now) }
+{
+    let mut keys = Vec::with_capacity(alloc, events.len())?;
+    for shared in events {
+        let event = shared.event();
+        let time = schema.query_granularity().truncate(event.time);
+        let dims = event.dims.as_slice();
+        keys.push(KeyOf { time, dims })?;
+    }
+    let told = select(alloc, filter, keys.as_slice())?;
+    Ok(told)
+}
+
+// Adds an event, where the filter is known to pass its row.
+fn add_told_event(
+    groups: &mut IndexMap<Key, Numbers>,
+    group: &mut Vec<Text>,
+    metrics: &mut Vec<i64>,
+    query: &Query,
+    schema: &Schema,
+    passed: bool,
+    event: &Event,
+) -> Result<(), AllocError>
+    requires passed { passed ≡ passes_of (option_map condition_in query.now.filter) (unrolled schema.now event.now).key }
+    requires fits { FitsSchema schema.now event.now }
+    requires sound { IsSound (kinds_in (asked_once query.now).aggregations) (map row_of groups.old.entries) }
+    ensures { OnOk result (AddsAll (asked_once query.now) (map row_of groups.old.entries) (unrolled schema.now event.now ∷ []) (map row_of groups.new.entries)) }
+{
+    let time = schema.query_granularity().truncate(event.time);
+    let dims = event.dims.as_slice();
+    if !is_told(query, passed, time, dims) {
+        return Ok(());
+    }
+    read_metrics(
+        schema.metrics().as_slice(),
+        event.inputs.as_slice(),
+        metrics,
+    )?;
+    add_selected(groups, group, query, time, dims, metrics.as_slice())
 }
 
 /// Adds an event, where the query selects its row.

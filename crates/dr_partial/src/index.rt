@@ -6,6 +6,7 @@ ghost use Rattle.dr_rollup.specs.Entries.{row_of};
 ghost use Rattle.dr_partial.specs.Grouped.{IsSound, AddsAll};
 ghost use Rattle.dr_partial.specs.Partial.{kinds_in};
 
+use crate::at_once::{add_arrived_at_once, filter_of_many};
 use crate::arrived_runs::{add_run, run_end};
 use crate::window::Window;
 use dr_ask::Query;
@@ -30,6 +31,23 @@ pub fn add_index(
 
 // Adds rows in the order in which their keys came.
 fn add_arrived(
+    groups: &mut IndexMap<Key, Numbers>,
+    group: &mut Vec<Text>,
+    query: &Query,
+    rows: &Arrived<'_>,
+) -> Result<(), AllocError>
+    requires instants { AllByRecursion (λ r. IsInstant r.key.time) rows.now }
+    requires sound { IsSound (kinds_in (asked_once query.now).aggregations) (map row_of groups.old.entries) }
+    ensures { OnOk result (AddsAll (asked_once query.now) (map row_of groups.old.entries) rows.now (map row_of groups.new.entries)) }
+{
+    match filter_of_many(query) {
+        Some(filter) => add_arrived_at_once(groups, group, query, filter, rows),
+        None => add_runs(groups, group, query, rows),
+    }
+}
+
+// Adds rows, those that lie in the same interval and the same bucket after others that do.
+fn add_runs(
     groups: &mut IndexMap<Key, Numbers>,
     group: &mut Vec<Text>,
     query: &Query,

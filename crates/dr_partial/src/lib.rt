@@ -3,6 +3,7 @@
 #![tactic(auto)]
 
 mod arrived_runs;
+mod at_once;
 mod events;
 mod folds;
 mod fragments;

@@ -9,6 +9,7 @@ ghost use Rattle.dr_partial.specs.Grouped.{folds_alone, IsSound, Adds, AddsAll};
 ghost use Rattle.dr_partial.specs.Partial.{kinds_in};
 ghost use Rattle.dr_partial.specs.Runs.{LiesIn};
 
+use crate::at_once::{add_rows_at_once, filter_of_many};
 use crate::grouping::{add, combine, is_group_at};
 use crate::selecting::{bucket_start, dimensions, is_selected, passes, read_group};
 use dr_ask::Query;
@@ -36,6 +37,23 @@ pub fn add_pieces(
 
 /// Adds the rows of a piece. `group` is memory to use again.
 pub fn add_rows(
+    groups: &mut IndexMap<Key, Numbers>,
+    group: &mut Vec<Text>,
+    query: &Query,
+    rows: &[Row],
+) -> Result<(), AllocError>
+    requires instants { AllByRecursion (λ r. IsInstant r.key.time) rows.now }
+    requires sound { IsSound (kinds_in (asked_once query.now).aggregations) (map row_of groups.old.entries) }
+    ensures { OnOk result (AddsAll (asked_once query.now) (map row_of groups.old.entries) rows.now (map row_of groups.new.entries)) }
+{
+    match filter_of_many(query) {
+        Some(filter) => add_rows_at_once(groups, group, query, filter, rows),
+        None => add_each(groups, group, query, rows),
+    }
+}
+
+// Adds rows one by one.
+fn add_each(
     groups: &mut IndexMap<Key, Numbers>,
     group: &mut Vec<Text>,
     query: &Query,

@@ -1,6 +1,6 @@
 ghost use Rattle.std.specs.Prelude.{◌≡◌, ◌&&◌, not, true, ℕ, List, IfOk, bytes_eq};
 ghost use Rattle.dr_predicate.specs.Ends.{starts_behind as starts_behind_of, ends_before as ends_before_of};
-ghost use Rattle.dr_predicate.specs.Ranges.{start_text as start_text_of, start_strict as start_strict_of, lies_open};
+ghost use Rattle.dr_predicate.specs.Ranges.{start_text as start_text_of, start_strict as start_strict_of, lies_open, begun as begun_of, unended as unended_of};
 ghost use Rattle.dr_predicate.specs.Within.{lies_within, not_before as not_before_of, not_after as not_after_of, comes_after as comes_after_of};
 
 use dr_base::Text;
@@ -30,8 +30,8 @@ impl Bounds {
         }
     }
 
-    // One text alone.
-    pub(crate) fn one_text(alloc: Global, text: &str) -> Result<Bounds, AllocError>
+    /// One text alone. The only error is that memory ran out. It takes time by the bytes of the text.
+    pub fn one_text(alloc: Global, text: &str) -> Result<Bounds, AllocError>
         ensures { IfOk result (λ b. (value : List ℕ) → lies_within b value ≡ bytes_eq value text.now) }
     {
         Ok(Bounds {
@@ -53,8 +53,23 @@ impl Bounds {
     pub fn hold(&self, text: &str) -> bool
         ensures { result ≡ lies_within self.now text.now }
     {
+        self.begun(text) && self.unended(text)
+    }
+
+    /// Whether a text is none that comes before the range: so are those that come behind the first that isn't. It takes no memory, and
+    /// time by the bytes of the text.
+    pub fn begun(&self, text: &str) -> bool
+        ensures { result ≡ begun_of text.now self.now }
+    {
         not_before(&self.lower, self.lower_strict, text)
-            && not_after(&self.upper, self.upper_strict, text)
+    }
+
+    /// Whether a text is none that comes behind the range: so are those that come before the last that isn't. It takes no memory, and
+    /// time by the bytes of the text.
+    pub fn unended(&self, text: &str) -> bool
+        ensures { result ≡ unended_of text.now self.now }
+    {
+        not_after(&self.upper, self.upper_strict, text)
     }
 
     // An equal range.

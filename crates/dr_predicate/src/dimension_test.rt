@@ -33,8 +33,8 @@ impl DimensionTest {
     }
 }
 
-/// The value at a place, the empty text where there is none.
-fn value_at(dims: &[Text], place: Option<usize>) -> &str
+/// The value at a place, the empty text where there is none. It takes constant time.
+pub fn value_at(dims: &[Text], place: Option<usize>) -> &str
     ensures { result.now ≡ value_at_of place dims.now }
 {
     let Some(place) = place else {

@@ -18,7 +18,7 @@ mod value_test;
 mod value_tests;
 
 pub use bounds::Bounds;
-pub use dimension_test::DimensionTest;
+pub use dimension_test::{DimensionTest, value_at};
 pub use dimension_tests::DimensionTests;
 pub use ranges::Ranges;
 pub use told_dimension::ToldDimension;

@@ -63,6 +63,13 @@ impl Ranges {
         gaps_of(alloc, self.0)
     }
 
+    /// The ranges. It takes constant time.
+    pub fn as_bounds(&self) -> &[Bounds]
+        ensures { result.now ≡ self.now }
+    {
+        self.0.as_slice()
+    }
+
     /// Whether a text lies in one of the ranges. It takes no memory, and time by the bytes of the text times the logarithm of the
     /// number of ranges.
     pub fn hold(&self, text: &str) -> bool

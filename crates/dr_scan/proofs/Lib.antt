@@ -7,3 +7,4 @@ mod EntryTokens
 mod PlaceLemmas
 mod ImageRows
 mod LeftOut
+pub mod AtOnce

@@ -6,17 +6,20 @@ ghost use Rattle.dr_columns.specs.Told.{tells};
 ghost use Rattle.dr_scan.specs.Chosen.{IsTold, AreTold};
 ghost use Rattle.dr_scan.specs.Rows.{row_in};
 
+use crate::at_once::told_at_once;
 use crate::selecting::is_selected;
 use dr_ask::Query;
 use dr_base::Text;
 use dr_columns::{Selection, is_apart, rows_selected};
 use dr_fragment::LyingRows;
 use dr_image::SegmentView;
+use dr_select::has_many_tests;
 use std::alloc::{AllocError, Global};
 
-/// Which of these rows a query selects, where they lie in an image, which tells it column by column. Rows that were made are asked
-/// one by one, and nothing is told of them here. The only error is that memory ran out. It takes time and memory as
-/// [`rows_selected`], and constant time where no row's time lies in the query's intervals.
+/// Which of these rows a query selects, where they lie in an image, which tells it column by column, or where the filter has many
+/// tests. Other rows that were made are asked one by one, and nothing is told of them here. The only error is that memory ran out.
+/// Of an image it takes time and memory as [`rows_selected`], and constant time where no row's time lies in the query's intervals;
+/// and of other rows as [`select_rows`](dr_select::select_rows).
 pub(crate) fn selection(
     alloc: Global,
     query: &Query,
@@ -26,7 +29,24 @@ pub(crate) fn selection(
 {
     match rows.view() {
         Some(view) => Ok(Some(selection_in(alloc, query, view)?)),
-        None => Ok(None),
+        None => selection_at_once(alloc, query, rows),
+    }
+}
+
+/// Which of these rows a query selects, where its filter is asked soonest of many rows at once; of another nothing is told.
+fn selection_at_once(
+    alloc: Global,
+    query: &Query,
+    rows: &LyingRows<'_>,
+) -> Result<Option<Selection>, AllocError>
+    ensures { IfOk result (λ told. AreTold told (asked query.now) rows.now) }
+{
+    match &query.filter {
+        Some(filter) if has_many_tests(filter) => {
+            let told = told_at_once(alloc, query, filter, rows)?;
+            Ok(Some(Selection::Told(told)))
+        }
+        _ => Ok(None),
     }
 }
 

@@ -3,6 +3,7 @@
 //! selected while these are read, and where rows are ordered their places.
 #![tactic(auto)]
 
+mod at_once;
 mod choosing;
 mod columns_written;
 mod counting;

@@ -28,8 +28,9 @@ use std::alloc::{AllocError, Global};
 /// It takes time by the rows of the segments and by the bytes of the text; where the rows stand in an index, references to them are
 /// sorted, but not where the offset that is left is as large as their number: then those that are selected are counted as they lie.
 /// An order takes n log n in the rows that are selected. Of an image a filter takes time by its tests, each by the rows and by the
-/// dictionary's values; rows that were made are asked one by one. Rows that aren't written aren't read but for their time and,
-/// where they were made and there is a filter, their dimension values.
+/// dictionary's values; rows that were made are asked one by one; and a filter of many tests is asked of many rows at once, as by
+/// [`select_rows`](dr_select::select_rows). Rows that aren't written aren't read but for their time and, where they were made and there
+/// is a filter, their dimension values.
 ///
 /// The text grows in one buffer. Beside it stand, of one segment at a time, of an index where each row lies, and of an image which
 /// rows are selected: a byte for each row and each level of the filter, and nothing where all its times lie in the intervals and

@@ -17,6 +17,7 @@ use dr_ask::{Query, Scan, ScanColumn};
 use dr_base::Text;
 use dr_fragment::LyingRows;
 use dr_rollup::Arrived;
+use dr_select::has_many_tests;
 use json::Writer;
 use std::alloc::{AllocError, Global};
 
@@ -34,7 +35,7 @@ pub(crate) fn write_segment(
     ensures tokens { Adds result out.old out.new (segment_tokens scan.now columns.now segment.now.identifier 0 (given window.old (selected (asked query.now) segment.now.rows))) }
     ensures window { OnOk result (window.new ≡ after window.old (length (selected (asked query.now) segment.now.rows))) }
 {
-    match left_out(*window, segment) {
+    match left_out(query, *window, segment) {
         Some(rows) => leave_out(alloc, window, query, &rows),
         None => {
             let rows = segment.rows()?;
@@ -44,16 +45,24 @@ pub(crate) fn write_segment(
     }
 }
 
-/// The rows of a segment as their keys came, where they stand in an index and the window leaves out as many.
-fn left_out<'s>(window: Window, segment: &'s Segment<'_>) -> Option<Arrived<'s>>
+/// The rows of a segment as their keys came, where they stand in an index, the window leaves out as many, and the filter, if any, is
+/// asked soonest row by row.
+fn left_out<'s>(query: &Query, window: Window, segment: &'s Segment<'_>) -> Option<Arrived<'s>>
     ensures rows { IfSome result (λ rows. IsPermutation rows segment.now.rows) }
     ensures none { IfSome result (λ rows. length rows ≤ window.skip) }
 {
     let rows = segment.arrived()?;
-    if rows.len() as u64 > window.skip {
+    if asks_many_tests(query) || rows.len() as u64 > window.skip {
         return None;
     }
     Some(rows)
+}
+
+fn asks_many_tests(query: &Query) -> bool {
+    match &query.filter {
+        Some(filter) => has_many_tests(filter),
+        None => false,
+    }
 }
 
 /// Writes the entries of a segment with this identifier and these rows.

@@ -1,0 +1,7 @@
+use Rattle.std.proofs.Common.{rules, ◌≡◌, ◌∙◌, sym, ap, refl, length, true, false, set, get_or, arith, ◌^◌, ◌-◌}
+use Rattle.dr_rowindex.proofs.BitLemmas.{bit-zero, bit-ones}
+use Rattle.dr_rowindex.proofs.TruthLemmas.{length-truths, truth-at, truth-behind, word-within, place-within, inserted, alike}
+use Rattle.dr_rowindex.proofs.row_set.RowSet.none.Goals as goal
+
+pub returns : goal.returns
+returns c = alike c.in_ok-words.words.items c.args.count 0 false (c.in_ok-words.ensures.items_if_clones_equal (λ y h. search rules)) (λ k lt. bit-zero k)

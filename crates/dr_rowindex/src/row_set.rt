@@ -1,0 +1,92 @@
+ghost use Rattle.std.specs.Prelude.{◌≡◌, ◌<◌, ◌&&◌, ◌||◌, Bool, true, false, not, length, get_or, set, replicate, IfOk};
+ghost use Rattle.dr_rowindex.specs.Truths.{Joined};
+
+use crate::words::{add_bits, drop_bits, is_set, keep_bits, with_bit};
+use std::alloc::{AllocError, Global};
+use std::marker::Model;
+
+/// A set of some rows, which are counted from 0. A contract sees what is told of each row: true where it is in the set.
+#[derive(Drop)]
+pub struct RowSet {
+    words: Vec<u64>,
+    count: usize,
+}
+
+impl Model for RowSet {
+    ghost use Rattle.std.specs.Prelude.{◌≡◌, ◌+◌, ◌/◌, List, Bool, length};
+    ghost use Rattle.dr_rowindex.specs.Truths.{truths};
+
+    ghost Value = { List Bool };
+
+    ghost view = { λ s. truths s.words.items s.count };
+
+    ghost invariant = { λ s. length s.words.items ≡ s.count / 64 + 1 };
+}
+
+impl RowSet {
+    /// None of so many rows. The only error is that memory ran out. It takes time and memory by the rows, a bit for each.
+    pub fn none(alloc: Global, count: usize) -> Result<RowSet, AllocError>
+        ensures { IfOk result (λ s. s ≡ replicate count false) }
+    {
+        let words = vec![in alloc; 0; count / 64 + 1]?;
+        Ok(RowSet { words, count })
+    }
+
+    /// All of so many rows. The only error is that memory ran out. It takes time and memory by the rows, a bit for each.
+    pub fn all(alloc: Global, count: usize) -> Result<RowSet, AllocError>
+        ensures { IfOk result (λ s. s ≡ replicate count true) }
+    {
+        let words = vec![in alloc; u64::MAX; count / 64 + 1]?;
+        Ok(RowSet { words, count })
+    }
+
+    /// Puts a row into the set. It takes constant time.
+    pub fn insert(&mut self, row: usize)
+        requires { row < length self.old }
+        ensures { self.new ≡ set self.old row true }
+    {
+        let place = row / 64;
+        self.words[place] = with_bit(self.words[place], row % 64);
+    }
+
+    /// Keeps the rows that are in another set too. It takes time by the rows, 64 at once.
+    pub fn and(&mut self, other: &RowSet)
+        requires { length other.now ≡ length self.old }
+        ensures { Joined (λ a b. a && b) other.now self.old self.new }
+    {
+        keep_bits(self.words.as_mut_slice(), other.words.as_slice());
+    }
+
+    /// Adds the rows of another set. It takes time by the rows, 64 at once.
+    pub fn or(&mut self, other: &RowSet)
+        requires { length other.now ≡ length self.old }
+        ensures { Joined (λ a b. a || b) other.now self.old self.new }
+    {
+        add_bits(self.words.as_mut_slice(), other.words.as_slice());
+    }
+
+    /// Takes out the rows that are in another set. It takes time by the rows, 64 at once.
+    pub fn and_not(&mut self, other: &RowSet)
+        requires { length other.now ≡ length self.old }
+        ensures { Joined (λ a b. a && not b) other.now self.old self.new }
+    {
+        drop_bits(self.words.as_mut_slice(), other.words.as_slice());
+    }
+
+    /// Whether a row is in the set; one that isn't among the rows is not. It takes constant time.
+    pub fn contains(&self, row: usize) -> bool
+        ensures { result ≡ get_or self.now row false }
+    {
+        if row >= self.count {
+            return false;
+        }
+        is_set(self.words[row / 64], row % 64)
+    }
+
+    /// How many rows there are, in the set or not. It takes constant time.
+    pub fn row_count(&self) -> usize
+        ensures { result ≡ length self.now }
+    {
+        self.count
+    }
+}

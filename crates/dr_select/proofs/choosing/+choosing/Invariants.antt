@@ -1,0 +1,13 @@
+use Rattle.std.proofs.Common.{◌≡◌, ◌<◌, ◌&&◌, ◌||◌, ℕ, false, length, drop, get_or}
+use Rattle.dr_rollup.specs.declared.key_of.KeyOf.{KeyOf}
+use Rattle.dr_filter.specs.Condition.{conditions_in, every_matches, some_matches}
+use Rattle.dr_select.proofs.TellLemmas.{TellWith}
+use Rattle.dr_select.proofs.choosing.+choosing.Given as goal
+
+abbrev pub invariant-met_by_every-loop-filter : goal.invariant-met_by_every-loop-filter
+invariant-met_by_every-loop-filter l =
+    TellWith (λ a b. a && b) (λ row. every_matches row.time row.dims.now (conditions_in (drop l.filter-index l.filters))) (λ row. every_matches row.time row.dims.now (conditions_in l.filters)) l.lot.rows.now l.set
+
+abbrev pub invariant-met_by_some-loop-filter : goal.invariant-met_by_some-loop-filter
+invariant-met_by_some-loop-filter l =
+    TellWith (λ a b. a || b) (λ row. some_matches row.time row.dims.now (conditions_in (drop l.filter-index l.filters))) (λ row. some_matches row.time row.dims.now (conditions_in l.filters)) l.lot.rows.now l.set

@@ -1,0 +1,127 @@
+ghost use Rattle.std.specs.Prelude.{◌≡◌, map, IfOk};
+ghost use Rattle.dr_predicate.specs.Match.{holds_of};
+ghost use Rattle.dr_time.specs.Union.{union_holds};
+ghost use Rattle.dr_filter.specs.Condition.{condition_in, conditions_in, every_matches, some_matches};
+ghost use Rattle.dr_select.specs.Rows.{meets, Tell};
+
+use crate::lot::Lot;
+use crate::passing::insert_passing;
+use dr_filter::{Filter, FilterTree};
+use dr_predicate::DimensionTest;
+use dr_rollup::KeyOf;
+use dr_rowindex::RowSet;
+use dr_time::Union;
+use std::alloc::{AllocError, Global};
+
+/// The rows that a filter keeps, each lent by its key. The only error is that memory ran out.
+///
+/// The rows are put in the order of their values once for each dimension that [`Filter::asked`] asks for, which takes n log n in the rows,
+/// and memory by them. Then each text and each range takes time by the logarithm of the rows and by the rows whose values it lets
+/// through, an interval and a test of a pattern as [`Union::contains`] and [`ValueTest::passes`](dr_predicate::ValueTest::passes) for
+/// each row or each value that differs, and each `and`, `or` and `not` time by the rows, 64 at once.
+pub fn select(
+    alloc: Global,
+    filter: &Filter,
+    rows: &[KeyOf<'_>],
+) -> Result<RowSet, AllocError>
+    ensures { IfOk result (λ s. s ≡ map (meets (condition_in filter.now)) rows.now) }
+{
+    let asked = filter.asked();
+    let lot = Lot::of(alloc, rows, asked)?;
+    let set = met(alloc, asked, &lot)?;
+    Ok(set)
+}
+
+#[cycle(choosing)]
+fn met(alloc: Global, filter: &FilterTree, lot: &Lot<'_>) -> Result<RowSet, AllocError>
+    ensures { IfOk result (λ s. Tell (meets (condition_in filter.now)) lot.now.rows.now s) }
+{
+    match filter {
+        FilterTree::Dimension(test) => passing(alloc, test, lot),
+        FilterTree::Interval(union) => held(alloc, union, lot.rows),
+        FilterTree::And(filters) => met_by_every(alloc, filters.as_slice(), lot),
+        FilterTree::Or(filters) => met_by_some(alloc, filters.as_slice(), lot),
+        FilterTree::Not(filter) => {
+            let denied = met(alloc, filter, lot)?;
+            let mut set = RowSet::all(alloc, lot.rows.len())?;
+            set.and_not(&denied);
+            Ok(set)
+        }
+    }
+}
+
+// The rows that meet all of some filters.
+#[cycle(choosing)]
+fn met_by_every(
+    alloc: Global,
+    filters: &[FilterTree],
+    lot: &Lot<'_>,
+) -> Result<RowSet, AllocError>
+    ensures { IfOk result (λ s. Tell (λ row. every_matches row.time row.dims.now (conditions_in filters.now)) lot.now.rows.now s) }
+{
+    let mut set = RowSet::all(alloc, lot.rows.len())?;
+    for filter in filters {
+        set.and(&met(alloc, filter, lot)?);
+    }
+    Ok(set)
+}
+
+// The rows that meet one of some filters.
+#[cycle(choosing)]
+fn met_by_some(
+    alloc: Global,
+    filters: &[FilterTree],
+    lot: &Lot<'_>,
+) -> Result<RowSet, AllocError>
+    ensures { IfOk result (λ s. Tell (λ row. some_matches row.time row.dims.now (conditions_in filters.now)) lot.now.rows.now s) }
+{
+    let mut set = RowSet::none(alloc, lot.rows.len())?;
+    for filter in filters {
+        set.or(&met(alloc, filter, lot)?);
+    }
+    Ok(set)
+}
+
+// The rows whose value passes a test.
+fn passing(alloc: Global, test: &DimensionTest, lot: &Lot<'_>) -> Result<RowSet, AllocError>
+    ensures { IfOk result (λ s. Tell (λ row. holds_of test.now row.dims.now) lot.now.rows.now s) }
+{
+    match lot.order_at(test.place) {
+        Some(ordered) => {
+            let mut set = RowSet::none(alloc, lot.rows.len())?;
+            insert_passing(alloc, ordered, &test.test, &mut set)?;
+            Ok(set)
+        }
+        None => passing_by_rows(alloc, test, lot.rows),
+    }
+}
+
+// The same, where the rows stand in no such order.
+fn passing_by_rows(
+    alloc: Global,
+    test: &DimensionTest,
+    rows: &[KeyOf<'_>],
+) -> Result<RowSet, AllocError>
+    ensures { IfOk result (λ s. Tell (λ row. holds_of test.now row.dims.now) rows.now s) }
+{
+    let mut set = RowSet::none(alloc, rows.len())?;
+    for i in 0..rows.len() {
+        if test.holds_of(rows[i].dims) {
+            set.insert(i);
+        }
+    }
+    Ok(set)
+}
+
+// The rows whose time lies in one of some intervals.
+fn held(alloc: Global, union: &Union, rows: &[KeyOf<'_>]) -> Result<RowSet, AllocError>
+    ensures { IfOk result (λ s. Tell (λ row. union_holds union.now row.time) rows.now s) }
+{
+    let mut set = RowSet::none(alloc, rows.len())?;
+    for i in 0..rows.len() {
+        if union.contains(rows[i].time) {
+            set.insert(i);
+        }
+    }
+    Ok(set)
+}
