@@ -1,8 +1,9 @@
 -- Rows that are put into a set one by one.
-use Rattle.std.proofs.Common.{inl, inr, ◌≡◌, ◌∙◌, sym, refl, ap, subst, ℕ, zero, suc, ◌+◌, ◌-◌, ◌<◌, ◌≤◌, ◌==◌, ◌&&◌, ◌||◌, not, nat_lt, nat_le, Bool, true, false, Option, List, [], ◌∷◌, ◌++◌, length, get_or, take, drop, set, length-drop, arith}
+use Rattle.std.proofs.Common.{inl, inr, ◌≡◌, ◌∙◌, sym, refl, ap, subst, ℕ, zero, suc, ◌+◌, ◌-◌, ◌<◌, ◌≤◌, ◌==◌, ◌&&◌, ◌||◌, not, nat_lt, nat_le, Bool, true, false, Option, List, [], ◌∷◌, ◌++◌, length, get_or, take, drop, set, slice_range, length-drop, arith}
 use Rattle.std.specs.List.{list_any, AllWithin}
 use Rattle.std.specs.List.Sorted.{IsPartitionedBy, IsPartitionPoint}
 use Rattle.std.specs.Ordering.{is_lt}
+use Rattle.std.proofs.Math.Seq.{take-add}
 use Rattle.std.proofs.lemmas.Bool.{cases_eq, cases_lt}
 use Rattle.std.proofs.lemmas.Bool.Decides.{nat_tests}
 use Rattle.std.proofs.lemmas.List.{length-set, get_or-set_same, get_or-set_other, get_or-drop, take_more}
@@ -12,7 +13,7 @@ use Rattle.dr_predicate.specs.Within.{lies_within}
 use Rattle.dr_predicate.specs.Ranges.{begun, unended}
 use Rattle.dr_rollup.specs.declared.key_of.KeyOf.{KeyOf}
 use Rattle.dr_select.specs.declared.entry.Entry.{Entry}
-use Rattle.dr_select.specs.Rows.{value_of, tells, entry_order, StandFor, Rises, Adds}
+use Rattle.dr_select.specs.Rows.{value_of, tells, entry_order, StandFor, Rises, Adds, Put, IsBlock, AreBlocks}
 use Rattle.dr_select.proofs.OrderLemmas.{begun-later, unended-earlier}
 use Rattle.dr_select.proofs.EntryLemmas.{between}
 
@@ -29,11 +30,6 @@ row-within (x ∷ xs) n (suc k) e none lt = row-within xs n k e (rest (nat_le n 
     rest : (a b : Bool) → (a || b) ≡ false → b ≡ false
     rest true b h = absurd (cc h)
     rest false b h = h
-
--- rows of some entries were put into a set
-pub record Put (es : List Entry) (before after : List Bool) : Type 0 where
-  pub count : length after ≡ length before
-  pub each : (i : ℕ) → get_or after i false ≡ (get_or before i false || list_any (λ e. e.row == i) es)
 
 pub put-none : (before : List Bool) (es : List Entry) → es ≡ [] → Put es before before
 put-none before es is = record { count = refl; each = λ i. at (get_or before i false) ∙ ap (λ l. get_or before i false || list_any (λ e. e.row == i) l) (sym is) }
@@ -199,3 +195,32 @@ passing-added test place rows es stand before after put = record {
   where
     known : (i : ℕ) (v : Bool) → i < length rows → (nat_lt i (length rows) && v) ≡ v
     known i v lt = let yes : nat_lt i (length rows) ≡ true = grind (arith, nat_tests) in ap (λ x. x && v) yes
+
+-- ---- many at once
+
+pub put-both : (a b all : List Entry) (s t u : List Bool) → all ≡ a ++ b → Put a s t → Put b t u → Put all s u
+put-both a b all s t u is first second = record {
+  count = second.count ∙ first.count;
+  each = λ i. second.each i ∙ ap (λ x. x || list_any (λ e. e.row == i) b) (first.each i) ∙ regroups (get_or s i false) (list_any (λ e. e.row == i) a) (list_any (λ e. e.row == i) b)
+    ∙ ap (λ x. get_or s i false || x) (sym (ap (list_any (λ e. e.row == i)) is ∙ list_any-append (λ (e : Entry). e.row == i) a b));
+}
+  where
+    regroups : (x y z : Bool) → ((x || y) || z) ≡ (x || (y || z))
+    regroups true y z = refl
+    regroups false y z = refl
+
+nothing-left : (n : ℕ) → drop {A = Entry} n [] ≡ []
+nothing-left zero = refl
+nothing-left (suc n) = refl
+
+drop-drop : (n m : ℕ) (l : List Entry) → drop n (drop m l) ≡ drop (m + n) l
+drop-drop n zero l = let z : n ≡ 0 + n = omega arith in ap (λ k. drop k l) z
+drop-drop n (suc m) [] = let z : suc m + n ≡ suc (m + n) = omega arith in nothing-left n ∙ sym (ap (λ k. drop {A = Entry} k []) z)
+drop-drop n (suc m) (x ∷ l) = let z : suc m + n ≡ suc (m + n) = omega arith in drop-drop n m l ∙ sym (ap (λ k. drop k (x ∷ l)) z)
+
+pub slices-joined : (es : List Entry) (from k to : ℕ) → from ≤ k → k ≤ to → take (to - from) (drop from es) ≡ take (k - from) (drop from es) ++ slice_range es k to
+slices-joined es from k to le le' =
+    let whole : (k - from) + (to - k) ≡ to - from = omega (arith, le, le') in
+    let behind : from + (k - from) ≡ k = omega (arith, le) in
+    ap (λ n. take n (drop from es)) (sym whole) ∙ take-add (k - from) (to - k) (drop from es)
+    ∙ ap (λ l. take (k - from) (drop from es) ++ take (to - k) l) (drop-drop (k - from) from es ∙ ap (λ n. drop n es) behind)

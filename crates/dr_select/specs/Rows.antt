@@ -1,10 +1,11 @@
 -- Rows of which a filter is asked all at once.
-use Rattle.std.specs.Prelude.{◌≡◌, ℕ, ◌<◌, ◌≤◌, ◌||◌, ◌&&◌, ◌==◌, nat_lt, nat_le, Bool, false, List, Option, length, get_or}
+use Rattle.std.specs.Prelude.{◌≡◌, ℕ, ◌<◌, ◌≤◌, ◌+◌, ◌*◌, ◌||◌, ◌&&◌, ◌==◌, nat_lt, nat_le, Bool, false, List, Option, length, get_or, slice_range}
 use Rattle.std.specs.List.{list_any}
 use Rattle.std.specs.Ordering.{nat_cmp, is_lt}
 use Rattle.std.specs.Cmp.Lexicographic.{slice_cmp}
 use Rattle.std.specs.declared.cmp.Ordering.{Ordering}
 use Rattle.dr_base.specs.declared.key.Key.{Key}
+use Rattle.dr_rowindex.specs.declared.row_set.RowSet.{RowSet}
 use Rattle.dr_rollup.specs.declared.key_of.KeyOf.{KeyOf}
 use Rattle.dr_filter.specs.Condition.{Condition, matches}
 use Rattle.dr_predicate.specs.Match.{value_at}
@@ -47,3 +48,17 @@ tells i test e = (e.row == i) && test e.text.now
 pub record StandFor (count : ℕ) (place : Option ℕ) (rows : List KeyOf) (entries : List Entry) : Type 0 where
   pub told : (test : List ℕ → Bool) (i : ℕ) (row : KeyOf) → list_any (tells i test) entries ≡ (nat_lt i count && test (value_of place (get_or rows i row)))
   pub within : list_any (λ e. nat_le count e.row) entries ≡ false
+
+-- rows of some entries were put into a set
+pub record Put (es : List Entry) (before after : List Bool) : Type 0 where
+  pub count : length after ≡ length before
+  pub each : (i : ℕ) → get_or after i false ≡ (get_or before i false || list_any (λ e. e.row == i) es)
+
+-- it is told of so many rows which of them 1024 entries from a place on are of
+pub record IsBlock (count : ℕ) (es : List Entry) (from : ℕ) (told : List Bool) : Type 0 where
+  pub long : length told ≡ count
+  pub each : (i : ℕ) → get_or told i false ≡ list_any (λ e. e.row == i) (slice_range es from (from + 1024))
+
+-- and so of each full block of 1024 entries
+abbrev pub AreBlocks : ℕ → List Entry → List RowSet → Type 0
+AreBlocks count es blocks = (b : ℕ) (told : List Bool) → b < length blocks → IsBlock count es (b * 1024) (get_or blocks b told)

@@ -17,7 +17,7 @@ use std::alloc::{AllocError, Global};
 ///
 /// The rows are put in the order of their values once for each dimension that [`Filter::asked`] asks for, which takes n log n in the rows,
 /// and memory by them. Then each text and each range takes time by the logarithm of the rows and by the rows whose values it lets
-/// through, an interval and a test of a pattern as [`Union::contains`] and [`ValueTest::passes`](dr_predicate::ValueTest::passes) for
+/// through, but for those in the middle of many, 64 at once, an interval and a test of a pattern as [`Union::contains`] and [`ValueTest::passes`](dr_predicate::ValueTest::passes) for
 /// each row or each value that differs, and each `and`, `or` and `not` time by the rows, 64 at once.
 pub fn select(
     alloc: Global,

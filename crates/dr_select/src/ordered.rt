@@ -1,8 +1,9 @@
-ghost use Rattle.std.specs.Prelude.{◌≡◌, ◌<◌, ◌-◌, true, false, length, get_or, set as list_set, IfOk};
+ghost use Rattle.std.specs.Prelude.{◌≡◌, ◌<◌, ◌≤◌, ◌+◌, ◌-◌, nat_le, true, false, length, get_or, set as list_set, slice_range, IfOk, IfSome};
+ghost use Rattle.std.specs.List.{list_any};
 ghost use Rattle.dr_predicate.specs.Match.{passes};
 ghost use Rattle.dr_predicate.specs.Within.{lies_within};
 ghost use Rattle.dr_select.specs.declared.entry.Entry.{Entry};
-ghost use Rattle.dr_select.specs.Rows.{value_of, Adds, entry_order, Rises, StandFor};
+ghost use Rattle.dr_select.specs.Rows.{value_of, Adds, entry_order, Rises, StandFor, Put, IsBlock, AreBlocks};
 
 use crate::entry::Entry;
 use dr_predicate::{Bounds, ValueTest, value_at};
@@ -11,14 +12,20 @@ use dr_rowindex::RowSet;
 use std::alloc::{AllocError, Global};
 use std::cmp::Ordering;
 
-/// Rows in the order of their values in one dimension, so that those whose values a range holds stand side by side.
+// How many entries are told of together, where all of them are in a range.
+const BLOCK: usize = 1024;
+
+/// Rows in the order of their values in one dimension, so that those whose values a range holds stand side by side. Of each full block
+/// of them it is told at once which rows they are.
 #[derive(Drop)]
 pub struct Ordered<'a> {
     pub rows: &'a [KeyOf<'a>],
     pub place: Option<usize>,
     entries: Vec<Entry<'a>>,
+    blocks: Vec<RowSet>,
     ghost rises: { Rises entries.items },
     ghost stand: { StandFor (length rows.now) place rows.now entries.items },
+    ghost told: { AreBlocks (length rows.now) entries.items blocks.items },
 }
 
 impl<'a> Ordered<'a> {
@@ -37,10 +44,12 @@ impl<'a> Ordered<'a> {
                 ensures { result ≡ entry_order a.now b.now }
             { a.text.cmp(b.text) },
         )?;
+        let blocks = blocks_of(alloc, entries.as_slice(), rows.len())?;
         Ok(Ordered {
             rows,
             place,
             entries,
+            blocks,
         })
     }
 
@@ -55,9 +64,45 @@ impl<'a> Ordered<'a> {
         let to = self
             .entries
             .partition_point(|entry| bounds.unended(entry.text));
-        for k in from..to {
-            set.insert(self.entries[k].row);
+        let mut k = from;
+        while k < to {
+            k = self.insert_from(k, to, set);
         }
+    }
+
+    // Adds the rows of a block of entries that begins at a place and ends at another or before, or that of the entry there.
+    // Answers the place behind.
+    fn insert_from(&self, k: usize, to: usize, set: &mut RowSet) -> usize
+        requires some { k < to }
+        requires within { to ≤ length self.now.entries.items }
+        requires rows { length set.old ≡ length self.now.rows.now }
+        ensures more { k < result }
+        ensures within { result ≤ to }
+        ensures put { Put (slice_range self.now.entries.items k result) set.old set.new }
+    {
+        match self.block_at(k, to) {
+            Some(block) => {
+                set.or(block);
+                k + BLOCK
+            }
+            None => {
+                set.insert(self.entries[k].row);
+                k + 1
+            }
+        }
+    }
+
+    // The rows of the block that begins at a place, where one does that ends at another or before.
+    fn block_at(&self, k: usize, to: usize) -> Option<&RowSet>
+        requires some { k < to }
+        requires within { to ≤ length self.now.entries.items }
+        ensures ends { IfSome result (λ block. k + 1024 ≤ to) }
+        ensures told { IfSome result (λ block. IsBlock (length self.now.rows.now) self.now.entries.items k block.now) }
+    {
+        if k % BLOCK > 0 || to - k < BLOCK {
+            return None;
+        }
+        self.blocks.get(k / BLOCK)
     }
 
     // Adds the rows whose value passes a test to a set; equal values are tested once.
@@ -95,6 +140,41 @@ fn insert_if(set: &mut RowSet, row: usize, passed: bool)
     if passed {
         set.insert(row);
     }
+}
+
+// Of each full block of entries which rows they are of.
+fn blocks_of(
+    alloc: Global,
+    entries: &[Entry<'_>],
+    count: usize,
+) -> Result<Vec<RowSet>, AllocError>
+    requires { list_any (λ e. nat_le count e.row) entries.now ≡ false }
+    ensures { IfOk result (λ blocks. AreBlocks count entries.now blocks.items) }
+{
+    let full = entries.len() / BLOCK;
+    let mut blocks = Vec::with_capacity(alloc, full)?;
+    for b in 0..full {
+        blocks.push(block_of(alloc, entries, b * BLOCK, count)?)?;
+    }
+    Ok(blocks)
+}
+
+// Of the block of entries from a place on which rows they are of.
+fn block_of(
+    alloc: Global,
+    entries: &[Entry<'_>],
+    from: usize,
+    count: usize,
+) -> Result<RowSet, AllocError>
+    requires rows { list_any (λ e. nat_le count e.row) entries.now ≡ false }
+    requires within { from + 1024 ≤ length entries.now }
+    ensures { IfOk result (IsBlock count entries.now from) }
+{
+    let mut set = RowSet::none(alloc, count)?;
+    for k in from..from + BLOCK {
+        set.insert(entries[k].row);
+    }
+    Ok(set)
 }
 
 fn entries_of<'a>(
