@@ -1,5 +1,5 @@
 -- What is told of rows many at once.
-use Rattle.std.proofs.Common.{◌≡◌, ◌∙◌, sym, refl, ap, subst, ℕ, zero, suc, ◌+◌, ◌-◌, ◌<◌, ◌≤◌, ◌&&◌, not, Bool, true, false, List, [], ◌∷◌, ◌++◌, length, get_or, map, append-nil, arith}
+use Rattle.std.proofs.Common.{◌≡◌, ◌∙◌, sym, refl, ap, ℕ, zero, suc, ◌+◌, ◌-◌, ◌<◌, ◌≤◌, ◌&&◌, not, Bool, true, false, List, [], ◌∷◌, ◌++◌, length, get_or, map, arith}
 use Rattle.std.specs.List.{range_with_len}
 use Rattle.std.proofs.Math.ListN.{get_or-map}
 use Rattle.std.proofs.lemmas.List.{length-map, get_or_default}
@@ -32,7 +32,7 @@ failed-more p f from n i told before xs ys lt is pushed was =
     let rows = map f (range_with_len from n) in
     let long : i < length rows = omega (arith, lt, length-map-range_with_len f from n) in
     let here = ap (λ l. get_or l i false) is ∙ get_or_default (map p rows) i false (p (f from)) (omega (arith, long, length-map rows p)) ∙ get_or-map p rows i (f from)
-        ∙ ap p (get_or-map-range_with_len f from n i (from + i) (f from) lt refl) in
+    ∙ ap p (get_or-map-range_with_len f from n i (from + i) (f from) lt refl) in
     pushed ∙ ap (λ b. xs ++ not b ∷ []) here ∙ ap (λ l. l ++ not (p (f (from + i))) ∷ []) was
     ∙ regroups before (map (λ j. not (p (f j))) (range_with_len from i)) (not (p (f (from + i))) ∷ [])
     ∙ ap (λ l. before ++ l) (sym (map-range_with_len_more (λ j. not (p (f j))) from i (from + i) refl))

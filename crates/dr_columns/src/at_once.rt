@@ -28,11 +28,7 @@ pub(crate) fn narrow_at_once(
 }
 
 // Of each row, whether a filter drops it.
-fn failures(
-    alloc: Global,
-    view: &SegmentView<'_>,
-    filter: &Filter,
-) -> Result<Vec<bool>, AllocError>
+fn failures(alloc: Global, view: &SegmentView<'_>, filter: &Filter) -> Result<Vec<bool>, AllocError>
     ensures { IfOk result (λ failed. failed.items ≡ map (λ i. not (meets view.now (condition_in filter.now) i)) (range_with_len 0 (length view.now.times))) }
 {
     let count = view.row_count();

@@ -104,9 +104,10 @@ in-run P xs from to i x le lt at all =
 
 pub in_range : {X : Type 0} (xs : List X) (from to i : ℕ) (x : X) → from ≤ i → i < to → to ≤ length xs → slice_get xs i ≡ Some x → (i - from < length (slice_range xs from to)) × (x ≡ get_or (slice_range xs from to) (i - from) x)
 in_range xs from to i x le lt within at =
-    let same : from + (i - from) ≡ i = omega (arith, le) in
-    (omega (arith, le, lt, within, length-take (to - from) (drop from xs), length-drop from xs),
-     sym (get_or_from_slice_get (slice_range xs from to) (i - from) x x (taken (drop from xs) (to - from) (i - from) (omega (arith, le, lt)) ∙ dropped xs from (i - from) ∙ ap (slice_get xs) same ∙ at)))
+    let same : from + (i - from) ≡ i = omega (arith, le) in (
+      omega (arith, le, lt, within, length-take (to - from) (drop from xs), length-drop from xs),
+      sym (get_or_from_slice_get (slice_range xs from to) (i - from) x x (taken (drop from xs) (to - from) (i - from) (omega (arith, le, lt)) ∙ dropped xs from (i - from) ∙ ap (slice_get xs) same ∙ at)),
+    )
 
 pub absent : {X : Type 0} (xs : List X) (i : ℕ) → length xs ≤ i → slice_get xs i ≡ None
 absent [] i le = refl

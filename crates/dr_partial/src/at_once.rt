@@ -119,7 +119,14 @@ fn add_lot(
             time: key.time,
             dims: key.dims.as_slice(),
         };
-        add_told(groups, group, query, told.contains(i), &key, metrics.as_slice())?;
+        add_told(
+            groups,
+            group,
+            query,
+            told.contains(i),
+            &key,
+            metrics.as_slice(),
+        )?;
     }
     Ok(())
 }

@@ -99,7 +99,15 @@ fn add_at_once(
     let mut from = 0;
     while from < count {
         let to = lot_end(from, count);
-        add_lot(groups, group, metrics, query, filter, schema, &events[from..to])?;
+        add_lot(
+            groups,
+            group,
+            metrics,
+            query,
+            filter,
+            schema,
+            &events[from..to],
+        )?;
         from = to;
     }
     Ok(())
@@ -122,7 +130,15 @@ fn add_lot(
 {
     let told = events_told(*group.allocator(), filter, schema, events)?;
     for i in 0..events.len() {
-        add_told_event(groups, group, metrics, query, schema, told.contains(i), events[i].event())?;
+        add_told_event(
+            groups,
+            group,
+            metrics,
+            query,
+            schema,
+            told.contains(i),
+            events[i].event(),
+        )?;
     }
     Ok(())
 }

@@ -6,8 +6,8 @@ ghost use Rattle.dr_rollup.specs.Entries.{row_of};
 ghost use Rattle.dr_partial.specs.Grouped.{IsSound, AddsAll};
 ghost use Rattle.dr_partial.specs.Partial.{kinds_in};
 
-use crate::at_once::{add_arrived_at_once, filter_of_many};
 use crate::arrived_runs::{add_run, run_end};
+use crate::at_once::{add_arrived_at_once, filter_of_many};
 use crate::window::Window;
 use dr_ask::Query;
 use dr_base::{Key, Numbers, Text};

@@ -1,8 +1,8 @@
 -- The bits of a word.
-use Rattle.std.proofs.Common.{inl, inr, ◌≡◌, ◌∙◌, sym, refl, ap, subst, ℕ, zero, suc, ◌+◌, ◌%◌, ◌^◌, ◌*◌, ◌-◌, ◌<◌, ◌≢◌, ◌&&◌, ◌||◌, not, min, max, Bool, true, false, eqb, arith}
+use Rattle.std.proofs.Common.{◌≡◌, ◌∙◌, refl, ap, ℕ, zero, suc, ◌+◌, ◌%◌, ◌^◌, ◌*◌, ◌-◌, ◌<◌, ◌≢◌, ◌&&◌, ◌||◌, not, min, max, true, false, eqb, arith}
 use Rattle.std.specs.Int.{bit_at, w64}
 use Rattle.std.specs.Int.RustNames.{bit_and, bit_or, bit_xor}
-use Rattle.std.proofs.lemmas.Nat.Bits.{shr_and_one, bit_at_and, bit_at_or, bit_at_xor, bit_at_set_same, bit_at_set_other, bit_at-lt, bit_at_ones, bit_at-zero}
+use Rattle.std.proofs.lemmas.Nat.Bits.{bit_at_and, bit_at_or, bit_at_xor, bit_at_set_same, bit_at_set_other, bit_at-lt, bit_at_ones, bit_at-zero}
 use Rattle.dr_rowindex.specs.Truths.{has_bit}
 
 -- ---- of numbers below two

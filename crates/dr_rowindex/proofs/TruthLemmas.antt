@@ -1,11 +1,10 @@
 -- Truths that are kept as the bits of words.
-use Rattle.std.proofs.Common.{inl, inr, ◌≡◌, ◌∙◌, sym, refl, ap, subst, ℕ, ◌+◌, ◌-◌, ◌*◌, ◌/◌, ◌%◌, ◌^◌, ◌<◌, ◌≤◌, ◌≢◌, ◌&&◌, ◌||◌, not, Bool, true, false, List, length, get_or, set, replicate, arith}
-use Rattle.std.proofs.lemmas.Bool.{cases_eq, cases_lt}
+use Rattle.std.proofs.Common.{inl, inr, ◌≡◌, ◌∙◌, sym, refl, ap, subst, ℕ, ◌+◌, ◌*◌, ◌/◌, ◌%◌, ◌<◌, ◌≤◌, ◌≢◌, Bool, true, false, List, length, get_or, set, replicate, arith}
+use Rattle.std.proofs.lemmas.Bool.{cases_eq}
 use Rattle.std.proofs.lemmas.List.{length-set, get_or-set_same, get_or-set_other, get_or-replicate, get_or_past, length-replicate, ext_get_or}
 use Rattle.std.proofs.lemmas.List.FromFn.{length-map-range_with_len, get_or-map-range_with_len}
 use Rattle.std.proofs.lemmas.Nat.{div_below, mod_below, div-add-mod'}
 use Rattle.dr_rowindex.specs.Truths.{truths, truth_in, has_bit, Joined}
-use Rattle.dr_rowindex.proofs.BitLemmas.{bit-zero, bit-ones}
 
 pub length-truths : (words : List ℕ) (count : ℕ) → length (truths words count) ≡ count
 unfolding truths
@@ -38,12 +37,12 @@ pub joined : (f : ℕ → ℕ → ℕ) (op : Bool → Bool → Bool) (others bef
 joined f op others before after count law long each = record {
   count = length-truths after count ∙ sym (length-truths before count);
   each = λ i lt.
-    let lt' : i < count = omega (arith, lt, length-truths before count) in
-    let k = i / 64 in
-    truth-at after count i lt' ∙ ap (λ w. has_bit w (i % 64)) (each k (word-within count i (length before) lt' long))
-    ∙ law (get_or before k 0) (get_or others k 0) (i % 64)
-    ∙ ap (λ b. op b (has_bit (get_or others k 0) (i % 64))) (sym (truth-at before count i lt'))
-    ∙ ap (op (get_or (truths before count) i false)) (sym (truth-at others count i lt'));
+      let lt' : i < count = omega (arith, lt, length-truths before count) in
+      let k = i / 64 in
+      truth-at after count i lt' ∙ ap (λ w. has_bit w (i % 64)) (each k (word-within count i (length before) lt' long))
+      ∙ law (get_or before k 0) (get_or others k 0) (i % 64)
+      ∙ ap (λ b. op b (has_bit (get_or others k 0) (i % 64))) (sym (truth-at before count i lt'))
+      ∙ ap (op (get_or (truths before count) i false)) (sym (truth-at others count i lt'));
 }
 
 -- two places in one word that are one
@@ -59,34 +58,38 @@ inserted words count i v lt long is others =
   where
     after : List ℕ
     after = set words (i / 64) v
+
     before : List Bool
     before = truths words count
+
     within : i / 64 < length words
     within = word-within count i (length words) lt long
+
     other : (j : ℕ) → j < count → (j ≡ i → ⊥) → truth_in after j ≡ truth_in words j
     other j lt' apart = elim (cases_eq (j / 64) (i / 64)) [
       | inl same ↦ (ap (λ k. has_bit (get_or after k 0) (j % 64)) same ∙ ap (λ w. has_bit w (j % 64)) (get_or-set_same words (i / 64) v 0 within)
           ∙ others (j % 64) (λ m. apart (same-place i j same m)) ∙ ap (λ k. has_bit (get_or words k 0) (j % 64)) (sym same))
       | inr differs ↦ ap (λ w. has_bit w (j % 64)) (get_or-set_other words (i / 64) (j / 64) v 0 differs)
     ]
+
     each : (j : ℕ) → j < length (truths after count) → get_or (truths after count) j false ≡ get_or (set before i true) j false
     each j lt' =
-      let within_count : j < count = omega (arith, lt', length-truths after count) in
-      truth-at after count j within_count ∙ elim (cases_eq j i) [
-        | inl same ↦ (subst (λ k. truth_in after k ≡ get_or (set before i true) k false) (sym same)
-            (ap (λ w. has_bit w (i % 64)) (get_or-set_same words (i / 64) v 0 within) ∙ is
-            ∙ sym (get_or-set_same before i true false (omega (arith, lt, length-truths words count)))))
-        | inr differs ↦ (other j within_count differs ∙ sym (truth-at words count j within_count) ∙ sym (get_or-set_other before i j true false differs))
-      ]
+        let within_count : j < count = omega (arith, lt', length-truths after count) in
+        truth-at after count j within_count ∙ elim (cases_eq j i) [
+          | inl same ↦ (subst (λ k. truth_in after k ≡ get_or (set before i true) k false) (sym same)
+              (ap (λ w. has_bit w (i % 64)) (get_or-set_same words (i / 64) v 0 within) ∙ is
+              ∙ sym (get_or-set_same before i true false (omega (arith, lt, length-truths words count)))))
+          | inr differs ↦ (other j within_count differs ∙ sym (truth-at words count j within_count) ∙ sym (get_or-set_other before i j true false differs))
+        ]
 
 -- words that are all the same
 pub alike : (words : List ℕ) (count w : ℕ) (b : Bool) → words ≡ replicate (count / 64 + 1) w → ((k : ℕ) → k < 64 → has_bit w k ≡ b) → truths words count ≡ replicate count b
 alike words count w b are has =
     ext_get_or false (truths words count) (replicate count b) (length-truths words count ∙ sym (length-replicate count b)) (λ i lt.
-      let lt' : i < count = omega (arith, lt, length-truths words count) in
-      truth-at words count i lt'
-      ∙ ap (λ v. has_bit v (i % 64)) (ap (λ l. get_or l (i / 64) 0) are ∙ get_or-replicate (count / 64 + 1) (i / 64) w 0 (word-within count i (count / 64 + 1) lt' refl))
-      ∙ has (i % 64) (place-within i) ∙ sym (get_or-replicate count i b false lt'))
+    let lt' : i < count = omega (arith, lt, length-truths words count) in
+    truth-at words count i lt'
+    ∙ ap (λ v. has_bit v (i % 64)) (ap (λ l. get_or l (i / 64) 0) are ∙ get_or-replicate (count / 64 + 1) (i / 64) w 0 (word-within count i (count / 64 + 1) lt' refl))
+    ∙ has (i % 64) (place-within i) ∙ sym (get_or-replicate count i b false lt'))
 
 -- ---- two sets of the same rows
 
@@ -108,7 +111,7 @@ joined-sets f op self other ws vs xs ys after n m law is is' long a x y each =
     subst (λ o. Joined op o self (truths after n)) (ap (truths vs) (sym (same-count self other ws vs n m is is' long)) ∙ is')
     (subst (λ s. Joined op (truths vs n) s (truths after n)) is
     (joined f op vs ws after n law a (λ k lt.
-      each k (subst (λ l. k < length l) (sym x) lt) ∙ ap (λ l. f (get_or l k 0) (get_or ys k 0)) x ∙ ap (λ l. f (get_or ws k 0) (get_or l k 0)) y)))
+    each k (subst (λ l. k < length l) (sym x) lt) ∙ ap (λ l. f (get_or l k 0) (get_or ys k 0)) x ∙ ap (λ l. f (get_or ws k 0) (get_or l k 0)) y)))
 
 pub row-within : (self : List Bool) (words : List ℕ) (count row : ℕ) → truths words count ≡ self → row < length self → row < count
 row-within self words count row is lt = omega (arith, lt, sym (ap length is) ∙ length-truths words count)

@@ -18,8 +18,8 @@ pub adds-both : (f g h : KeyOf → Bool) (rows : List KeyOf) (a b c : List Bool)
 adds-both f g h rows a b c first second is = record {
   count = second.count ∙ first.count;
   each = λ i row lt.
-    second.each i row lt ∙ ap (λ x. x || g (get_or rows i row)) (first.each i row lt)
-    ∙ regroups (get_or a i false) (f (get_or rows i row)) (g (get_or rows i row)) ∙ ap (λ x. get_or a i false || x) (sym (is (get_or rows i row)));
+      second.each i row lt ∙ ap (λ x. x || g (get_or rows i row)) (first.each i row lt)
+      ∙ regroups (get_or a i false) (f (get_or rows i row)) (g (get_or rows i row)) ∙ ap (λ x. get_or a i false || x) (sym (is (get_or rows i row)));
 }
   where
     regroups : (x y z : Bool) → ((x || y) || z) ≡ (x || (y || z))
@@ -34,8 +34,8 @@ pub one-more : {X : Type 0} (p : X → KeyOf → Bool) (rows : List KeyOf) (xs :
     → Adds (λ row. list_any (λ y. p y row) (take i xs)) rows a b → Adds (p x) rows b c → Adds (λ row. list_any (λ y. p y row) (take (i + 1) xs)) rows a c
 one-more p rows xs i x a b c lt is first second =
     adds-both (λ row. list_any (λ y. p y row) (take i xs)) (p x) (λ row. list_any (λ y. p y row) (take (i + 1) xs)) rows a b c first second
-      (λ row. ap (list_any (λ y. p y row)) (take_more xs i x lt ∙ ap (λ y. take i xs ++ y ∷ []) (sym is)) ∙ list_any-append (λ y. p y row) (take i xs) (x ∷ [])
-        ∙ ap (λ z. list_any (λ y. p y row) (take i xs) || z) (or_false (p x row)))
+    (λ row. ap (list_any (λ y. p y row)) (take_more xs i x lt ∙ ap (λ y. take i xs ++ y ∷ []) (sym is)) ∙ list_any-append (λ y. p y row) (take i xs) (x ∷ [])
+    ∙ ap (λ z. list_any (λ y. p y row) (take i xs) || z) (or_false (p x row)))
   where
     or_false : (b : Bool) → (b || false) ≡ b
     or_false true = refl
@@ -50,4 +50,4 @@ pub mapped-at : {X Y : Type 0} (f : X → Y) (xs : List X) (ys : List Y) (i : �
 mapped-at f xs ys i x y made lt is same =
     let long : i < length (map f xs) = omega (arith, lt, length-map xs f) in
     subst (λ l. (i < length l) × (y ≡ get_or l i y)) made
-      (long, same ∙ ap f is ∙ sym (get_or-map f xs i x) ∙ get_or_default (map f xs) i (f x) y long)
+    (long, same ∙ ap f is ∙ sym (get_or-map f xs i x) ∙ get_or_default (map f xs) i (f x) y long)

@@ -1,11 +1,11 @@
 -- The entries of rows.
-use Rattle.std.proofs.Common.{inl, inr, ◌≡◌, ◌∙◌, sym, refl, ap, subst, ℕ, zero, suc, ◌+◌, ◌-◌, ◌<◌, ◌≤◌, ◌==◌, ◌&&◌, ◌||◌, not, nat_lt, nat_le, Bool, true, false, Option, List, [], ◌∷◌, ◌++◌, length, get_or, take, drop, set, arith}
+use Rattle.std.proofs.Common.{inl, inr, ◌≡◌, ◌∙◌, sym, refl, ap, ℕ, zero, suc, ◌+◌, ◌<◌, ◌≤◌, ◌==◌, ◌&&◌, ◌||◌, nat_lt, nat_le, Bool, true, false, Option, List, [], ◌∷◌, ◌++◌, length, get_or, take, drop, arith}
 use Rattle.std.specs.List.{list_any}
 use Rattle.std.specs.List.Sorted.{IsPermutation, IsSortedBy}
 use Rattle.std.specs.Cmp.{IsStrictWeakOrder, on_total}
-use Rattle.std.specs.Ordering.{nat_cmp, is_lt}
-use Rattle.std.specs.Cmp.Lexicographic.{slice_cmp, nat_list_cmp_total}
-use Rattle.std.proofs.lemmas.Bool.{cases_order, cases_eq}
+use Rattle.std.specs.Ordering.{is_lt}
+use Rattle.std.specs.Cmp.Lexicographic.{nat_list_cmp_total}
+use Rattle.std.proofs.lemmas.Bool.{cases_order}
 use Rattle.std.proofs.lemmas.Bool.Decides.{nat_tests}
 use Rattle.std.proofs.lemmas.List.Folds.{list_any-append}
 use Rattle.std.proofs.lemmas.List.MinMax.{ranks_by}
@@ -29,8 +29,8 @@ fewer n (f ∷ fs) h = at (nat_le n f.row) refl (fewer n fs)
     at : (b : Bool) → nat_le n f.row ≡ b → (list_any (λ e. nat_le n e.row) fs ≡ false → list_any (λ e. nat_le (n + 1) e.row) fs ≡ false) → (nat_le (n + 1) f.row || list_any (λ e. nat_le (n + 1) e.row) fs) ≡ false
     at true y rest = absurd (cc (sym (ap (λ b. b || list_any (λ e. nat_le n e.row) fs) y) ∙ h))
     at false y rest =
-      let c : nat_le (n + 1) f.row ≡ false = grind (arith, nat_tests) in
-      ap (λ b. b || list_any (λ e. nat_le (n + 1) e.row) fs) c ∙ rest (sym (ap (λ b. b || list_any (λ e. nat_le n e.row) fs) y) ∙ h)
+        let c : nat_le (n + 1) f.row ≡ false = grind (arith, nat_tests) in
+        ap (λ b. b || list_any (λ e. nat_le (n + 1) e.row) fs) c ∙ rest (sym (ap (λ b. b || list_any (λ e. nat_le n e.row) fs) y) ∙ h)
 
 module _ (n : ℕ) (place : Option ℕ) (rows : List KeyOf) (es all : List Entry) (e : Entry) (was : StandFor n place rows es) (is : all ≡ es ++ e ∷ [])
     (here : e.row ≡ n) (text : (row : KeyOf) → e.text.now ≡ value_of place (get_or rows n row)) where
@@ -45,33 +45,36 @@ module _ (n : ℕ) (place : Option ℕ) (rows : List KeyOf) (es all : List Entry
     where
       v : Bool
       v = test (value_of place (get_or rows i row))
+
       at_it : i ≡ n → ((nat_lt i n && v) || (tells i test e || false)) ≡ (nat_lt i (n + 1) && v)
       at_it same =
-        let a : nat_lt i n ≡ false = grind (arith, nat_tests) in
-        let b : nat_lt i (n + 1) ≡ true = grind (arith, nat_tests) in
-        let c : (e.row == i) ≡ true = grind (arith, nat_tests) in
-        let t : e.text.now ≡ value_of place (get_or rows i row) = text row ∙ ap (λ k. value_of place (get_or rows k row)) (sym same) in
-        ap (λ x. (x && v) || (tells i test e || false)) a ∙ ap (λ x. (x && test e.text.now) || false) c ∙ ap (λ l. test l || false) t ∙ closed v ∙ sym (ap (λ x. x && v) b)
+          let a : nat_lt i n ≡ false = grind (arith, nat_tests) in
+          let b : nat_lt i (n + 1) ≡ true = grind (arith, nat_tests) in
+          let c : (e.row == i) ≡ true = grind (arith, nat_tests) in
+          let t : e.text.now ≡ value_of place (get_or rows i row) = text row ∙ ap (λ k. value_of place (get_or rows k row)) (sym same) in
+          ap (λ x. (x && v) || (tells i test e || false)) a ∙ ap (λ x. (x && test e.text.now) || false) c ∙ ap (λ l. test l || false) t ∙ closed v ∙ sym (ap (λ x. x && v) b)
         where
           closed : (b : Bool) → (b || false) ≡ b
           closed true = refl
           closed false = refl
+
       below : i < n → ((nat_lt i n && v) || (tells i test e || false)) ≡ (nat_lt i (n + 1) && v)
       below less =
-        let a : nat_lt i n ≡ true = grind (arith, nat_tests) in
-        let b : nat_lt i (n + 1) ≡ true = grind (arith, nat_tests) in
-        let c : (e.row == i) ≡ false = grind (arith, nat_tests) in
-        ap (λ x. (x && v) || (tells i test e || false)) a ∙ ap (λ x. v || ((x && test e.text.now) || false)) c ∙ closed v ∙ sym (ap (λ x. x && v) b)
+          let a : nat_lt i n ≡ true = grind (arith, nat_tests) in
+          let b : nat_lt i (n + 1) ≡ true = grind (arith, nat_tests) in
+          let c : (e.row == i) ≡ false = grind (arith, nat_tests) in
+          ap (λ x. (x && v) || (tells i test e || false)) a ∙ ap (λ x. v || ((x && test e.text.now) || false)) c ∙ closed v ∙ sym (ap (λ x. x && v) b)
         where
           closed : (b : Bool) → (b || false) ≡ b
           closed true = refl
           closed false = refl
+
       above : n < i → ((nat_lt i n && v) || (tells i test e || false)) ≡ (nat_lt i (n + 1) && v)
       above more =
-        let a : nat_lt i n ≡ false = grind (arith, nat_tests) in
-        let b : nat_lt i (n + 1) ≡ false = grind (arith, nat_tests) in
-        let c : (e.row == i) ≡ false = grind (arith, nat_tests) in
-        ap (λ x. (x && v) || (tells i test e || false)) a ∙ ap (λ x. (x && test e.text.now) || false) c ∙ sym (ap (λ x. x && v) b)
+          let a : nat_lt i n ≡ false = grind (arith, nat_tests) in
+          let b : nat_lt i (n + 1) ≡ false = grind (arith, nat_tests) in
+          let c : (e.row == i) ≡ false = grind (arith, nat_tests) in
+          ap (λ x. (x && v) || (tells i test e || false)) a ∙ ap (λ x. (x && test e.text.now) || false) c ∙ sym (ap (λ x. x && v) b)
 
   within-more : list_any (λ e. nat_le (n + 1) e.row) all ≡ false
   within-more =
@@ -131,11 +134,11 @@ module _ (p q : Entry → Bool) where
       ap (λ b. (p e && b) || list_any (λ e. p e && q e) es) (mid 0 e (omega arith) (omega arith) (omega arith))
       ∙ first (p e) (list_any (λ e. p e && q e) es)
       ∙ ap (λ b. p e || b) (between es zero n (λ j d lt lt'. absurd (omega (arith, lt)))
-          (λ j d le lt lt'. mid (suc j) d (omega arith) (omega (arith, lt)) (omega (arith, lt')))
-          (λ j d le lt. high (suc j) d (omega (arith, le)) (omega (arith, lt))))
+      (λ j d le lt lt'. mid (suc j) d (omega arith) (omega (arith, lt)) (omega (arith, lt')))
+      (λ j d le lt. high (suc j) d (omega (arith, le)) (omega (arith, lt))))
   between (e ∷ es) (suc from) n low mid high =
       ap (λ b. (p e && b) || list_any (λ e. p e && q e) es) (low 0 e (omega arith) (omega arith))
       ∙ neither (p e) (list_any (λ e. p e && q e) es)
       ∙ between es from n (λ j d lt lt'. low (suc j) d (omega (arith, lt)) (omega (arith, lt')))
-          (λ j d le lt lt'. mid (suc j) d (omega (arith, le)) (omega (arith, lt)) (omega (arith, lt')))
-          (λ j d le lt. high (suc j) d (omega (arith, le)) (omega (arith, lt)))
+      (λ j d le lt lt'. mid (suc j) d (omega (arith, le)) (omega (arith, lt)) (omega (arith, lt')))
+      (λ j d le lt. high (suc j) d (omega (arith, le)) (omega (arith, lt)))

@@ -1,8 +1,7 @@
 -- Rows that are put into a set one by one.
 use Rattle.std.proofs.Common.{inl, inr, ◌≡◌, ◌∙◌, sym, refl, ap, subst, ℕ, zero, suc, ◌+◌, ◌-◌, ◌<◌, ◌≤◌, ◌==◌, ◌&&◌, ◌||◌, not, nat_lt, nat_le, Bool, true, false, Option, List, [], ◌∷◌, ◌++◌, length, get_or, take, drop, set, slice_range, length-drop, arith}
 use Rattle.std.specs.List.{list_any, AllWithin}
-use Rattle.std.specs.List.Sorted.{IsPartitionedBy, IsPartitionPoint}
-use Rattle.std.specs.Ordering.{is_lt}
+use Rattle.std.specs.List.Sorted.{IsPartitionedBy}
 use Rattle.std.proofs.Math.Seq.{take-add}
 use Rattle.std.proofs.lemmas.Bool.{cases_eq, cases_lt}
 use Rattle.std.proofs.lemmas.Bool.Decides.{nat_tests}
@@ -13,7 +12,7 @@ use Rattle.dr_predicate.specs.Within.{lies_within}
 use Rattle.dr_predicate.specs.Ranges.{begun, unended}
 use Rattle.dr_rollup.specs.declared.key_of.KeyOf.{KeyOf}
 use Rattle.dr_select.specs.declared.entry.Entry.{Entry}
-use Rattle.dr_select.specs.Rows.{value_of, tells, entry_order, StandFor, Rises, Adds, Put, IsBlock, AreBlocks}
+use Rattle.dr_select.specs.Rows.{value_of, tells, StandFor, Rises, Adds, Put}
 use Rattle.dr_select.proofs.OrderLemmas.{begun-later, unended-earlier}
 use Rattle.dr_select.proofs.EntryLemmas.{between}
 
@@ -51,22 +50,27 @@ put-more es all e before after is lt was = record {
     truly : (b : Bool) → (b || true) ≡ true
     truly true = refl
     truly false = refl
+
     or_true : (b : Bool) → (b || (true || false)) ≡ true
     or_true true = refl
     or_true false = refl
+
     or_false : (b : Bool) → (b || (false || false)) ≡ b
     or_false true = refl
     or_false false = refl
+
     split : (i : ℕ) → list_any (λ e. e.row == i) all ≡ (list_any (λ e. e.row == i) es || ((e.row == i) || false))
     split i = ap (list_any (λ e. e.row == i)) is ∙ list_any-append (λ (e : Entry). e.row == i) es (e ∷ [])
+
     found : (i : ℕ) → e.row ≡ i → list_any (λ e. e.row == i) all ≡ true
     found i same =
-      let c : (e.row == i) ≡ true = grind (arith, nat_tests) in
-      split i ∙ ap (λ b. list_any (λ e. e.row == i) es || (b || false)) c ∙ or_true (list_any (λ e. e.row == i) es)
+        let c : (e.row == i) ≡ true = grind (arith, nat_tests) in
+        split i ∙ ap (λ b. list_any (λ e. e.row == i) es || (b || false)) c ∙ or_true (list_any (λ e. e.row == i) es)
+
     kept : (i : ℕ) → (e.row ≡ i → ⊥) → list_any (λ e. e.row == i) all ≡ list_any (λ e. e.row == i) es
     kept i differs =
-      let c : (e.row == i) ≡ false = grind (arith, nat_tests) in
-      split i ∙ ap (λ b. list_any (λ e. e.row == i) es || (b || false)) c ∙ or_false (list_any (λ e. e.row == i) es)
+        let c : (e.row == i) ≡ false = grind (arith, nat_tests) in
+        split i ∙ ap (λ b. list_any (λ e. e.row == i) es || (b || false)) c ∙ or_false (list_any (λ e. e.row == i) es)
 
 -- the next of those from one place on
 pub next : (es : List Entry) (from k : ℕ) (e : Entry) → from ≤ k → k < length es → e ≡ get_or es k e → take (k + 1 - from) (drop from es) ≡ take (k - from) (drop from es) ++ e ∷ []
@@ -99,28 +103,32 @@ pub within-added : (b : Bounds) (place : Option ℕ) (rows : List KeyOf) (es : L
 within-added b place rows es stand from to k before after le near none far start_low start_high end_low end_high put = record {
   count = put.count;
   each = λ i row lt.
-    put.each i
-    ∙ ap (λ c. get_or before i false || c)
+      put.each i
+      ∙ ap (λ c. get_or before i false || c)
       (sym (between (λ e. e.row == i) (λ e. lies_within b e.text.now) es from (k - from) (low i) (mid i) (high i)) ∙ stand.told (lies_within b) i row ∙ known i (lies_within b (value_of place (get_or rows i row))) lt);
 }
   where
     known : (i : ℕ) (v : Bool) → i < length rows → (nat_lt i (length rows) && v) ≡ v
     known i v lt = let yes : nat_lt i (length rows) ≡ true = grind (arith, nat_tests) in ap (λ x. x && v) yes
+
     turned : (x : Bool) (y : Bool) → not x ≡ y → x ≡ not y
     turned true y h = ap not h
     turned false y h = ap not h
+
     low : (i j : ℕ) (e : Entry) → j < from → j < length es → lies_within b (get_or es j e).text.now ≡ false
     low i j e lt lt' = ap (λ x. x && unended (get_or es j e).text.now b) (turned (begun (get_or es j e).text.now b) true (start_low j e (omega arith) lt))
+
     mid : (i j : ℕ) (e : Entry) → from ≤ j → j < from + (k - from) → j < length es → lies_within b (get_or es j e).text.now ≡ true
     mid i j e le' lt lt' =
-      ap (λ x. x && unended (get_or es j e).text.now b) (turned (begun (get_or es j e).text.now b) false (start_high j e le' lt'))
-      ∙ end_low j e (omega arith) (elim (cases_lt from to) [
+        ap (λ x. x && unended (get_or es j e).text.now b) (turned (begun (get_or es j e).text.now b) false (start_high j e le' lt'))
+        ∙ end_low j e (omega arith) (elim (cases_lt from to) [
           | inl less ↦ (let close = near (omega (arith, less)) in omega (arith, le, lt, close))
           | inr more ↦ (let at = none more in absurd (omega (arith, le', lt, at)))
         ])
+
     high : (i j : ℕ) (e : Entry) → from + (k - from) ≤ j → j < length es → lies_within b (get_or es j e).text.now ≡ false
     high i j e le' lt =
-      ap (λ x. begun (get_or es j e).text.now b && x) (end_high j e (omega (arith, le, le', far)) lt) ∙ nor (begun (get_or es j e).text.now b)
+        ap (λ x. begun (get_or es j e).text.now b && x) (end_high j e (omega (arith, le, le', far)) lt) ∙ nor (begun (get_or es j e).text.now b)
       where
         nor : (x : Bool) → (x && false) ≡ false
         nor true = refl
@@ -178,12 +186,13 @@ module _ (test : List ℕ → Bool) (es all : List Entry) (e : Entry) (before af
     where
       found : (i : ℕ) → e.row ≡ i → list_any (tells i test) all ≡ true
       found i same =
-        let c : (e.row == i) ≡ true = grind (arith, nat_tests) in
-        split i ∙ ap (λ b. list_any (tells i test) es || (b || false)) (ap (λ b. b && test e.text.now) c ∙ passes) ∙ or_true (list_any (tells i test) es)
+          let c : (e.row == i) ≡ true = grind (arith, nat_tests) in
+          split i ∙ ap (λ b. list_any (tells i test) es || (b || false)) (ap (λ b. b && test e.text.now) c ∙ passes) ∙ or_true (list_any (tells i test) es)
+
       kept : (i : ℕ) → (e.row ≡ i → ⊥) → list_any (tells i test) all ≡ list_any (tells i test) es
       kept i differs =
-        let c : (e.row == i) ≡ false = grind (arith, nat_tests) in
-        nowhere i (ap (λ b. b && test e.text.now) c)
+          let c : (e.row == i) ≡ false = grind (arith, nat_tests) in
+          nowhere i (ap (λ b. b && test e.text.now) c)
 
 -- all of them are of rows whose value passes
 pub passing-added : (test : List ℕ → Bool) (place : Option ℕ) (rows : List KeyOf) (es : List Entry) → StandFor (length rows) place rows es
@@ -202,7 +211,7 @@ pub put-both : (a b all : List Entry) (s t u : List Bool) → all ≡ a ++ b →
 put-both a b all s t u is first second = record {
   count = second.count ∙ first.count;
   each = λ i. second.each i ∙ ap (λ x. x || list_any (λ e. e.row == i) b) (first.each i) ∙ regroups (get_or s i false) (list_any (λ e. e.row == i) a) (list_any (λ e. e.row == i) b)
-    ∙ ap (λ x. get_or s i false || x) (sym (ap (list_any (λ e. e.row == i)) is ∙ list_any-append (λ (e : Entry). e.row == i) a b));
+      ∙ ap (λ x. get_or s i false || x) (sym (ap (list_any (λ e. e.row == i)) is ∙ list_any-append (λ (e : Entry). e.row == i) a b));
 }
   where
     regroups : (x y z : Bool) → ((x || y) || z) ≡ (x || (y || z))

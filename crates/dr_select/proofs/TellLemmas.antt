@@ -76,10 +76,10 @@ pub with-more : (op : Bool → Bool → Bool) (one left rest whole : KeyOf → B
 with-more op one left rest whole rows before other after regroups told joined was is = record {
   count = joined.count ∙ was.count;
   each = λ i row lt.
-    let here : i < length before = omega (arith, lt, was.count) in
-    ap (λ x. op x (rest (get_or rows i row))) (joined.each i here ∙ ap (op (get_or before i false)) (told.each i row lt))
-    ∙ regroups (get_or before i false) (one (get_or rows i row)) (rest (get_or rows i row))
-    ∙ ap (op (get_or before i false)) (sym (is (get_or rows i row))) ∙ was.each i row lt;
+      let here : i < length before = omega (arith, lt, was.count) in
+      ap (λ x. op x (rest (get_or rows i row))) (joined.each i here ∙ ap (op (get_or before i false)) (told.each i row lt))
+      ∙ regroups (get_or before i false) (one (get_or rows i row)) (rest (get_or rows i row))
+      ∙ ap (op (get_or before i false)) (sym (is (get_or rows i row))) ∙ was.each i row lt;
 }
 
 pub with-all : (op : Bool → Bool → Bool) (b : Bool) (left whole : KeyOf → Bool) (rows : List KeyOf) (told : List Bool) → ((x : Bool) → op x b ≡ x) → ((row : KeyOf) → left row ≡ b) → TellWith op left whole rows told → Tell whole rows told
@@ -94,8 +94,8 @@ pub tell-not : (test : KeyOf → Bool) (rows : List KeyOf) (all other after : Li
 tell-not test rows all other after n is long told joined = record {
   count = joined.count ∙ ap length is ∙ length-replicate n true ∙ long;
   each = λ i row lt.
-    let within : i < length all = omega (arith, lt, long, ap length is ∙ length-replicate n true) in
-    joined.each i within ∙ ap (λ x. x && not (get_or other i false)) (ap (λ l. get_or l i false) is ∙ get_or-replicate n i true false (omega (arith, lt, long))) ∙ ap not (told.each i row lt);
+      let within : i < length all = omega (arith, lt, long, ap length is ∙ length-replicate n true) in
+      joined.each i within ∙ ap (λ x. x && not (get_or other i false)) (ap (λ l. get_or l i false) is ∙ get_or-replicate n i true false (omega (arith, lt, long))) ∙ ap not (told.each i row lt);
 }
 
 pub tell-added : (test : KeyOf → Bool) (rows : List KeyOf) (none after : List Bool) (n : ℕ) → none ≡ replicate n false → n ≡ length rows → Adds test rows none after → Tell test rows after
@@ -109,8 +109,8 @@ tell-list test [] [] was = refl
 tell-list test [] (b ∷ bs) was = absurd (omega (arith, was.count))
 tell-list test (r ∷ rs) told was =
     ext_get_or false told (map test (r ∷ rs)) (was.count ∙ sym (length-map (r ∷ rs) test)) (λ i lt.
-      let within : i < length (r ∷ rs) = omega (arith, lt, was.count) in
-      was.each i r within ∙ sym (get_or_default (map test (r ∷ rs)) i false (test r) (omega (arith, within, length-map (r ∷ rs) test)) ∙ get_or-map test (r ∷ rs) i r))
+    let within : i < length (r ∷ rs) = omega (arith, lt, was.count) in
+    was.each i r within ∙ sym (get_or_default (map test (r ∷ rs)) i false (test r) (omega (arith, within, length-map (r ∷ rs) test)) ∙ get_or-map test (r ∷ rs) i r))
 
 pub tell-same : (f g : KeyOf → Bool) (rows : List KeyOf) (told : List Bool) → ((row : KeyOf) → f row ≡ g row) → Tell f rows told → Tell g rows told
 tell-same f g rows told same was = record { count = was.count; each = λ i row lt. was.each i row lt ∙ same (get_or rows i row) }

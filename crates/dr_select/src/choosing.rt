@@ -19,11 +19,7 @@ use std::alloc::{AllocError, Global};
 /// and memory by them. Then each text and each range takes time by the logarithm of the rows and by the rows whose values it lets
 /// through, but for those in the middle of many, 64 at once, an interval and a test of a pattern as [`Union::contains`] and [`ValueTest::passes`](dr_predicate::ValueTest::passes) for
 /// each row or each value that differs, and each `and`, `or` and `not` time by the rows, 64 at once.
-pub fn select(
-    alloc: Global,
-    filter: &Filter,
-    rows: &[KeyOf<'_>],
-) -> Result<RowSet, AllocError>
+pub fn select(alloc: Global, filter: &Filter, rows: &[KeyOf<'_>]) -> Result<RowSet, AllocError>
     ensures { IfOk result (λ s. s ≡ map (meets (condition_in filter.now)) rows.now) }
 {
     let asked = filter.asked();
@@ -52,11 +48,7 @@ fn met(alloc: Global, filter: &FilterTree, lot: &Lot<'_>) -> Result<RowSet, Allo
 
 // The rows that meet all of some filters.
 #[cycle(choosing)]
-fn met_by_every(
-    alloc: Global,
-    filters: &[FilterTree],
-    lot: &Lot<'_>,
-) -> Result<RowSet, AllocError>
+fn met_by_every(alloc: Global, filters: &[FilterTree], lot: &Lot<'_>) -> Result<RowSet, AllocError>
     ensures { IfOk result (λ s. Tell (λ row. every_matches row.time row.dims.now (conditions_in filters.now)) lot.now.rows.now s) }
 {
     let mut set = RowSet::all(alloc, lot.rows.len())?;
@@ -68,11 +60,7 @@ fn met_by_every(
 
 // The rows that meet one of some filters.
 #[cycle(choosing)]
-fn met_by_some(
-    alloc: Global,
-    filters: &[FilterTree],
-    lot: &Lot<'_>,
-) -> Result<RowSet, AllocError>
+fn met_by_some(alloc: Global, filters: &[FilterTree], lot: &Lot<'_>) -> Result<RowSet, AllocError>
     ensures { IfOk result (λ s. Tell (λ row. some_matches row.time row.dims.now (conditions_in filters.now)) lot.now.rows.now s) }
 {
     let mut set = RowSet::none(alloc, lot.rows.len())?;

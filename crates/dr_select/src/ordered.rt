@@ -143,11 +143,7 @@ fn insert_if(set: &mut RowSet, row: usize, passed: bool)
 }
 
 // Of each full block of entries which rows they are of.
-fn blocks_of(
-    alloc: Global,
-    entries: &[Entry<'_>],
-    count: usize,
-) -> Result<Vec<RowSet>, AllocError>
+fn blocks_of(alloc: Global, entries: &[Entry<'_>], count: usize) -> Result<Vec<RowSet>, AllocError>
     requires { list_any (λ e. nat_le count e.row) entries.now ≡ false }
     ensures { IfOk result (λ blocks. AreBlocks count entries.now blocks.items) }
 {

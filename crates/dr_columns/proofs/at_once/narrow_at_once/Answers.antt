@@ -1,4 +1,4 @@
-use Rattle.std.proofs.Common.{◌≡◌, ◌∙◌, sym, refl, ap, not, length}
+use Rattle.std.proofs.Common.{◌∙◌, sym, ap, not, length}
 use Rattle.std.proofs.lemmas.List.FromFn.{length-map-range_with_len}
 use Rattle.dr_filter.specs.Condition.{condition_in}
 use Rattle.dr_columns.specs.Rows.{meets}

@@ -1,6 +1,5 @@
-use Rattle.std.proofs.Common.{◌≡◌, ◌∙◌, sym, refl}
 use Rattle.dr_image.specs.Table.{row_at}
-use Rattle.dr_columns.proofs.AtOnce.{ranged-none, ranged-more}
+use Rattle.dr_columns.proofs.AtOnce.{ranged-more}
 use Rattle.dr_columns.proofs.at_once.rows_between.Goals as goal
 
 pub loop-i-preserved : goal.loop-i-preserved

@@ -1,4 +1,4 @@
-use Rattle.std.proofs.Common.{◌≤◌, ◌-◌, ◌≡◌, Some, length, map, take, slice_range}
+use Rattle.std.proofs.Common.{◌≤◌, ◌-◌, length, map, take}
 use Rattle.dr_rollup.specs.Entries.{row_of}
 use Rattle.dr_ask.specs.Once.{asked_once}
 use Rattle.dr_partial.specs.Grouped.{AddsAll}

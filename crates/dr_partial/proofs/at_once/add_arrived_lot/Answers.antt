@@ -1,4 +1,4 @@
-use Rattle.std.proofs.Common.{◌≡◌, ◌∙◌, subst, sym, ap, map, Some, slice_range, ◌∷◌, [], arith, rules, FitsSigned, w64}
+use Rattle.std.proofs.Common.{◌∙◌, subst, sym, ap, map, Some, slice_range, ◌∷◌, [], arith, rules, FitsSigned, w64}
 use Rattle.std.proofs.lemmas.Int.{to_z-of_z}
 use Rattle.dr_base.specs.declared.row.Row.{Row}
 use Rattle.dr_time.specs.Instant.{IsInstant}

@@ -12,4 +12,4 @@ returns c =
     let condition = condition_in c.args.filter.now in
     let key = λ (e : Event). (unrolled c.args.schema.now e).key in
     told-of condition key c.loop-shared.keys.items c.args.events.now c.in_ok-told.told
-        (c.in_ok-told.ensures ∙ ap (map (meets condition)) c.as_slice.ensures.value) (c.loop-shared.invariant ∙ ap (map key) (take_all c.loop-shared.shared-index c.args.events.now c.loop-shared-test.false))
+    (c.in_ok-told.ensures ∙ ap (map (meets condition)) c.as_slice.ensures.value) (c.loop-shared.invariant ∙ ap (map key) (take_all c.loop-shared.shared-index c.args.events.now c.loop-shared-test.false))

@@ -1,4 +1,4 @@
-use Rattle.std.specs.Int.RustNames.{bit_and, bit_or, bit_xor}
+use Rattle.std.specs.Int.RustNames.{bit_and}
 use Rattle.dr_rowindex.proofs.WordLemmas.{PairedTo}
 use Rattle.dr_rowindex.proofs.words.keep_bits.Given as goal
 

@@ -1,5 +1,4 @@
-use Rattle.std.proofs.Common.{◌≡◌, ◌<◌, ◌&&◌, ◌||◌, ℕ, false, length, drop, get_or}
-use Rattle.dr_rollup.specs.declared.key_of.KeyOf.{KeyOf}
+use Rattle.std.proofs.Common.{◌&&◌, ◌||◌, drop}
 use Rattle.dr_filter.specs.Condition.{conditions_in, every_matches, some_matches}
 use Rattle.dr_select.proofs.TellLemmas.{TellWith}
 use Rattle.dr_select.proofs.choosing.+choosing.Given as goal

@@ -1,4 +1,4 @@
-use Rattle.std.proofs.Common.{take, bytes_eq, map, string_bytes}
+use Rattle.std.proofs.Common.{take, bytes_eq}
 use Rattle.std.specs.List.{list_any}
 use Rattle.dr_select.specs.Rows.{value_of, Adds}
 use Rattle.dr_select.proofs.passing.insert_among.Given as goal

@@ -1,4 +1,4 @@
-use Rattle.std.proofs.Common.{◌≡◌, ◌∙◌, sym, ap, subst}
+use Rattle.std.proofs.Common.{sym, subst}
 use Rattle.dr_predicate.specs.Match.{passes}
 use Rattle.dr_select.specs.Rows.{value_of, Adds}
 use Rattle.dr_select.proofs.passing.insert_passing.Goals as goal

@@ -1,6 +1,6 @@
-use Rattle.std.proofs.Common.{rules, ◌≡◌, ◌∙◌, sym, ap, refl, length, true, false, set, get_or, arith, ◌^◌, ◌-◌}
-use Rattle.dr_rowindex.proofs.BitLemmas.{bit-zero, bit-ones}
-use Rattle.dr_rowindex.proofs.TruthLemmas.{length-truths, truth-at, truth-behind, word-within, place-within, inserted, alike}
+use Rattle.std.proofs.Common.{rules, true, ◌^◌, ◌-◌}
+use Rattle.dr_rowindex.proofs.BitLemmas.{bit-ones}
+use Rattle.dr_rowindex.proofs.TruthLemmas.{alike}
 use Rattle.dr_rowindex.proofs.row_set.RowSet.all.Goals as goal
 
 pub returns : goal.returns

@@ -1,5 +1,5 @@
-use Rattle.std.proofs.Common.{◌≡◌, ◌∙◌, sym, ap, subst, ◌<◌, ◌&&◌, ◌||◌, not, length, arith}
-use Rattle.std.specs.Int.RustNames.{bit_and, bit_or, bit_xor}
+use Rattle.std.proofs.Common.{◌∙◌, sym, subst, ◌&&◌}
+use Rattle.std.specs.Int.RustNames.{bit_and}
 use Rattle.std.proofs.lemmas.List.{with_items_is}
 use Rattle.dr_rowindex.specs.Truths.{truths, Joined}
 use Rattle.dr_rowindex.proofs.BitLemmas.{bit-and}

@@ -1,7 +1,7 @@
-use Rattle.std.proofs.Common.{◌≡◌, ◌∙◌, sym, ap, refl, length, true, false, set, get_or, arith, ◌/◌, ◌%◌}
+use Rattle.std.proofs.Common.{◌∙◌, sym, ap, length, false, get_or, ◌/◌, ◌%◌}
 use Rattle.std.proofs.lemmas.List.{get_or_default}
 use Rattle.dr_rowindex.specs.Truths.{has_bit}
-use Rattle.dr_rowindex.proofs.TruthLemmas.{length-truths, truth-at, truth-behind, word-within, place-within, inserted, alike}
+use Rattle.dr_rowindex.proofs.TruthLemmas.{truth-at, truth-behind, word-within}
 use Rattle.dr_rowindex.proofs.row_set.RowSet.contains.Goals as goal
 
 pub returns-then-row-self : goal.returns-then-row-self

@@ -1,4 +1,4 @@
-use Rattle.std.proofs.Common.{◌≡◌, ◌∙◌, sym, ap, ◌/◌, ◌%◌, length, true, set}
+use Rattle.std.proofs.Common.{◌∙◌, ap, ◌/◌, length, true, set}
 use Rattle.std.proofs.lemmas.List.{get_or_default}
 use Rattle.dr_rowindex.specs.Truths.{has_bit}
 use Rattle.dr_rowindex.proofs.TruthLemmas.{word-within, row-within, inserted}
@@ -22,5 +22,5 @@ returns c =
     let lt = row-within c.args.self.now words count row c.self.view_is c.requires in
     let word = c.index.ensures ∙ get_or_default words (row / 64) c.index.result.now 0 (word-within count row (length words) lt c.self.invariant) in
     inserted words count row c.with_bit.result lt c.self.invariant c.with_bit.ensures.same
-        (λ j apart. c.with_bit.ensures.others j apart ∙ ap (λ w. has_bit w j) word)
+    (λ j apart. c.with_bit.ensures.others j apart ∙ ap (λ w. has_bit w j) word)
     ∙ ap (λ l. set l row true) c.self.view_is

@@ -1,6 +1,6 @@
-use Rattle.std.proofs.Common.{rules, ◌≡◌, ◌∙◌, sym, ap, refl, length, true, false, set, get_or, arith, ◌^◌, ◌-◌}
-use Rattle.dr_rowindex.proofs.BitLemmas.{bit-zero, bit-ones}
-use Rattle.dr_rowindex.proofs.TruthLemmas.{length-truths, truth-at, truth-behind, word-within, place-within, inserted, alike}
+use Rattle.std.proofs.Common.{rules, false}
+use Rattle.dr_rowindex.proofs.BitLemmas.{bit-zero}
+use Rattle.dr_rowindex.proofs.TruthLemmas.{alike}
 use Rattle.dr_rowindex.proofs.row_set.RowSet.none.Goals as goal
 
 pub returns : goal.returns

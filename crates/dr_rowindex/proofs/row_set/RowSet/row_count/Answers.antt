@@ -1,6 +1,5 @@
-use Rattle.std.proofs.Common.{◌≡◌, ◌∙◌, sym, ap, refl, length, true, false, set, get_or, arith}
-use Rattle.dr_rowindex.proofs.BitLemmas.{bit-zero, bit-ones}
-use Rattle.dr_rowindex.proofs.TruthLemmas.{length-truths, truth-at, truth-behind, word-within, place-within, inserted, alike}
+use Rattle.std.proofs.Common.{◌∙◌, sym, ap, length}
+use Rattle.dr_rowindex.proofs.TruthLemmas.{length-truths}
 use Rattle.dr_rowindex.proofs.row_set.RowSet.row_count.Goals as goal
 
 pub returns : goal.returns
