@@ -258,6 +258,38 @@ def pairs(n):
     yield asked
 
 
+def at(dimension, value):
+    return {"type": "selector", "dimension": dimension, "value": value}
+
+
+def from_to(dimension, lower, upper):
+    return {"type": "bound", "dimension": dimension, "lower": lower, "upper": upper}
+
+
+# Nests over two dimensions that each row meets at last: the first has one text, the second has one of its own in each row.
+ORS_OF_TWO_DIMENSIONS = [one_of(at("lang", f"b{it}"), at("page", "a")) for it in range(5500)]
+ORS_OF_AN_IN = [one_of({"type": "in", "dimension": "page", "values": ["a", f"x{it}"]}, at("lang", f"b{it}")) for it in range(5000)]
+RANGES_OF_TWO_DIMENSIONS = [one_of(from_to("lang", "l2", f"l{it}"), from_to("lang", f"l{it}", "m"), from_to("page", "b", f"c{it}")) for it in range(3000)]
+DENIED_RANGES = [{"type": "and", "fields": [denied(from_to("lang", "l5", f"l5{it}")), from_to("page", "b", f"c{it}")]} for it in range(4500)]
+
+
+def two_dimensions(*filters):
+    """Queries of open rows, and of them sealed and published."""
+    def lines(n):
+        yield spec(dims=("page", "lang"))
+        for it in range(n):
+            yield event(BEGIN + it % DAY, "a", lang=f"l{it}")
+        yield series(filter=filters[0])
+        yield f"seal {instant(1)}"
+        yield f"publish {instant(1)} 0 1"
+        yield series(filter=filters[-1])
+    return lines
+
+
+def every(fields):
+    return {"type": "and", "fields": fields}
+
+
 def of_two(n):
     yield spec(dims=("page", "lang", "user"))
     for it in range(n):
@@ -449,6 +481,10 @@ INPUTS = {
     "rows under an or of 15,000 likes of an end": (likes("%x"), 100000),
     "rows under an or of 15,000 likes of a part": (likes("%x%"), 100000),
     "rows under an or of 5,500 ands of two selectors": (pairs, 100000),
+    "rows under an and of 5,500 ors of two selectors of two dimensions": (two_dimensions(every(ORS_OF_TWO_DIMENSIONS)), 100000),
+    "rows under an and of 5,000 ors of an in and a selector of two dimensions": (two_dimensions(every(ORS_OF_AN_IN)), 100000),
+    "rows under an and of 3,000 ors of three ranges of two dimensions": (two_dimensions(every(RANGES_OF_TWO_DIMENSIONS)), 100000),
+    "rows under an or of 4,500 ands of two ranges of two dimensions": (two_dimensions(one_of(*DENIED_RANGES)), 100000),
     "rows under an or of 5,700 ands of one selector and an interval": (windows, 100000),
     "rows with a text of each of 5,500 ands of an in and a selector, under their or": (with_text, 100000),
     "rows under an or of 5,700 ands of an interval and a selector of two dimensions in turn": (by_turns, 100000),

@@ -8,9 +8,10 @@ const MANY_TESTS: usize = 32;
 // Of how many rows at most, of which each stands in the order of each dimension meanwhile.
 const ROWS_AT_ONCE: usize = 16384;
 
-/// Whether a filter has so many tests that it is asked soonest of many rows at once. It takes constant time.
+/// Whether a filter has so many tests that it is asked soonest of many rows at once. One that is a tree, of which a row is asked few, is
+/// asked row by row. It takes time by the levels of the tree.
 pub fn has_many_tests(filter: &Filter) -> bool {
-    filter.test_count() >= MANY_TESTS
+    filter.test_count() >= MANY_TESTS && !filter.asked().is_guarded()
 }
 
 /// Behind which place those of so many rows end that are asked together with the one at a place, so that the memory for them is bounded.
