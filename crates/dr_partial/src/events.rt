@@ -1,9 +1,10 @@
-ghost use Rattle.std.specs.Prelude.{◌≡◌, ◌∷◌, [], Some, map, option_map, IfOk, OnOk};
+ghost use Rattle.std.specs.Prelude.{◌≡◌, ◌∷◌, [], Some, true, map, option_map, IfOk, OnOk};
 ghost use Rattle.std.specs.List.{AllByRecursion, flat_map};
+ghost use Rattle.dr_time.specs.Instant.{IsInstant};
 ghost use Rattle.dr_schema.specs.Fits.{FitsSchema};
 ghost use Rattle.dr_rollup.specs.Entries.{row_of};
 ghost use Rattle.dr_rollup.specs.Unrolled.{unrolled, contributions};
-ghost use Rattle.dr_answers.specs.Selection.{passes as passes_of};
+ghost use Rattle.dr_answers.specs.Selection.{passes as passes_of, selects};
 ghost use Rattle.dr_filter.specs.Condition.{condition_in};
 ghost use Rattle.dr_ask.specs.Once.{asked_once};
 ghost use Rattle.dr_partial.specs.Grouped.{IsSound, AddsAll};
@@ -184,12 +185,7 @@ fn add_told_event(
     if !is_told(query, passed, time, dims) {
         return Ok(());
     }
-    read_metrics(
-        schema.metrics().as_slice(),
-        event.inputs.as_slice(),
-        metrics,
-    )?;
-    add_selected(groups, group, query, time, dims, metrics.as_slice())
+    add_taken(groups, group, metrics, query, schema, time, event)
 }
 
 /// Adds an event, where the query selects its row.
@@ -210,11 +206,32 @@ fn add_event(
     if !is_selected(query, time, dims) {
         return Ok(());
     }
+    add_taken(groups, group, metrics, query, schema, time, event)
+}
+
+// Adds an event, whose row the query selects and has this time.
+fn add_taken(
+    groups: &mut IndexMap<Key, Numbers>,
+    group: &mut Vec<Text>,
+    metrics: &mut Vec<i64>,
+    query: &Query,
+    schema: &Schema,
+    time: i64,
+    event: &Event,
+) -> Result<(), AllocError>
+    requires time { time ≡ (unrolled schema.now event.now).key.time }
+    requires instant { IsInstant time }
+    requires taken { selects (asked_once query.now) (unrolled schema.now event.now).key ≡ true }
+    requires fits { FitsSchema schema.now event.now }
+    requires sound { IsSound (kinds_in (asked_once query.now).aggregations) (map row_of groups.old.entries) }
+    ensures { OnOk result (AddsAll (asked_once query.now) (map row_of groups.old.entries) (unrolled schema.now event.now ∷ []) (map row_of groups.new.entries)) }
+{
     read_metrics(
         schema.metrics().as_slice(),
         event.inputs.as_slice(),
         metrics,
     )?;
+    let dims = event.dims.as_slice();
     add_selected(groups, group, query, time, dims, metrics.as_slice())
 }
 

@@ -4,7 +4,7 @@ use Rattle.dr_gran.specs.Truncation.{truncation}
 use Rattle.dr_rollup.specs.Entries.{row_of}
 use Rattle.dr_rollup.specs.Unrolled.{unrolled}
 use Rattle.dr_ask.specs.Once.{asked_once}
-use Rattle.dr_partial.proofs.Pieces.{passed-over, added}
+use Rattle.dr_partial.proofs.Pieces.{passed-over}
 use Rattle.dr_partial.proofs.events.add_event.Goals as goal
 use Rattle.dr_partial.proofs.events.add_event.Goals.{After-truncate-time}
 
@@ -19,11 +19,3 @@ returns-then-not-is_selected c =
     let time = truncated (goal.at.returns-then-not-is_selected c).After-truncate-time in
     let tested = rw (to_z-of_z w64 c.truncate-time.result fits, time, c.as_slice-dims.ensures) at c.is_selected.ensures in
     passed-over (asked_once c.args.query.now) (map row_of c.args.groups.now.entries) (unrolled c.args.schema.now c.args.event.now) (sym tested ∙ search rules) c.requires.sound
-
-pub returns : goal.returns
-returns c =
-    let fits : FitsSigned w64 c.truncate-time.result = search rules in
-    let time = truncated (goal.at.returns c).After-truncate-time in
-    let tested = rw (to_z-of_z w64 c.truncate-time.result fits, time, c.as_slice-dims.ensures) at c.is_selected.ensures in
-    let adds = rw (to_z-of_z w64 c.truncate-time.result fits, time, c.as_slice-dims.ensures, c.as_slice-3.ensures.value, c.in_ok-read_metrics.ensures, c.as_slice-2.ensures, c.as_slice.ensures, c.metrics.ensures) at c.add_selected.ensures in
-    added (asked_once c.args.query.now) (map row_of c.args.groups.now.entries) (map row_of c.add_selected.new.groups.entries) (unrolled c.args.schema.now c.args.event.now) (sym tested ∙ search rules) c.add_selected.result adds
