@@ -12,7 +12,7 @@ use crate::telling::{all_true, drop_where, keep_true};
 use dr_filter::{Filter, FilterTree};
 use dr_image::SegmentView;
 use dr_predicate::{DimensionTest, ValueTest};
-use dr_select::has_many_tests;
+use dr_select::is_asked_at_once;
 use dr_time::Union;
 use std::alloc::{AllocError, Global};
 
@@ -32,7 +32,7 @@ pub fn narrow(
     requires { length told.old ≡ length view.now.times }
     ensures { OnOk result (Narrows (meets view.now (condition_in filter.now)) told.old told.new) }
 {
-    if has_many_tests(filter) {
+    if is_asked_at_once(filter, told.len()) {
         return narrow_at_once(alloc, view, filter, told);
     }
     narrow_asked(alloc, view, filter.asked(), told)?;

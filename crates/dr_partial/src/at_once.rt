@@ -13,16 +13,16 @@ use dr_ask::Query;
 use dr_base::{Key, Numbers, Row, Text};
 use dr_filter::Filter;
 use dr_rollup::{Arrived, KeyOf};
-use dr_select::{has_many_tests, lot_end, select_arrived, select_rows};
+use dr_select::{is_asked_at_once, lot_end, select_arrived, select_rows};
 use indexmap::IndexMap;
 use std::alloc::AllocError;
 
-/// The filter of a query, where it has many tests, so that it is asked soonest of many rows at once.
-pub fn filter_of_many(query: &Query) -> Option<&Filter>
+/// The filter of a query, where it has so many tests that it is asked soonest of so many rows at once.
+pub fn filter_of_many(query: &Query, rows: usize) -> Option<&Filter>
     ensures { IfSome result (λ f. option_map condition_in query.now.filter ≡ Some (condition_in f.now)) }
 {
     match &query.filter {
-        Some(filter) if has_many_tests(filter) => Some(filter),
+        Some(filter) if is_asked_at_once(filter, rows) => Some(filter),
         _ => None,
     }
 }

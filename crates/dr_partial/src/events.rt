@@ -56,7 +56,7 @@ fn add_events(
     requires sound { IsSound (kinds_in (asked_once query.now).aggregations) (map row_of groups.old.entries) }
     ensures { OnOk result (AddsAll (asked_once query.now) (map row_of groups.old.entries) (map (unrolled schema.now) events.now) (map row_of groups.new.entries)) }
 {
-    match filter_of_many(query) {
+    match filter_of_many(query, events.len()) {
         Some(filter) => add_at_once(groups, group, metrics, query, filter, schema, events),
         None => add_each(groups, group, metrics, query, schema, events),
     }

@@ -40,7 +40,7 @@ fn add_arrived(
     requires sound { IsSound (kinds_in (asked_once query.now).aggregations) (map row_of groups.old.entries) }
     ensures { OnOk result (AddsAll (asked_once query.now) (map row_of groups.old.entries) rows.now (map row_of groups.new.entries)) }
 {
-    match filter_of_many(query) {
+    match filter_of_many(query, rows.len()) {
         Some(filter) => add_arrived_at_once(groups, group, query, filter, rows),
         None => add_runs(groups, group, query, rows),
     }

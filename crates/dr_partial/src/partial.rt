@@ -108,7 +108,7 @@ impl Partial {
     /// once. An image that lies outside the query's intervals takes time logarithmic in their number. Any other takes time by the
     /// rows, and expected time by the groups and the bytes of their values; and memory by the groups, by a byte a row for each
     /// level of the filter, and by at most 65521 places of groups. Without dimensions and filter it takes no memory but that of
-    /// the groups. A filter of many tests ([`has_many_tests`](dr_select::has_many_tests)) is asked of many rows at once, in whatever
+    /// the groups. A filter of many tests ([`is_asked_at_once`](dr_select::is_asked_at_once)) is asked of many rows at once, in whatever
     /// form they lie, which takes what [`select_rows`](dr_select::select_rows) takes of so many.
     pub fn add_fragment(
         self,

@@ -46,7 +46,7 @@ pub fn add_rows(
     requires sound { IsSound (kinds_in (asked_once query.now).aggregations) (map row_of groups.old.entries) }
     ensures { OnOk result (AddsAll (asked_once query.now) (map row_of groups.old.entries) rows.now (map row_of groups.new.entries)) }
 {
-    match filter_of_many(query) {
+    match filter_of_many(query, rows.len()) {
         Some(filter) => add_rows_at_once(groups, group, query, filter, rows),
         None => add_each(groups, group, query, rows),
     }

@@ -17,7 +17,7 @@ use dr_ask::{Query, Scan, ScanColumn};
 use dr_base::Text;
 use dr_fragment::LyingRows;
 use dr_rollup::Arrived;
-use dr_select::has_many_tests;
+use dr_select::is_asked_at_once;
 use json::Writer;
 use std::alloc::{AllocError, Global};
 
@@ -52,15 +52,15 @@ fn left_out<'s>(query: &Query, window: Window, segment: &'s Segment<'_>) -> Opti
     ensures none { IfSome result (λ rows. length rows ≤ window.skip) }
 {
     let rows = segment.arrived()?;
-    if asks_many_tests(query) || rows.len() as u64 > window.skip {
+    if asks_at_once(query, rows.len()) || rows.len() as u64 > window.skip {
         return None;
     }
     Some(rows)
 }
 
-fn asks_many_tests(query: &Query) -> bool {
+fn asks_at_once(query: &Query, rows: usize) -> bool {
     match &query.filter {
-        Some(filter) => has_many_tests(filter),
+        Some(filter) => is_asked_at_once(filter, rows),
         None => false,
     }
 }

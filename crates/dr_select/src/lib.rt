@@ -11,5 +11,5 @@ mod passing;
 mod rows;
 
 pub use choosing::select;
-pub use lots::{has_many_tests, lot_end};
+pub use lots::{is_asked_at_once, lot_end};
 pub use rows::{select_arrived, select_rows};
