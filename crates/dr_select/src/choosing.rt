@@ -17,8 +17,10 @@ use std::alloc::{AllocError, Global};
 ///
 /// The rows are put in the order of their values once for each dimension that [`Filter::asked`] asks for, which takes n log n in the rows,
 /// and memory by them. Then each text and each range takes time by the logarithm of the rows and by the rows whose values it lets
-/// through, but for those in the middle of many, 64 at once, an interval and a test of a pattern as [`Union::contains`] and [`ValueTest::passes`](dr_predicate::ValueTest::passes) for
-/// each row or each value that differs, and each `and`, `or` and `not` time by the rows, 64 at once.
+/// through, but for those in the middle of many, 64 at once; where an `in` has more texts than a sixteenth of the rows, or ranges that
+/// are asked together are as many, each value that differs is looked up among them. An interval and a test of a pattern take what
+/// [`Union::contains`] and [`ValueTest::passes`](dr_predicate::ValueTest::passes) do for each row or each value that differs, and each
+/// `and`, `or` and `not` time by the rows, 64 at once.
 pub fn select(alloc: Global, filter: &Filter, rows: &[KeyOf<'_>]) -> Result<RowSet, AllocError>
     ensures { IfOk result (λ s. s ≡ map (meets (condition_in filter.now)) rows.now) }
 {

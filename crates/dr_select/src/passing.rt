@@ -10,8 +10,11 @@ use dr_predicate::{Bounds, Ranges, ValueTest};
 use dr_rowindex::RowSet;
 use std::alloc::{AllocError, Global};
 
-/// Adds the rows whose value passes a test to a set: for each text and each range by two searches, and for patterns by the values that
-/// differ. The only error is that memory ran out.
+// How many values are asked by hashing or by a search among ranges in the time of a search among the rows.
+const VALUES_A_SEARCH: usize = 16;
+
+/// Adds the rows whose value passes a test to a set: for each of few texts and ranges by two searches, and of many of them, and for
+/// patterns, by the values that differ. The only error is that memory ran out.
 pub fn insert_passing(
     alloc: Global,
     ordered: &Ordered<'_>,
@@ -21,6 +24,10 @@ pub fn insert_passing(
     requires { length set.old ≡ length ordered.now.rows.now }
     ensures { OnOk result (Adds (λ row. passes test.now (value_of ordered.now.place row)) ordered.now.rows.now set.old set.new) }
 {
+    if asks_for_many(test, ordered.rows.len()) {
+        ordered.insert_passing(test, set);
+        return Ok(());
+    }
     match test {
         ValueTest::Equals(text) => insert_equal(alloc, ordered, text.as_str(), set)?,
         ValueTest::Among(texts) => insert_among(alloc, ordered, texts, set)?,
@@ -29,6 +36,15 @@ pub fn insert_passing(
         _ => ordered.insert_passing(test, set),
     }
     Ok(())
+}
+
+// Whether a test has so many texts or ranges that so many values are asked sooner one by one.
+fn asks_for_many(test: &ValueTest, rows: usize) -> bool {
+    match test {
+        ValueTest::Among(texts) => texts.as_texts().len() > rows / VALUES_A_SEARCH,
+        ValueTest::WithinOne(ranges) => ranges.as_bounds().len() > rows / VALUES_A_SEARCH,
+        _ => false,
+    }
 }
 
 fn insert_equal(
