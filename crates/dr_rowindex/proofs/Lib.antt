@@ -1,3 +1,9 @@
 pub mod WordLemmas
 pub mod BitLemmas
 pub mod TruthLemmas
+pub mod RowLemmas
+pub mod PutLemmas
+pub mod OrderLemmas
+pub mod AddLemmas
+pub mod NumberLemmas
+pub mod TextLemmas

@@ -1,5 +1,1 @@
-pub mod OrderLemmas
-pub mod EntryLemmas
-pub mod InsertLemmas
-pub mod AddLemmas
 pub mod TellLemmas

@@ -9,7 +9,8 @@ use Rattle.dr_base.specs.declared.row.Row.{Row}
 use Rattle.dr_rollup.specs.declared.key_of.KeyOf.{KeyOf}
 use Rattle.dr_filter.specs.Condition.{Condition, matches}
 use Rattle.dr_rowindex.specs.Truths.{Joined}
-use Rattle.dr_select.specs.Rows.{Tell, Adds, meets, key_seen}
+use Rattle.dr_rowindex.specs.Orders.{Adds}
+use Rattle.dr_select.specs.Rows.{Tell, meets, key_seen}
 
 -- ---- one by one
 
@@ -98,10 +99,12 @@ tell-not test rows all other after n is long told joined = record {
       joined.each i within ∙ ap (λ x. x && not (get_or other i false)) (ap (λ l. get_or l i false) is ∙ get_or-replicate n i true false (omega (arith, lt, long))) ∙ ap not (told.each i row lt);
 }
 
-pub tell-added : (test : KeyOf → Bool) (rows : List KeyOf) (none after : List Bool) (n : ℕ) → none ≡ replicate n false → n ≡ length rows → Adds test rows none after → Tell test rows after
-tell-added test rows none after n is long adds = record {
+pub tell-added : {V : Type 0} (value : KeyOf → V) (test : V → Bool) (rows : List KeyOf) (none after : List Bool) (n : ℕ) → none ≡ replicate n false → n ≡ length rows → Adds test (map value rows) none after → Tell (λ row. test (value row)) rows after
+tell-added value test rows none after n is long adds = record {
   count = adds.count ∙ ap length is ∙ length-replicate n false ∙ long;
-  each = λ i row lt. adds.each i row lt ∙ ap (λ x. x || test (get_or rows i row)) (ap (λ l. get_or l i false) is ∙ none_true n i);
+  each = λ i row lt.
+      adds.each i (value row) (omega (arith, lt, length-map rows value)) ∙ ap (λ x. x || test (get_or (map value rows) i (value row))) (ap (λ l. get_or l i false) is ∙ none_true n i)
+      ∙ ap test (get_or-map value rows i row);
 }
 
 pub tell-list : (test : KeyOf → Bool) (rows : List KeyOf) (told : List Bool) → Tell test rows told → told ≡ map test rows

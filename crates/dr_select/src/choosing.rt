@@ -1,26 +1,27 @@
-ghost use Rattle.std.specs.Prelude.{◌≡◌, map, IfOk};
+ghost use Rattle.std.specs.Prelude.{◌≡◌, length, map, IfOk};
 ghost use Rattle.dr_predicate.specs.Match.{holds_of};
 ghost use Rattle.dr_time.specs.Union.{union_holds};
 ghost use Rattle.dr_filter.specs.Condition.{condition_in, conditions_in, every_matches, some_matches};
+ghost use Rattle.dr_rowindex.specs.Orders.{Adds};
 ghost use Rattle.dr_select.specs.Rows.{meets, Tell};
 
 use crate::lot::Lot;
-use crate::passing::insert_passing;
+use crate::passing::{asks_for_many, insert_passing};
 use dr_filter::{Filter, FilterTree};
 use dr_predicate::DimensionTest;
 use dr_rollup::KeyOf;
-use dr_rowindex::RowSet;
-use dr_time::Union;
+use dr_rowindex::{NumberOrder, RowSet};
+use dr_time::{Interval, Union};
 use std::alloc::{AllocError, Global};
 
 /// The rows that a filter keeps, each lent by its key. The only error is that memory ran out.
 ///
-/// The rows are put in the order of their values once for each dimension that [`Filter::asked`] asks for, which takes n log n in the rows,
-/// and memory by them. Then each text and each range takes time by the logarithm of the rows and by the rows whose values it lets
-/// through, but for those in the middle of many, 64 at once; where an `in` has more texts than a sixteenth of the rows, or ranges that
-/// are asked together are as many, each value that differs is looked up among them. An interval and a test of a pattern take what
-/// [`Union::contains`] and [`ValueTest::passes`](dr_predicate::ValueTest::passes) do for each row or each value that differs, and each
-/// `and`, `or` and `not` time by the rows, 64 at once.
+/// The rows are put in the order of their values once for each dimension that [`Filter::asked`] asks for, and of their times, where it
+/// asks for these, which takes n log n in the rows, and memory by them. Then each text, each range and each interval takes time by the
+/// logarithm of the rows and by the rows that it lets through, but for those in the middle of many, 64 at once; where an `in` has more
+/// texts than a sixteenth of the rows, or ranges or intervals that are asked together are as many, each value that differs, or each
+/// time, is looked up among them. A test of a pattern takes what [`ValueTest::passes`](dr_predicate::ValueTest::passes) does for each
+/// value that differs, and each `and`, `or` and `not` time by the rows, 64 at once.
 pub fn select(alloc: Global, filter: &Filter, rows: &[KeyOf<'_>]) -> Result<RowSet, AllocError>
     ensures { IfOk result (λ s. s ≡ map (meets (condition_in filter.now)) rows.now) }
 {
@@ -36,7 +37,7 @@ fn met(alloc: Global, filter: &FilterTree, lot: &Lot<'_>) -> Result<RowSet, Allo
 {
     match filter {
         FilterTree::Dimension(test) => passing(alloc, test, lot),
-        FilterTree::Interval(union) => held(alloc, union, lot.rows),
+        FilterTree::Interval(union) => held(alloc, union, lot),
         FilterTree::And(filters) => met_by_every(alloc, filters.as_slice(), lot),
         FilterTree::Or(filters) => met_by_some(alloc, filters.as_slice(), lot),
         FilterTree::Not(filter) => {
@@ -77,9 +78,9 @@ fn passing(alloc: Global, test: &DimensionTest, lot: &Lot<'_>) -> Result<RowSet,
     ensures { IfOk result (λ s. Tell (λ row. holds_of test.now row.dims.now) lot.now.rows.now s) }
 {
     match lot.order_at(test.place) {
-        Some(ordered) => {
+        Some(order) => {
             let mut set = RowSet::none(alloc, lot.rows.len())?;
-            insert_passing(alloc, ordered, &test.test, &mut set)?;
+            insert_passing(alloc, order, lot.rows.len(), &test.test, &mut set)?;
             Ok(set)
         }
         None => passing_by_rows(alloc, test, lot.rows),
@@ -104,7 +105,34 @@ fn passing_by_rows(
 }
 
 // The rows whose time lies in one of some intervals.
-fn held(alloc: Global, union: &Union, rows: &[KeyOf<'_>]) -> Result<RowSet, AllocError>
+fn held(alloc: Global, union: &Union, lot: &Lot<'_>) -> Result<RowSet, AllocError>
+    ensures { IfOk result (λ s. Tell (λ row. union_holds union.now row.time) lot.now.rows.now s) }
+{
+    let intervals = union.intervals();
+    match lot.times() {
+        Some(times) if !asks_for_many(intervals.len(), lot.rows.len()) => {
+            let mut set = RowSet::none(alloc, lot.rows.len())?;
+            insert_held(times, intervals, &mut set);
+            Ok(set)
+        }
+        _ => held_by_rows(alloc, union, lot.rows),
+    }
+}
+
+// Adds the rows whose time lies in one of some intervals.
+fn insert_held(times: &NumberOrder, intervals: &[Interval], set: &mut RowSet)
+    requires { length set.old ≡ length times.now }
+    ensures { Adds (union_holds intervals.now) times.now set.old set.new }
+{
+    for interval in intervals {
+        let from = i128::from(interval.start);
+        let to = i128::from(interval.end);
+        times.insert_between(from, to, set);
+    }
+}
+
+// The same rows, each asked by itself.
+fn held_by_rows(alloc: Global, union: &Union, rows: &[KeyOf<'_>]) -> Result<RowSet, AllocError>
     ensures { IfOk result (λ s. Tell (λ row. union_holds union.now row.time) rows.now s) }
 {
     let mut set = RowSet::none(alloc, rows.len())?;

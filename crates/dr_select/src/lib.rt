@@ -1,13 +1,13 @@
-//! Which of many rows a filter keeps. Each dimension that is asked for is put in order once; a test of texts or ranges then finds the
-//! rows that pass by two searches, and what tells of all rows is joined 64 rows at once.
+//! Which of many rows a filter keeps. They are put in order once by each dimension that is asked for, and by their times; a test of
+//! texts, ranges or intervals then finds the rows that pass by two searches, and what tells of all rows is joined 64 rows at once.
 #![tactic(auto)]
 
+mod asked_for;
 mod choosing;
-mod entry;
 mod lot;
 mod lots;
-mod ordered;
 mod passing;
+mod placed_order;
 mod rows;
 
 pub use choosing::select;

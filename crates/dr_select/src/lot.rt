@@ -1,18 +1,24 @@
-ghost use Rattle.std.specs.Prelude.{◌≡◌, IfOk, IfSome};
+ghost use Rattle.std.specs.Prelude.{◌≡◌, map, unwrap_or, IfOk, IfSome};
 ghost use Rattle.std.specs.List.{All};
+ghost use Rattle.dr_select.specs.Rows.{value_of};
 
-use crate::ordered::Ordered;
+use crate::asked_for::AskedFor;
+use crate::placed_order::PlacedOrder;
 use dr_filter::FilterTree;
-use dr_predicate::DimensionTest;
+use dr_predicate::value_at;
 use dr_rollup::KeyOf;
+use dr_rowindex::{NumberOrder, TextOrder};
 use std::alloc::{AllocError, Global};
 
-/// Rows of which a filter is asked, and these in the order of their values in each dimension that it asks for.
+/// Rows of which a filter is asked, and these in the order of their values in each dimension that it asks for, and of their times,
+/// where it asks for these.
 #[derive(Drop)]
 pub struct Lot<'a> {
     pub rows: &'a [KeyOf<'a>],
-    orders: Vec<Ordered<'a>>,
-    ghost same: { All (λ o. o.rows.now ≡ rows.now) orders.items },
+    orders: Vec<PlacedOrder<'a>>,
+    times: Option<NumberOrder>,
+    ghost values: { All (λ o. o.order ≡ map (value_of o.place) rows.now) orders.items },
+    ghost held: { unwrap_or times (map (λ r. r.time) rows.now) ≡ map (λ r. r.time) rows.now },
 }
 
 impl<'a> Lot<'a> {
@@ -24,23 +30,33 @@ impl<'a> Lot<'a> {
     ) -> Result<Lot<'a>, AllocError>
         ensures { IfOk result (λ lot. lot.rows.now ≡ rows.now) }
     {
-        let mut places = Vec::new(alloc);
-        add_places(&mut places, filter)?;
-        let orders = orders_of(alloc, rows, places.as_slice())?;
-        Ok(Lot { rows, orders })
+        let asked = AskedFor::of(alloc, filter)?;
+        let orders = orders_of(alloc, rows, asked.places.as_slice())?;
+        let times = times_of(alloc, rows, asked.times)?;
+        Ok(Lot {
+            rows,
+            orders,
+            times,
+        })
     }
 
     // The rows in the order of their values at a place, where a filter asks for it.
-    pub(crate) fn order_at(&self, place: Option<usize>) -> Option<&Ordered<'a>>
-        ensures rows { IfSome result (λ o. o.now.rows.now ≡ self.now.rows.now) }
-        ensures place { IfSome result (λ o. o.now.place ≡ place) }
+    pub(crate) fn order_at(&self, place: Option<usize>) -> Option<&TextOrder<'a>>
+        ensures { IfSome result (λ o. o.now ≡ map (value_of place) self.now.rows.now) }
     {
-        for ordered in self.orders.as_slice() {
-            if ordered.place == place {
-                return Some(ordered);
+        for placed in self.orders.as_slice() {
+            if placed.place == place {
+                return Some(&placed.order);
             }
         }
         None
+    }
+
+    // The rows in the order of their times, where a filter asks for these.
+    pub(crate) fn times(&self) -> Option<&NumberOrder>
+        ensures { IfSome result (λ t. t.now ≡ map (λ r. r.time) self.now.rows.now) }
+    {
+        self.times.as_ref()
     }
 }
 
@@ -48,42 +64,47 @@ fn orders_of<'a>(
     alloc: Global,
     rows: &'a [KeyOf<'a>],
     places: &[usize],
-) -> Result<Vec<Ordered<'a>>, AllocError>
-    ensures { IfOk result (λ orders. All (λ o. o.rows.now ≡ rows.now) orders.items) }
+) -> Result<Vec<PlacedOrder<'a>>, AllocError>
+    ensures { IfOk result (λ orders. All (λ o. o.order ≡ map (value_of o.place) rows.now) orders.items) }
 {
     let mut orders = Vec::with_capacity(alloc, places.len())?;
     for place in places {
-        orders.push(Ordered::of(alloc, rows, Some(*place))?)?;
+        let place = Some(*place);
+        let order = TextOrder::of(alloc, values_at(alloc, rows, place)?)?;
+        orders.push(PlacedOrder { place, order })?;
     }
     Ok(orders)
 }
 
-// Puts the places for which a filter asks behind others, each once.
-#[cycle(places)]
-fn add_places(places: &mut Vec<usize>, filter: &FilterTree) -> Result<(), AllocError> {
-    match filter {
-        FilterTree::Dimension(test) => add_place(places, test),
-        FilterTree::Interval(_) => Ok(()),
-        FilterTree::And(filters) => add_places_of(places, filters.as_slice()),
-        FilterTree::Or(filters) => add_places_of(places, filters.as_slice()),
-        FilterTree::Not(filter) => add_places(places, filter),
+// The value of each row at a place among the dimensions.
+fn values_at<'a>(
+    alloc: Global,
+    rows: &'a [KeyOf<'a>],
+    place: Option<usize>,
+) -> Result<Vec<&'a str>, AllocError>
+    ensures { IfOk result (λ values. map (λ v. v.now) values.items ≡ map (value_of place) rows.now) }
+{
+    let mut values = Vec::with_capacity(alloc, rows.len())?;
+    for row in rows {
+        values.push(value_at(row.dims, place))?;
     }
+    Ok(values)
 }
 
-#[cycle(places)]
-fn add_places_of(places: &mut Vec<usize>, filters: &[FilterTree]) -> Result<(), AllocError> {
-    for filter in filters {
-        add_places(places, filter)?;
+// The rows in the order of their times, where that is wanted.
+fn times_of(
+    alloc: Global,
+    rows: &[KeyOf<'_>],
+    wanted: bool,
+) -> Result<Option<NumberOrder>, AllocError>
+    ensures { IfOk result (λ times. unwrap_or times (map (λ r. r.time) rows.now) ≡ map (λ r. r.time) rows.now) }
+{
+    if !wanted {
+        return Ok(None);
     }
-    Ok(())
-}
-
-fn add_place(places: &mut Vec<usize>, test: &DimensionTest) -> Result<(), AllocError> {
-    let Some(place) = test.place else {
-        return Ok(());
-    };
-    if !places.contains(&place) {
-        places.push(place)?;
+    let mut times = Vec::with_capacity(alloc, rows.len())?;
+    for row in rows {
+        times.push(row.time)?;
     }
-    Ok(())
+    Ok(Some(NumberOrder::of(alloc, times)?))
 }

@@ -5,16 +5,12 @@ use dr_filter::Filter;
 // How many tests a filter has at least that is asked of many rows at once.
 const MANY_TESTS: usize = 32;
 
-// Of how many rows at least; of fewer it is asked sooner row by row.
-const MANY_ROWS: usize = 16;
-
 // Of how many rows at most, of which each stands in the order of each dimension meanwhile.
 const ROWS_AT_ONCE: usize = 16384;
 
-/// Whether a filter is asked soonest of so many rows at once: where it has many tests, and is no tree of them, of which a row is asked
-/// few. It takes time by the levels of the tree.
-pub fn is_asked_at_once(filter: &Filter, rows: usize) -> bool {
-    rows >= MANY_ROWS && filter.test_count() >= MANY_TESTS && !filter.asked().is_guarded()
+/// Whether a filter is asked soonest of many rows at once, since it has many tests. It takes constant time.
+pub fn is_asked_at_once(filter: &Filter) -> bool {
+    filter.test_count() >= MANY_TESTS
 }
 
 /// Behind which place those of so many rows end that are asked together with the one at a place, so that the memory for them is bounded.

@@ -2,85 +2,76 @@ ghost use Rattle.std.specs.Prelude.{◌≡◌, length, OnOk, bytes_eq};
 ghost use Rattle.std.specs.List.{list_any};
 ghost use Rattle.dr_predicate.specs.Match.{passes};
 ghost use Rattle.dr_predicate.specs.Within.{some_within};
-ghost use Rattle.dr_select.specs.Rows.{value_of, Adds};
+ghost use Rattle.dr_rowindex.specs.Orders.{Adds};
 
-use crate::ordered::Ordered;
 use dr_dict::TextSet;
-use dr_predicate::{Bounds, Ranges, ValueTest};
-use dr_rowindex::RowSet;
+use dr_predicate::{Ranges, ValueTest};
+use dr_rowindex::{RowSet, TextOrder};
 use std::alloc::{AllocError, Global};
 
-// How many values are asked by hashing or by a search among ranges in the time of a search among the rows.
+// How many values or times are looked up, by hashing or by a search, in the time of a search among the rows.
 const VALUES_A_SEARCH: usize = 16;
 
-/// Adds the rows whose value passes a test to a set: for each of few texts and ranges by two searches, and of many of them, and for
-/// patterns, by the values that differ. The only error is that memory ran out.
+/// Adds the rows whose value passes a test to a set, of which there are so many: for each of few texts and ranges by two searches, and of
+/// many of them, and for patterns, by the values that differ. The only error is that memory ran out.
 pub fn insert_passing(
     alloc: Global,
-    ordered: &Ordered<'_>,
+    order: &TextOrder<'_>,
+    rows: usize,
     test: &ValueTest,
     set: &mut RowSet,
 ) -> Result<(), AllocError>
-    requires { length set.old ≡ length ordered.now.rows.now }
-    ensures { OnOk result (Adds (λ row. passes test.now (value_of ordered.now.place row)) ordered.now.rows.now set.old set.new) }
+    requires { length set.old ≡ length order.now }
+    ensures { OnOk result (Adds (passes test.now) order.now set.old set.new) }
 {
-    if asks_for_many(test, ordered.rows.len()) {
-        ordered.insert_passing(test, set);
+    if asks_for_many(asked_values(test), rows) {
+        order.insert_passing(test, set);
         return Ok(());
     }
     match test {
-        ValueTest::Equals(text) => insert_equal(alloc, ordered, text.as_str(), set)?,
-        ValueTest::Among(texts) => insert_among(alloc, ordered, texts, set)?,
-        ValueTest::Within(bounds) => ordered.insert_within(bounds, set),
-        ValueTest::WithinOne(ranges) => insert_within_one(ordered, ranges, set),
-        _ => ordered.insert_passing(test, set),
+        ValueTest::Equals(text) => order.insert_equal(alloc, text.as_str(), set)?,
+        ValueTest::Among(texts) => insert_among(alloc, order, texts, set)?,
+        ValueTest::Within(bounds) => order.insert_within(bounds, set),
+        ValueTest::WithinOne(ranges) => insert_within_one(order, ranges, set),
+        _ => order.insert_passing(test, set),
     }
     Ok(())
 }
 
-// Whether a test has so many texts or ranges that so many values are asked sooner one by one.
-fn asks_for_many(test: &ValueTest, rows: usize) -> bool {
+/// Whether so many texts, ranges or intervals are asked for that so many rows are asked sooner one by one.
+pub fn asks_for_many(asked: usize, rows: usize) -> bool {
+    asked > rows / VALUES_A_SEARCH
+}
+
+// How many texts or ranges a test asks for together.
+fn asked_values(test: &ValueTest) -> usize {
     match test {
-        ValueTest::Among(texts) => texts.as_texts().len() > rows / VALUES_A_SEARCH,
-        ValueTest::WithinOne(ranges) => ranges.as_bounds().len() > rows / VALUES_A_SEARCH,
-        _ => false,
+        ValueTest::Among(texts) => texts.as_texts().len(),
+        ValueTest::WithinOne(ranges) => ranges.as_bounds().len(),
+        _ => 0,
     }
-}
-
-fn insert_equal(
-    alloc: Global,
-    ordered: &Ordered<'_>,
-    text: &str,
-    set: &mut RowSet,
-) -> Result<(), AllocError>
-    requires { length set.old ≡ length ordered.now.rows.now }
-    ensures { OnOk result (Adds (λ row. bytes_eq (value_of ordered.now.place row) text.now) ordered.now.rows.now set.old set.new) }
-{
-    let bounds = Bounds::one_text(alloc, text)?;
-    ordered.insert_within(&bounds, set);
-    Ok(())
 }
 
 fn insert_among(
     alloc: Global,
-    ordered: &Ordered<'_>,
+    order: &TextOrder<'_>,
     texts: &TextSet,
     set: &mut RowSet,
 ) -> Result<(), AllocError>
-    requires { length set.old ≡ length ordered.now.rows.now }
-    ensures { OnOk result (Adds (λ row. list_any (bytes_eq (value_of ordered.now.place row)) texts.now) ordered.now.rows.now set.old set.new) }
+    requires { length set.old ≡ length order.now }
+    ensures { OnOk result (Adds (λ value. list_any (bytes_eq value) texts.now) order.now set.old set.new) }
 {
     for text in texts.as_texts() {
-        insert_equal(alloc, ordered, text.as_str(), set)?;
+        order.insert_equal(alloc, text.as_str(), set)?;
     }
     Ok(())
 }
 
-fn insert_within_one(ordered: &Ordered<'_>, ranges: &Ranges, set: &mut RowSet)
-    requires { length set.old ≡ length ordered.now.rows.now }
-    ensures { Adds (λ row. some_within ranges.now (value_of ordered.now.place row)) ordered.now.rows.now set.old set.new }
+fn insert_within_one(order: &TextOrder<'_>, ranges: &Ranges, set: &mut RowSet)
+    requires { length set.old ≡ length order.now }
+    ensures { Adds (some_within ranges.now) order.now set.old set.new }
 {
     for bounds in ranges.as_bounds() {
-        ordered.insert_within(bounds, set);
+        order.insert_within(bounds, set);
     }
 }

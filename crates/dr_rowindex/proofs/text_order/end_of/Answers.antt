@@ -1,0 +1,19 @@
+use Rattle.std.proofs.Common.{rules, ◌≡◌, ℕ, [], not, map, get_or, arith}
+use Rattle.std.proofs.lemmas.Fn.{always_returns_same}
+use Rattle.dr_predicate.specs.Ranges.{unended}
+use Rattle.dr_rowindex.proofs.TextLemmas.{unended-parted}
+use Rattle.dr_rowindex.proofs.text_order.end_of.Goals as goal
+
+pub returns-clause-before : goal.returns-clause-before
+returns-clause-before c j r lt =
+    let texts = map (λ t. t.now) c.args.texts.now in
+    let b = c.args.bounds.now in
+    let parts = c.partition_point.ensures.partitioned (λ r. unended (get_or texts r []) b) (always_returns_same _ (λ a r. r ≡ unended (get_or texts a.0.now []) b) _ (λ a r f called. search rules)) in
+    (parts (unended-parted texts c.args.rows.now c.requires b)).0 j r (omega arith) lt
+
+pub returns-clause-behind : goal.returns-clause-behind
+returns-clause-behind c j r le lt =
+    let texts = map (λ t. t.now) c.args.texts.now in
+    let b = c.args.bounds.now in
+    let parts = c.partition_point.ensures.partitioned (λ r. unended (get_or texts r []) b) (always_returns_same _ (λ a r. r ≡ unended (get_or texts a.0.now []) b) _ (λ a r f called. search rules)) in
+    (parts (unended-parted texts c.args.rows.now c.requires b)).1 j r le lt
