@@ -11,10 +11,9 @@ const MANY_ROWS: usize = 16;
 // Of how many rows at most, of which each stands in the order of each dimension meanwhile.
 const ROWS_AT_ONCE: usize = 16384;
 
-/// Whether a filter is asked soonest of so many rows at once: where it has many tests, and is no tree of them, of which a row is asked
-/// few. It takes time by the levels of the tree.
+/// Whether a filter is asked soonest of so many rows at once: where it has many tests. It takes constant time.
 pub fn is_asked_at_once(filter: &Filter, rows: usize) -> bool {
-    rows >= MANY_ROWS && filter.test_count() >= MANY_TESTS && !filter.asked().is_guarded()
+    rows >= MANY_ROWS && filter.test_count() >= MANY_TESTS
 }
 
 /// Behind which place those of so many rows end that are asked together with the one at a place, so that the memory for them is bounded.
