@@ -6,7 +6,6 @@ ghost use Rattle.dr_image.specs.Checked.{column_at};
 ghost use Rattle.dr_columns.specs.Rows.{Narrows, key_at, meets};
 
 use crate::at_once::narrow_at_once;
-use crate::by_rows::narrow_by_rows;
 use crate::cells::{known_place, value_at};
 use crate::telling::{all_true, drop_where, keep_true};
 use dr_filter::{Filter, FilterTree};
@@ -19,10 +18,9 @@ use std::alloc::{AllocError, Global};
 /// Makes false what is told of the rows of an image that a filter doesn't keep. A test of a dimension is asked once for each value
 /// of the dimension's dictionary, and the time of a row once for each run of equal times. The only error is that memory ran out.
 /// It takes time by the tests and the nests of [`Filter::asked`], each by the rows, and each test as
-/// [`ValueTest::passes`](dr_predicate::ValueTest::passes) by the values; but what [`FilterTree::is_guarded`] tells of is asked of each
-/// row that is left, as [`FilterTree::matches`], with the row's texts in memory of its own meanwhile; and a filter of many tests takes
-/// what [`select_rows`](dr_select::select_rows) takes of as many rows at once as [`lot_end`](dr_select::lot_end) says, in memory of
-/// their own meanwhile.
+/// [`ValueTest::passes`](dr_predicate::ValueTest::passes) by the values; but a filter of many tests takes what
+/// [`select_rows`](dr_select::select_rows) takes of as many rows at once as [`lot_end`](dr_select::lot_end) says, in memory of their
+/// own meanwhile.
 pub fn narrow(
     alloc: Global,
     view: &SegmentView<'_>,
@@ -50,9 +48,6 @@ fn narrow_asked(
     requires { length told.old ≡ length view.now.times }
     ensures { OnOk result (Narrows (meets view.now (condition_in filter.now)) told.old told.new) }
 {
-    if filter.is_guarded() {
-        return narrow_by_rows(alloc, view, filter, told);
-    }
     match filter {
         FilterTree::Dimension(test) => keep_passing(alloc, view, test, told),
         FilterTree::Interval(union) => {

@@ -1,10 +1,9 @@
 //! What a query asks of an image, read column by column: which rows it selects, which rows lie in one bucket, which have the same
 //! values in the dimensions that it groups by, and what its aggregations fold to over a run of rows. No row is made,
-//! but for a filter that is asked soonest row by row, or of many rows at once.
+//! but for a filter that is asked of many rows at once.
 #![tactic(auto)]
 
 mod at_once;
-mod by_rows;
 mod cells;
 mod filtering;
 mod folding;

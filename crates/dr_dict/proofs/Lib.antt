@@ -1,4 +1,3 @@
 pub mod Texts
-pub mod SameTexts
 pub mod SortedTexts
 pub mod AddedTexts

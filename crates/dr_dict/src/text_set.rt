@@ -1,5 +1,4 @@
 ghost use Rattle.std.specs.Prelude.{◌≡◌, ◌∷◌, ◌++◌, [], true, false, not, length, map, string_bytes, take, IfOk, OnErr, bytes_eq};
-ghost use Rattle.std.specs.Cmp.Lexicographic.{pointwise};
 ghost use Rattle.std.specs.List.{list_any};
 
 use dr_base::Text;
@@ -68,25 +67,6 @@ impl TextSet {
         ensures { self.new ≡ take count self.old }
     {
         self.0.truncate(count);
-    }
-
-    /// Whether another set has the same texts in the same order. It takes no memory, and time by the bytes of the texts.
-    pub fn is_same_list(&self, others: &TextSet) -> bool
-        ensures { result ≡ pointwise bytes_eq self.now others.now }
-    {
-        self.as_texts() == others.as_texts()
-    }
-
-    /// A copy of the list of them. The only error is that memory ran out. It takes time and memory by the bytes of the texts.
-    pub fn to_texts(&self) -> Result<Vec<String>, AllocError>
-        ensures { IfOk result (λ texts. map string_bytes texts.items ≡ self.now) }
-    {
-        let alloc = *self.0.allocator();
-        let mut texts = Vec::with_capacity(alloc, self.count())?;
-        for text in self.as_texts() {
-            texts.push(String::from_str(alloc, text.as_str())?)?;
-        }
-        Ok(texts)
     }
 
     /// The texts, in the order in which they were added. It takes constant time and no memory.

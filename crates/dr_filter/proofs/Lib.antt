@@ -1,4 +1,3 @@
-pub mod BehindTexts
 pub mod DistinctValues
 pub mod EveryMember
 pub mod Levels

@@ -2,7 +2,6 @@ pub mod Refusal
 pub mod Times
 pub mod Condition
 pub mod Same
-pub mod Guards
 pub mod Parts
 pub mod Values
 pub mod Fields

@@ -11,8 +11,7 @@ use std::alloc::{AllocError, Global};
 /// A filter that keeps the same rows: nests of one kind are taken apart, and then the tests of each dimension are joined, and the
 /// intervals. The only error is that memory ran out. It takes expected time and memory by the bytes of the filter, and `bound`s,
 /// `like`s and intervals time by theirs times the logarithm of their number, all that once more for each level of a nest that comes
-/// down to one test; and the texts of many `and`s of which one is to hold, by the logarithm of their number, all that once more for each
-/// dimension of which those with the same texts ask for texts too.
+/// down to one test.
 pub fn asked_of(alloc: Global, filter: &FilterTree) -> Result<FilterTree, AllocError>
     ensures { IfOk result (λ f. KeepSame (condition_in f) (condition_in filter.now)) }
 {

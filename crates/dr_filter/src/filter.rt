@@ -60,10 +60,7 @@ impl Filter {
 
     /// A filter that keeps the same rows, with few tests: whatever `and`, `or` and `not` make of the `selector`s, `in`s and `bound`s of
     /// one dimension is one test, and of intervals one `interval`. The `like`s of a dimension of which one is to fit, or none, are one
-    /// test too, and a test of a column that the schema lacks is answered. Where one of many `and`s is to hold that ask for texts of one
-    /// dimension, they are a tree: two of them stand behind a test for the texts of both, and so do two such pairs, so that a row is
-    /// asked those that name its text, and tests by the logarithm of their number. Those that name the same texts are one, and what they
-    /// ask besides is such a tree again. It takes constant time.
+    /// test too, and a test of a column that the schema lacks is answered. It takes constant time.
     pub fn asked(&self) -> &FilterTree
         ensures { KeepSame (condition_in result.now) (condition_in self.now) }
     {

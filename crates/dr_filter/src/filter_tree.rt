@@ -2,7 +2,7 @@ ghost use Rattle.std.specs.Prelude.{◌≡◌, IfOk};
 ghost use Rattle.dr_filter.specs.Condition.{condition_in, dimension, interval, opposite, conditions_in, matches as matches_of, every_matches as every_matches_of, some_matches as some_matches_of};
 
 use dr_base::Text;
-use dr_predicate::{DimensionTest, ValueTest};
+use dr_predicate::DimensionTest;
 use dr_time::Union;
 use std::alloc::{AllocError, Global};
 
@@ -44,12 +44,6 @@ impl FilterTree {
         Ok(FilterTree::Not(Box::new(alloc, self)?))
     }
 
-    /// Whether it is a tree of many filters (see [`Filter::asked`](crate::Filter::asked)), of which a row is asked those alone that ask
-    /// for its texts: it is asked soonest row by row. What a filter keeps doesn't depend on it. It takes time by the levels of the tree.
-    pub fn is_guarded(&self) -> bool {
-        has_guards(self, 3)
-    }
-
     // How many tests of dimensions and of intervals there are.
     #[cycle(counting)]
     pub(crate) fn test_count(&self) -> usize {
@@ -62,10 +56,9 @@ impl FilterTree {
         }
     }
 
-    /// Whether a row of this time, in milliseconds since the epoch, and these dimension values, in the order of the schema, meets the
-    /// filter. It takes no memory, and time by its tests, but only by those of an `and` or `or` up to the first that tells.
+    // Whether a row meets the filter.
     #[cycle(matching)]
-    pub fn matches(&self, time: i64, dims: &[Text]) -> bool
+    pub(crate) fn matches(&self, time: i64, dims: &[Text]) -> bool
         ensures { result ≡ matches_of time dims.now (condition_in self.now) }
     {
         match self {
@@ -109,41 +102,4 @@ fn some_matches(filters: &[FilterTree], time: i64, dims: &[Text]) -> bool
         }
     }
     false
-}
-
-// Whether so many tests for texts stand one behind the other before the first that a filter asks besides.
-#[cycle(guards)]
-fn has_guards(filter: &FilterTree, guards: usize) -> bool {
-    match filter {
-        FilterTree::Not(denied) => has_guards(denied, guards),
-        FilterTree::And(members) => has_guards_in(members.as_slice(), guards),
-        _ => guards == 0,
-    }
-}
-
-// The same of an `and`: a test for texts is one before what its only other member asks.
-#[cycle(guards)]
-fn has_guards_in(members: &[FilterTree], guards: usize) -> bool {
-    if guards == 0 {
-        return true;
-    }
-    match members {
-        [] => false,
-        [first, second] if asks_for_texts(first) => has_guards(second, guards - 1),
-        [first, ..] => has_guards(first, guards),
-    }
-}
-
-fn asks_for_texts(filter: &FilterTree) -> bool {
-    match filter {
-        FilterTree::Dimension(test) => is_among(&test.test),
-        _ => false,
-    }
-}
-
-fn is_among(test: &ValueTest) -> bool {
-    match test {
-        ValueTest::Among(_) => true,
-        _ => false,
-    }
 }

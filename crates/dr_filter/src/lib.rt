@@ -3,22 +3,14 @@
 #![tactic(auto)]
 
 mod asking;
-mod best_place;
 mod fields;
 mod filter;
 mod filter_error;
 mod filter_tree;
-mod group;
-mod grouping;
-mod guarded;
-mod guarding;
 mod members;
-mod pairing;
 mod parts;
 mod reading;
-mod splitting;
 mod test_reading;
-mod texts_asked;
 mod times;
 mod values;
 

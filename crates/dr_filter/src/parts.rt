@@ -6,7 +6,6 @@ ghost use Rattle.dr_base.specs.Told.{told};
 ghost use Rattle.dr_filter.specs.Parts.{parts_match};
 
 use crate::filter_tree::FilterTree;
-use crate::guarding::guarded;
 use crate::members::{all_of, put_filters, put_tests, put_times};
 use dr_predicate::{DimensionTest, DimensionTests};
 use dr_time::Union;
@@ -112,29 +111,8 @@ impl Parts {
         Ok(())
     }
 
-    // One filter for all of them, in which the tests of a dimension are joined, the intervals are one, and the filters a tree, where
-    // they are many.
-    pub(crate) fn made(self, alloc: Global) -> Result<FilterTree, AllocError>
-        ensures { IfOk result (λ f. (time : ℤ) (dims : List (List ℕ)) → matches time dims (condition_in f) ≡ parts_match time dims self) }
-    {
-        let Parts {
-            tests,
-            times,
-            no_times,
-            others,
-        } = self;
-        let others = guarded(alloc, others)?;
-        let parts = Parts {
-            tests,
-            times,
-            no_times,
-            others,
-        };
-        Ok(parts.joined(alloc)?)
-    }
-
     // One filter for all of them, in which the tests of a dimension are joined and the intervals are one.
-    pub(crate) fn joined(self, alloc: Global) -> Result<FilterTree, AllocError>
+    pub(crate) fn made(self, alloc: Global) -> Result<FilterTree, AllocError>
         ensures { IfOk result (λ f. (time : ℤ) (dims : List (List ℕ)) → matches time dims (condition_in f) ≡ parts_match time dims self) }
     {
         let Parts {

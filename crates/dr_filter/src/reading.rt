@@ -38,9 +38,7 @@ impl Filter {
     /// its bytes and, for each filter of a dimension, by the columns of the schema. Then it is made what [`Filter::asked`] gives,
     /// in expected time and memory by the bytes of the value, but `bound`s, `like`s and intervals, which are sorted and take theirs
     /// times the logarithm of their number, as do the values of a dimension that are asked together with its `bound`s, and what
-    /// stands in a nest that comes down to one test, which counts once for each such level; and but for the texts of many `and`s of which
-    /// one is to hold, which take theirs times the logarithm of the number of these, once for each dimension of which those with the
-    /// same texts ask for texts too.
+    /// stands in a nest that comes down to one test, which counts once for each such level.
     #[tactic(auto, unfolding(crate::specs::FilterOf::filter_of))]
     pub fn parse(alloc: Global, value: &Value, schema: &Schema) -> Result<Filter, FilterError>
         ensures { Gives condition_in result (filter_of schema.now (view value.now)) }

@@ -22,12 +22,12 @@ use Rattle.dr_outputs.specs.Numbered.{number_at, text_at}
 
 module _ {A : Type 0} (f : A → Bool) where
   -- where one gives way to another that asks one thing more
-  pub list_all-set : (old new : A) (b : Bool) (xs : List A) (i : ℕ) → i < length xs → old ≡ get_or xs i old → f new ≡ (f old && b) → list_all f (set xs i new) ≡ (list_all f xs && b)
+  list_all-set : (old new : A) (b : Bool) (xs : List A) (i : ℕ) → i < length xs → old ≡ get_or xs i old → f new ≡ (f old && b) → list_all f (set xs i new) ≡ (list_all f xs && b)
   list_all-set old new b [] i lt is h = absurd (omega (arith, lt))
   list_all-set old new b (x ∷ xs) zero lt is h = ap (λ a. a && list_all f xs) (h ∙ ap (λ z. f z && b) is) ∙ and_swaps (f x) b (list_all f xs)
   list_all-set old new b (x ∷ xs) (suc i) lt is h = ap (λ a. f x && a) (list_all-set old new b xs i (omega (arith, lt)) is h) ∙ and_regroups (f x) (list_all f xs) b
 
-  pub list_all-push : (xs : List A) (x : A) → list_all f (xs ++ x ∷ []) ≡ (list_all f xs && f x)
+  list_all-push : (xs : List A) (x : A) → list_all f (xs ++ x ∷ []) ≡ (list_all f xs && f x)
   list_all-push xs x = list_all-append f xs (x ∷ []) ∙ and_ends (list_all f xs) (f x)
 
   -- one thing more, in the place of the next of a list, of which the others are left

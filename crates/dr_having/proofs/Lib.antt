@@ -3,4 +3,3 @@ pub mod Turning
 pub mod Placing
 pub mod Collecting
 pub mod Gathering
-pub mod AmongTexts

@@ -10,5 +10,4 @@ pub mod LeafOf
 pub mod Placed
 pub mod Collected
 pub mod Gathered
-pub mod Guards
 pub mod HavingOf

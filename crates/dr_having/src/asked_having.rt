@@ -1,7 +1,6 @@
-ghost use Rattle.std.specs.Prelude.{◌≡◌, ◌&&◌, not, map, ℕ, ℤ, List};
+ghost use Rattle.std.specs.Prelude.{◌≡◌, not, map, ℕ, ℤ, List};
 ghost use Rattle.std.specs.List.{list_all};
 ghost use Rattle.dr_having.specs.Asked.{asked_meets};
-ghost use Rattle.dr_having.specs.Guards.{none_met};
 ghost use Rattle.dr_having.specs.OutputMeets.{outputs_meet};
 
 use crate::asked_output::AskedOutput;
@@ -27,25 +26,10 @@ impl AskedHaving {
         }
     }
 
-    // What is asked of outputs, and some conditions of which none is to hold.
-    pub(crate) fn of_parts(outputs: Vec<AskedOutput>, denied: Vec<AskedHaving>) -> AskedHaving
-        ensures { (dims : List (List ℕ)) (values : List ℤ) → asked_meets dims values result ≡ (outputs_meet dims values outputs.items && none_met dims values denied.items) }
-    {
-        AskedHaving { outputs, denied }
-    }
-
-    // These.
-    pub(crate) fn into_parts(self) -> (Vec<AskedOutput>, Vec<AskedHaving>)
-        ensures { (dims : List (List ℕ)) (values : List ℤ) → asked_meets dims values self ≡ (outputs_meet dims values result.0.items && none_met dims values result.1.items) }
-    {
-        (self.outputs, self.denied)
-    }
-
     /// Whether a group meets it: its dimension values and the values of its aggregations, each in the order of the query. It
     /// takes no memory, and expected time by the conditions that stand apart, as an `and` or an `or` over two outputs within the other
-    /// one does, but of those that are a tree by the values of a dimension by the logarithm of their number and by those that ask for
-    /// the group's; and within each of them by the aggregations that it names, each with the logarithm of the comparisons of it, and
-    /// the bytes of the values of the dimensions that it names, however many conditions are on one of these.
+    /// one does, and within each of them by the aggregations that it names, each with the logarithm of the comparisons of it, and the
+    /// bytes of the values of the dimensions that it names, however many conditions are on one of these.
     #[cycle(meeting)]
     pub fn meets(&self, dims: &OutputTexts<'_>, values: &OutputNumbers<'_>) -> bool
         ensures { result ≡ asked_meets dims.now values.now self.now }

@@ -16,12 +16,10 @@ impl Having {
     /// What is asked of each group in the place of this condition, of groups whose outputs have values of these numbers. An `and`
     /// within an `and`, an `or` within an `or`, and by a `not` the one within the other, are taken apart, and so is one of a single
     /// condition. Whatever is asked of the aggregations with one number comes down to one set of numbers, and whatever is asked of a
-    /// dimension to one set of texts, or all others, also by a nest of `and`, `or` and `not` over nothing else. Where one of many `and`s
-    /// is to hold, or none, that ask for values of one dimension, they are made a tree by these values, and so is what those with the
-    /// same values ask besides. The only error is that memory ran out. It takes memory for the conditions and the bytes of their texts
-    /// and for a place of each aggregation, and expected time by the same for each level of nesting, of comparisons, and of the texts of
-    /// a tree, once for each dimension of which those with the same values ask for values too, times the logarithm of how many there
-    /// are: what is asked of an output already is found by hashing, and the sets of numbers of one aggregation are joined by halves.
+    /// dimension to one set of texts, or all others, also by a nest of `and`, `or` and `not` over nothing else. The only error is
+    /// that memory ran out. It takes memory for the conditions and the bytes of their texts and for a place of each aggregation, and
+    /// expected time by the same for each level of nesting, of comparisons times the logarithm of how many there are: what is asked
+    /// of an output already is found by hashing, and the sets of numbers of one aggregation are joined by halves.
     pub fn asked_together(
         &self,
         alloc: Global,

@@ -9,7 +9,6 @@ use crate::asked_having::AskedHaving;
 use crate::asked_output::AskedOutput;
 use crate::dimension_value::DimensionValue;
 use crate::group_value::GroupValue;
-use crate::guarding::guarded;
 use crate::number_look_up::NumberLookUp;
 use crate::output_conditions::OutputConditions;
 use crate::text_look_up::TextLookUp;
@@ -33,17 +32,8 @@ impl Conjunction {
         }
     }
 
-    // What is asked of each group, in which the conditions that are denied are a tree, where they are many.
-    pub(crate) fn into_asked(self, alloc: Global) -> Result<AskedHaving, AllocError>
-        ensures { IfOk result (λ asked. (dims : List (List ℕ)) (values : List ℤ) → asked_meets dims values asked ≡ conjunction_meets dims values self) }
-    {
-        let Conjunction { outputs, denied } = self;
-        let denied = guarded(alloc, denied)?;
-        Conjunction { outputs, denied }.joined(alloc)
-    }
-
     // What is asked of each group.
-    pub(crate) fn joined(self, alloc: Global) -> Result<AskedHaving, AllocError>
+    pub(crate) fn into_asked(self, alloc: Global) -> Result<AskedHaving, AllocError>
         ensures { IfOk result (λ asked. (dims : List (List ℕ)) (values : List ℤ) → asked_meets dims values asked ≡ conjunction_meets dims values self) }
     {
         Ok(AskedHaving {
@@ -94,17 +84,6 @@ impl Conjunction {
             return self.deny_asked(others.into_asked(alloc)?);
         }
         self.deny_outputs(alloc, others.outputs.asked(alloc)?)
-    }
-
-    // Adds that what was made of others isn't so: where that is one thing that is asked of one output, its opposite.
-    pub(crate) fn deny_made(&mut self, alloc: Global, asked: AskedHaving) -> Result<(), AllocError>
-        ensures { OnOk result ((dims : List (List ℕ)) (values : List ℤ) → conjunction_meets dims values self.new ≡ (conjunction_meets dims values self.old && not (asked_meets dims values asked))) }
-    {
-        let (outputs, denied) = asked.into_parts();
-        if denied.is_empty() {
-            return self.deny_outputs(alloc, outputs);
-        }
-        self.deny_asked(AskedHaving::of_parts(outputs, denied))
     }
 
     // Adds that not all is so that is asked of outputs.

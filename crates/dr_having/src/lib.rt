@@ -5,15 +5,10 @@
 mod asked_having;
 mod asked_output;
 mod asking;
-mod best_place;
 mod comparison;
 mod conjunction;
 mod dimension_value;
-mod group;
 mod group_value;
-mod grouping;
-mod guarded;
-mod guarding;
 mod having;
 mod having_error;
 mod leaf_reading;
@@ -21,9 +16,7 @@ mod number_conditions;
 mod number_look_up;
 mod number_steps;
 mod output_conditions;
-mod pairing;
 mod reading;
-mod splitting;
 mod text_conditions;
 mod text_look_up;
 

@@ -1,5 +1,5 @@
 use dr_base::Text;
-use dr_dict::{GrowingDict, SortedDict, TextSet, renumbering};
+use dr_dict::{GrowingDict, SortedDict, renumbering};
 use std::alloc::Global;
 use std::test::Fail;
 
@@ -27,26 +27,5 @@ fn sorts_the_copy_of_a_dictionary(rt: HostRuntime) -> Result<(), Fail> {
     assert!(rt; is(sorted.text(0), "") && is(sorted.text(1), "a") && is(sorted.text(2), "b"));
     let places = renumbering(&dict)?;
     assert!(rt; places.as_slice() == [2, 0, 1].as_slice());
-    Ok(())
-}
-
-// The set of these texts.
-fn texts(alloc: Global, words: &[&str]) -> Result<TextSet, Fail> {
-    let mut texts = TextSet::new(alloc);
-    for word in words {
-        texts.add(&Text::from_str(alloc, word)?)?;
-    }
-    Ok(texts)
-}
-
-#[test]
-fn tells_sets_of_texts_by_their_order(rt: HostRuntime) -> Result<(), Fail> {
-    let alloc = rt.alloc();
-    let one = texts(alloc, &["b", "", "a", "b"])?;
-    let list = one.to_texts()?;
-    assert!(rt; list.len() == 3 && list[0].as_str() == "b");
-    assert!(rt; list[1].as_str() == "" && list[2].as_str() == "a");
-    assert!(rt; one.is_same_list(&texts(alloc, &["b", "", "a"])?));
-    assert!(rt; !one.is_same_list(&texts(alloc, &["a", "", "b"])?));
     Ok(())
 }
