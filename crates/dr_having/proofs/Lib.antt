@@ -3,3 +3,5 @@ pub mod Turning
 pub mod Placing
 pub mod Collecting
 pub mod Gathering
+pub mod StepLemmas
+pub mod OutLemmas

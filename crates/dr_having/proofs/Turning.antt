@@ -37,7 +37,7 @@ above : (c d v : ℤ) → c ≤ℤ d → int_le c v ≡ false → int_le d v ≡
 above c d v le h = grind (arith, ints)
 
 -- nothing is turned round before the first step
-before : (c v : ℤ) → int_le c v ≡ false → (within : Bool) (cs : List ℤ) → AllByRecursion (λ d. c ≤ℤ d) cs → turned_by within cs v ≡ within
+pub before : (c v : ℤ) → int_le c v ≡ false → (within : Bool) (cs : List ℤ) → AllByRecursion (λ d. c ≤ℤ d) cs → turned_by within cs v ≡ within
 before c v h within [] all = refl
 before c v h within (d ∷ cs) all = ap (λ b. turned_by (if b then not within else within) cs v) (above c d v all.0 h) ∙ before c v h within cs all.1
 

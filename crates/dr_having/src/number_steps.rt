@@ -1,9 +1,11 @@
 ghost use Rattle.std.specs.Prelude.{◌≡◌, ◌&&◌, ◌<◌, ◌∷◌, ◌++◌, [], not, ℤ, length, IfOk, OnOk};
+ghost use Rattle.dr_rowindex.specs.Orders.{Adds, lies_between};
 ghost use Rattle.dr_having.specs.JoinedSteps.{are_among, where_wanted};
 ghost use Rattle.dr_having.specs.Meeting.{compares};
 ghost use Rattle.dr_having.specs.Steps.{is_among, turned_by, Rise};
 
 use crate::comparison::Comparison;
+use dr_rowindex::{NumberOrder, RowSet};
 use std::alloc::{AllocError, Global};
 use std::marker::Model;
 
@@ -117,6 +119,26 @@ impl NumberSteps {
         })
     }
 
+    // At how many numbers it changes whether a number is in it.
+    pub(crate) fn cut_count(&self) -> usize {
+        self.cuts.len()
+    }
+
+    // Adds the rows whose number is in it to a set.
+    pub(crate) fn insert_among(&self, order: &NumberOrder, set: &mut RowSet)
+        requires { length set.old ≡ length order.now }
+        ensures { Adds (is_among self.now) order.now set.old set.new }
+    {
+        let mut from = None;
+        let mut within = self.within;
+        for cut in self.cuts.as_slice() {
+            insert_where(within, order, from, Some(*cut), set);
+            from = Some(*cut);
+            within = !within;
+        }
+        insert_where(within, order, from, None, set);
+    }
+
     /// Whether a number is in it. It takes no memory, and logarithmic time by the steps.
     pub fn contains(&self, number: i64) -> bool
         ensures { result ≡ is_among self.now number }
@@ -124,6 +146,22 @@ impl NumberSteps {
         let number = i128::from(number);
         let turns = self.cuts.partition_point(|cut| *cut <= number);
         self.within == (turns % 2 == 0)
+    }
+}
+
+// Adds the rows whose number lies from one to before another, where they are wanted.
+fn insert_where(
+    wanted: bool,
+    order: &NumberOrder,
+    from: Option<i128>,
+    to: Option<i128>,
+    set: &mut RowSet,
+)
+    requires { length set.old ≡ length order.now }
+    ensures { Adds (λ n. wanted && lies_between from to n) order.now set.old set.new }
+{
+    if wanted {
+        order.insert_between(from, to, set);
     }
 }
 

@@ -1,5 +1,5 @@
 -- Numbers that rise, and those that lie between two.
-use Rattle.std.proofs.Common.{◌≡◌, ◌∙◌, sym, refl, ap, cond, ℕ, ℤ, pos, ◌<◌, ◌≤◌, ◌≤ℤ◌, int_le, int_lt, not, ◌&&◌, Bool, true, false, List, length, get_or, arith}
+use Rattle.std.proofs.Common.{◌≡◌, ◌∙◌, sym, refl, ap, cond, ℕ, ℤ, pos, ◌<◌, ◌≤◌, ◌≤ℤ◌, int_le, int_lt, not, ◌&&◌, Bool, true, false, Option, Some, List, length, get_or, arith}
 use Rattle.std.specs.List.Sorted.{IsPartitionedBy}
 use Rattle.std.specs.Ordering.{int_cmp, is_lt}
 use Rattle.std.specs.declared.cmp.Ordering.TheVariants.{Less, Equal, Greater}
@@ -9,7 +9,7 @@ use Rattle.std.proofs.lemmas.Int.{ints}
 use Rattle.std.proofs.lemmas.Cmp.{int_cmp_total}
 use Rattle.std.proofs.lemmas.List.MinMax.{ranks_by}
 use Rattle.std.proofs.lemmas.List.Sorted.{sorted_far}
-use Rattle.dr_rowindex.specs.Orders.{NumbersRise, lies_between}
+use Rattle.dr_rowindex.specs.Orders.{NumbersRise, reached, unended, lies_between}
 
 -- what lies before a number keeps so from a lesser one on
 lesser : (a b n : ℤ) → a ≤ℤ b → int_lt b n ≡ true → int_lt a n ≡ true
@@ -33,12 +33,23 @@ numbers-rise numbers rows up i j r le lt =
     not_less (get_or numbers (get_or rows i r) (pos 0)) (get_or numbers (get_or rows j r) (pos 0))
     (sorted_far (λ (a b : ℕ). is_lt (int_cmp (get_or numbers a (pos 0)) (get_or numbers b (pos 0)))) (numbers_rank numbers) rows up i j r le lt)
 
--- what no number lies before
-pub begun : (n from to : ℤ) → int_lt n from ≡ true → lies_between from to n ≡ false
-begun n from to h = grind (arith, ints)
+-- ---- what lies between two
 
-pub inside : (n from to : ℤ) → int_lt n from ≡ false → int_lt n to ≡ true → lies_between from to n ≡ true
-inside n from to h g = grind (arith, ints)
+pub reached-false : (from n : ℤ) → int_lt n from ≡ true → reached (Some from) n ≡ false
+reached-false from n h = grind (arith, ints)
 
-pub ended : (n from to : ℤ) → int_lt n to ≡ false → lies_between from to n ≡ false
-ended n from to h = grind (arith, ints)
+pub reached-true : (from n : ℤ) → int_lt n from ≡ false → reached (Some from) n ≡ true
+reached-true from n h = grind (arith, ints)
+
+pub not-reached : (from to : Option ℤ) (n : ℤ) → reached from n ≡ false → lies_between from to n ≡ false
+not-reached from to n h = ap (λ b. b && unended to n) h
+
+pub inside : (from to : Option ℤ) (n : ℤ) → reached from n ≡ true → unended to n ≡ true → lies_between from to n ≡ true
+inside from to n h g = ap (λ b. b && unended to n) h ∙ g
+
+pub ended : (from to : Option ℤ) (n : ℤ) → unended to n ≡ false → lies_between from to n ≡ false
+ended from to n h = ap (λ b. reached from n && b) h ∙ never (reached from n)
+  where
+    never : (b : Bool) → (b && false) ≡ false
+    never true = refl
+    never false = refl

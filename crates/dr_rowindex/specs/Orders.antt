@@ -1,19 +1,32 @@
 -- Rows that stand in the order of what each has.
-use Rattle.std.specs.Prelude.{◌≡◌, ℕ, ◌<◌, ◌≤◌, ◌+◌, ◌*◌, ◌||◌, ◌&&◌, ◌==◌, Bool, false, List, [], length, get_or, map, slice_range, ℤ, pos, ◌≤ℤ◌, int_le, int_lt}
+use Rattle.std.specs.Prelude.{◌≡◌, ℕ, ◌<◌, ◌≤◌, ◌+◌, ◌*◌, ◌||◌, ◌&&◌, ◌==◌, Bool, true, false, Option, Some, None, List, [], length, get_or, map, slice_range, ℤ, pos, ◌≤ℤ◌, int_le, int_lt}
 use Rattle.std.specs.List.{list_any, range_with_len}
 use Rattle.std.specs.List.Sorted.{IsPermutation}
 use Rattle.std.specs.Ordering.{nat_cmp, is_lt}
 use Rattle.std.specs.Cmp.Lexicographic.{slice_cmp}
 use Rattle.dr_rowindex.specs.declared.row_set.RowSet.{RowSet}
 
+-- it is told of each row whether its value passes a test
+pub record Tell {V : Type 0} (test : V → Bool) (values : List V) (told : List Bool) : Type 0 where
+  pub count : length told ≡ length values
+  pub each : (i : ℕ) (v : V) → i < length values → get_or told i false ≡ test (get_or values i v)
+
 -- rows of which each has a value are added to those that are told of, where the value passes a test
 pub record Adds {V : Type 0} (test : V → Bool) (values : List V) (before after : List Bool) : Type 0 where
   pub count : length after ≡ length before
   pub each : (i : ℕ) (v : V) → i < length values → get_or after i false ≡ (get_or before i false || test (get_or values i v))
 
--- the number lies from one to before another
-abbrev pub lies_between : ℤ → ℤ → ℤ → Bool
-lies_between from to n = int_le from n && int_lt n to
+-- a number isn't before the first that is asked for, or before the end; what is absent bounds nothing
+abbrev pub reached : Option ℤ → ℤ → Bool
+reached None n = true
+reached (Some from) n = int_le from n
+
+abbrev pub unended : Option ℤ → ℤ → Bool
+unended None n = true
+unended (Some to) n = int_lt n to
+
+abbrev pub lies_between : Option ℤ → Option ℤ → ℤ → Bool
+lies_between from to n = reached from n && unended to n
 
 -- rows were put into a set
 pub record Put (rows : List ℕ) (before after : List Bool) : Type 0 where

@@ -1,6 +1,6 @@
 ghost use Rattle.std.specs.Prelude.{◌≡◌, ◌<◌, ◌≤◌, ℕ, true, false, pos, get_or, int_lt, length, IfOk};
 ghost use Rattle.std.specs.Ordering.{int_cmp};
-ghost use Rattle.dr_rowindex.specs.Orders.{Adds, lies_between, NumbersRise};
+ghost use Rattle.dr_rowindex.specs.Orders.{Adds, lies_between, reached, unended, NumbersRise};
 
 use crate::row_order::{RowOrder, rows_counted};
 use crate::row_set::RowSet;
@@ -44,17 +44,43 @@ impl NumberOrder {
         Ok(NumberOrder { numbers, order })
     }
 
-    /// Adds the rows to a set whose number lies from one to before another. It takes time by the logarithm of the rows and by those that
-    /// are added, but for those in the middle of many, of which 1,024 take what [`RowSet::or`] takes.
-    pub fn insert_between(&self, from: i128, to: i128, set: &mut RowSet)
+    /// Adds the rows to a set whose number lies from one to before another, of which an absent one bounds nothing. It takes time by the
+    /// logarithm of the rows and by those that are added, but for those in the middle of many, of which 1,024 take what [`RowSet::or`]
+    /// takes.
+    pub fn insert_between(&self, from: Option<i128>, to: Option<i128>, set: &mut RowSet)
         requires { length set.old ≡ length self.now }
         ensures { Adds (lies_between from to) self.now set.old set.new }
     {
         let numbers = self.numbers.as_slice();
         let rows = self.order.rows();
-        let from = place_of(numbers, rows, from);
-        let to = place_of(numbers, rows, to);
+        let from = begin_of(numbers, rows, from);
+        let to = end_of(numbers, rows, to);
         self.order.insert_between(from, to, set);
+    }
+}
+
+// How many rows, which stand in the order of their numbers, have one before the first that is asked for.
+fn begin_of(numbers: &[i64], rows: &[usize], from: Option<i128>) -> usize
+    requires { NumbersRise numbers.now rows.now }
+    ensures before { (j r : ℕ) → j < result → reached from (get_or numbers.now (get_or rows.now j r) (pos 0)) ≡ false }
+    ensures behind { (j r : ℕ) → result ≤ j → j < length rows.now → reached from (get_or numbers.now (get_or rows.now j r) (pos 0)) ≡ true }
+{
+    match from {
+        Some(number) => place_of(numbers, rows, number),
+        None => 0,
+    }
+}
+
+// How many have one before the end.
+fn end_of(numbers: &[i64], rows: &[usize], to: Option<i128>) -> usize
+    requires { NumbersRise numbers.now rows.now }
+    ensures within { result ≤ length rows.now }
+    ensures before { (j r : ℕ) → j < result → unended to (get_or numbers.now (get_or rows.now j r) (pos 0)) ≡ true }
+    ensures behind { (j r : ℕ) → result ≤ j → j < length rows.now → unended to (get_or numbers.now (get_or rows.now j r) (pos 0)) ≡ false }
+{
+    match to {
+        Some(number) => place_of(numbers, rows, number),
+        None => rows.len(),
     }
 }
 

@@ -1,4 +1,5 @@
 ghost use Rattle.std.specs.Prelude.{◌≡◌, ◌<◌, ◌≤◌, ◌-◌, ℕ, true, false, [], get_or, set as list_set, length, map, IfOk, OnOk, bytes_eq};
+ghost use Rattle.std.specs.List.{list_any};
 ghost use Rattle.std.specs.Ordering.{nat_cmp};
 ghost use Rattle.std.specs.Cmp.Lexicographic.{slice_cmp};
 ghost use Rattle.dr_predicate.specs.Match.{passes};
@@ -8,6 +9,7 @@ ghost use Rattle.dr_rowindex.specs.Orders.{Adds, TextsRise};
 
 use crate::row_order::{RowOrder, rows_counted};
 use crate::row_set::RowSet;
+use dr_dict::TextSet;
 use dr_predicate::{Bounds, ValueTest};
 use std::alloc::{AllocError, Global};
 use std::cmp::Ordering;
@@ -75,6 +77,23 @@ impl<'a> TextOrder<'a> {
     {
         let bounds = Bounds::one_text(alloc, text)?;
         self.insert_within(&bounds, set);
+        Ok(())
+    }
+
+    /// Adds the rows to a set that have one of some texts. The only error is that memory ran out. It takes what
+    /// [`TextOrder::insert_within`] takes for each of them.
+    pub fn insert_among(
+        &self,
+        alloc: Global,
+        texts: &TextSet,
+        set: &mut RowSet,
+    ) -> Result<(), AllocError>
+        requires { length set.old ≡ length self.now }
+        ensures { OnOk result (Adds (λ value. list_any (bytes_eq value) texts.now) self.now set.old set.new) }
+    {
+        for text in texts.as_texts() {
+            self.insert_equal(alloc, text.as_str(), set)?;
+        }
         Ok(())
     }
 

@@ -1,1 +1,1 @@
-pub mod TellLemmas
+pub mod KeyLemmas

@@ -1,23 +1,32 @@
 use dr_filter::FilterTree;
 use dr_predicate::DimensionTest;
+use dr_rowindex::AskedPlaces;
 use std::alloc::{AllocError, Global};
 
-/// What a filter asks of rows: the values at which places among their dimensions, each once, and whether their times.
+// How often times are asked for at least, before it takes less time to put the rows in their order.
+const OFTEN: usize = 8;
+
+/// How often a filter asks for the values at each place among the dimensions, and for the times.
 #[derive(Drop)]
 pub struct AskedFor {
-    pub places: Vec<usize>,
-    pub times: bool,
+    pub places: AskedPlaces,
+    times: usize,
 }
 
 impl AskedFor {
-    // What a filter asks. The only error is that memory ran out.
+    // What a filter asks for. The only error is that memory ran out.
     pub(crate) fn of(alloc: Global, filter: &FilterTree) -> Result<AskedFor, AllocError> {
         let mut asked = AskedFor {
-            places: Vec::new(alloc),
-            times: false,
+            places: AskedPlaces::new(alloc),
+            times: 0,
         };
         asked.add(filter)?;
         Ok(asked)
+    }
+
+    // Whether times are asked for so often that the rows are put in their order.
+    pub(crate) fn asks_times_often(&self) -> bool {
+        self.times >= OFTEN
     }
 
     #[cycle(adding)]
@@ -25,7 +34,7 @@ impl AskedFor {
         match filter {
             FilterTree::Dimension(test) => self.add_place(test),
             FilterTree::Interval(_) => {
-                self.times = true;
+                self.times = self.times.saturating_add(1);
                 Ok(())
             }
             FilterTree::And(filters) => self.add_each(filters.as_slice()),
@@ -43,12 +52,9 @@ impl AskedFor {
     }
 
     fn add_place(&mut self, test: &DimensionTest) -> Result<(), AllocError> {
-        let Some(place) = test.place else {
-            return Ok(());
-        };
-        if !self.places.contains(&place) {
-            self.places.push(place)?;
+        match test.place {
+            Some(place) => self.places.add(place),
+            None => Ok(()),
         }
-        Ok(())
     }
 }

@@ -2,25 +2,25 @@ ghost use Rattle.std.specs.Prelude.{◌≡◌, length, map, IfOk};
 ghost use Rattle.dr_predicate.specs.Match.{holds_of};
 ghost use Rattle.dr_time.specs.Union.{union_holds};
 ghost use Rattle.dr_filter.specs.Condition.{condition_in, conditions_in, every_matches, some_matches};
-ghost use Rattle.dr_rowindex.specs.Orders.{Adds};
-ghost use Rattle.dr_select.specs.Rows.{meets, Tell};
+ghost use Rattle.dr_rowindex.specs.Orders.{Adds, Tell};
+ghost use Rattle.dr_select.specs.Rows.{meets};
 
 use crate::lot::Lot;
-use crate::passing::{asks_for_many, insert_passing};
+use crate::passing::insert_passing;
 use dr_filter::{Filter, FilterTree};
 use dr_predicate::DimensionTest;
 use dr_rollup::KeyOf;
-use dr_rowindex::{NumberOrder, RowSet};
+use dr_rowindex::{NumberOrder, RowSet, asks_for_many};
 use dr_time::{Interval, Union};
 use std::alloc::{AllocError, Global};
 
 /// The rows that a filter keeps, each lent by its key. The only error is that memory ran out.
 ///
-/// The rows are put in the order of their values once for each dimension that [`Filter::asked`] asks for, and of their times, where it
-/// asks for these, which takes n log n in the rows, and memory by them. Then each text, each range and each interval takes time by the
-/// logarithm of the rows and by the rows that it lets through, but for those in the middle of many, 64 at once; where an `in` has more
-/// texts than a sixteenth of the rows, or ranges or intervals that are asked together are as many, each value that differs, or each
-/// time, is looked up among them. A test of a pattern takes what [`ValueTest::passes`](dr_predicate::ValueTest::passes) does for each
+/// The rows are put in the order of their values once for each dimension that [`Filter::asked`] asks for 8 times or more, and of their
+/// times, where it asks for these as often, which takes n log n in the rows, and memory by them. Then each text, each range and each
+/// interval takes time by the logarithm of the rows and by the rows that it lets through, but for those in the middle of many, 64 at
+/// once; where an `in` has more texts than a sixteenth of the rows, or ranges or intervals that are asked together are as many, each
+/// value that differs, or each time, is looked up among them. Of the other dimensions each row is asked by itself. A test of a pattern takes what [`ValueTest::passes`](dr_predicate::ValueTest::passes) does for each
 /// value that differs, and each `and`, `or` and `not` time by the rows, 64 at once.
 pub fn select(alloc: Global, filter: &Filter, rows: &[KeyOf<'_>]) -> Result<RowSet, AllocError>
     ensures { IfOk result (λ s. s ≡ map (meets (condition_in filter.now)) rows.now) }
@@ -127,7 +127,7 @@ fn insert_held(times: &NumberOrder, intervals: &[Interval], set: &mut RowSet)
     for interval in intervals {
         let from = i128::from(interval.start);
         let to = i128::from(interval.end);
-        times.insert_between(from, to, set);
+        times.insert_between(Some(from), Some(to), set);
     }
 }
 

@@ -10,8 +10,8 @@ use dr_rollup::KeyOf;
 use dr_rowindex::{NumberOrder, TextOrder};
 use std::alloc::{AllocError, Global};
 
-/// Rows of which a filter is asked, and these in the order of their values in each dimension that it asks for, and of their times,
-/// where it asks for these.
+/// Rows of which a filter is asked, and these in the order of their values in each dimension that it often asks for, and of their times,
+/// where it often asks for these.
 #[derive(Drop)]
 pub struct Lot<'a> {
     pub rows: &'a [KeyOf<'a>],
@@ -22,7 +22,7 @@ pub struct Lot<'a> {
 }
 
 impl<'a> Lot<'a> {
-    // The rows, in each order that a filter asks for.
+    // The rows, in each order that a filter often asks for.
     pub(crate) fn of(
         alloc: Global,
         rows: &'a [KeyOf<'a>],
@@ -31,8 +31,9 @@ impl<'a> Lot<'a> {
         ensures { IfOk result (λ lot. lot.rows.now ≡ rows.now) }
     {
         let asked = AskedFor::of(alloc, filter)?;
-        let orders = orders_of(alloc, rows, asked.places.as_slice())?;
-        let times = times_of(alloc, rows, asked.times)?;
+        let places = asked.places.often(alloc)?;
+        let orders = orders_of(alloc, rows, places.as_slice())?;
+        let times = times_of(alloc, rows, asked.asks_times_often())?;
         Ok(Lot {
             rows,
             orders,
@@ -40,7 +41,7 @@ impl<'a> Lot<'a> {
         })
     }
 
-    // The rows in the order of their values at a place, where a filter asks for it.
+    // The rows in the order of their values at a place, where a filter often asks for it.
     pub(crate) fn order_at(&self, place: Option<usize>) -> Option<&TextOrder<'a>>
         ensures { IfSome result (λ o. o.now ≡ map (value_of place) self.now.rows.now) }
     {
@@ -52,7 +53,7 @@ impl<'a> Lot<'a> {
         None
     }
 
-    // The rows in the order of their times, where a filter asks for these.
+    // The rows in the order of their times, where a filter often asks for these.
     pub(crate) fn times(&self) -> Option<&NumberOrder>
         ensures { IfSome result (λ t. t.now ≡ map (λ r. r.time) self.now.rows.now) }
     {

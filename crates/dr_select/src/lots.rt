@@ -20,9 +20,5 @@ pub fn lot_end(from: usize, count: usize) -> usize
     ensures more { from < result }
     ensures within { result ≤ count }
 {
-    if count - from > ROWS_AT_ONCE {
-        from + ROWS_AT_ONCE
-    } else {
-        count
-    }
+    dr_rowindex::lot_end(from, count, ROWS_AT_ONCE)
 }

@@ -4,13 +4,9 @@ ghost use Rattle.dr_predicate.specs.Match.{passes};
 ghost use Rattle.dr_predicate.specs.Within.{some_within};
 ghost use Rattle.dr_rowindex.specs.Orders.{Adds};
 
-use dr_dict::TextSet;
 use dr_predicate::{Ranges, ValueTest};
-use dr_rowindex::{RowSet, TextOrder};
+use dr_rowindex::{RowSet, TextOrder, asks_for_many};
 use std::alloc::{AllocError, Global};
-
-// How many values or times are looked up, by hashing or by a search, in the time of a search among the rows.
-const VALUES_A_SEARCH: usize = 16;
 
 /// Adds the rows whose value passes a test to a set, of which there are so many: for each of few texts and ranges by two searches, and of
 /// many of them, and for patterns, by the values that differ. The only error is that memory ran out.
@@ -30,17 +26,12 @@ pub fn insert_passing(
     }
     match test {
         ValueTest::Equals(text) => order.insert_equal(alloc, text.as_str(), set)?,
-        ValueTest::Among(texts) => insert_among(alloc, order, texts, set)?,
+        ValueTest::Among(texts) => order.insert_among(alloc, texts, set)?,
         ValueTest::Within(bounds) => order.insert_within(bounds, set),
         ValueTest::WithinOne(ranges) => insert_within_one(order, ranges, set),
         _ => order.insert_passing(test, set),
     }
     Ok(())
-}
-
-/// Whether so many texts, ranges or intervals are asked for that so many rows are asked sooner one by one.
-pub fn asks_for_many(asked: usize, rows: usize) -> bool {
-    asked > rows / VALUES_A_SEARCH
 }
 
 // How many texts or ranges a test asks for together.
@@ -50,21 +41,6 @@ fn asked_values(test: &ValueTest) -> usize {
         ValueTest::WithinOne(ranges) => ranges.as_bounds().len(),
         _ => 0,
     }
-}
-
-fn insert_among(
-    alloc: Global,
-    order: &TextOrder<'_>,
-    texts: &TextSet,
-    set: &mut RowSet,
-) -> Result<(), AllocError>
-    requires { length set.old ≡ length order.now }
-    ensures { OnOk result (Adds (λ value. list_any (bytes_eq value) texts.now) order.now set.old set.new) }
-{
-    for text in texts.as_texts() {
-        order.insert_equal(alloc, text.as_str(), set)?;
-    }
-    Ok(())
 }
 
 fn insert_within_one(order: &TextOrder<'_>, ranges: &Ranges, set: &mut RowSet)

@@ -1,6 +1,6 @@
 use Rattle.std.proofs.Common.{◌&&◌, ◌||◌, drop}
 use Rattle.dr_filter.specs.Condition.{conditions_in, every_matches, some_matches}
-use Rattle.dr_select.proofs.TellLemmas.{TellWith}
+use Rattle.dr_rowindex.proofs.TellLemmas.{TellWith}
 use Rattle.dr_select.proofs.choosing.+choosing.Given as goal
 
 abbrev pub invariant-met_by_every-loop-filter : goal.invariant-met_by_every-loop-filter

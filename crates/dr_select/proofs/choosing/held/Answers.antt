@@ -1,6 +1,6 @@
 use Rattle.std.proofs.Common.{refl, map, length}
 use Rattle.dr_time.specs.Union.{union_holds}
-use Rattle.dr_select.proofs.TellLemmas.{tell-added}
+use Rattle.dr_rowindex.proofs.TellLemmas.{tell-added}
 use Rattle.dr_select.proofs.choosing.held.Goals as goal
 
 pub returns-in_ok-set-in-Some : goal.returns-in_ok-set-in-Some

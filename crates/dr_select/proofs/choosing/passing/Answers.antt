@@ -1,7 +1,7 @@
 use Rattle.std.proofs.Common.{refl, map, length}
 use Rattle.dr_predicate.specs.Match.{passes}
 use Rattle.dr_select.specs.Rows.{value_of}
-use Rattle.dr_select.proofs.TellLemmas.{tell-added}
+use Rattle.dr_rowindex.proofs.TellLemmas.{tell-added}
 use Rattle.dr_select.proofs.choosing.passing.Goals as goal
 
 pub returns-in_ok-insert_passing-in-Some : goal.returns-in_ok-insert_passing-in-Some

@@ -1,7 +1,8 @@
 use Rattle.std.proofs.Common.{subst}
 use Rattle.dr_filter.specs.Condition.{condition_in}
-use Rattle.dr_select.specs.Rows.{meets, Tell}
-use Rattle.dr_select.proofs.TellLemmas.{tell-list, tell-same}
+use Rattle.dr_rowindex.specs.Orders.{Tell}
+use Rattle.dr_select.specs.Rows.{meets}
+use Rattle.dr_rowindex.proofs.TellLemmas.{tell-list, tell-same}
 use Rattle.dr_select.proofs.choosing.select.Goals as goal
 
 pub returns : goal.returns

@@ -3,7 +3,7 @@ use Rattle.std.proofs.lemmas.Int.{to_z-of_z}
 use Rattle.std.proofs.lemmas.List.{map-append}
 use Rattle.dr_base.specs.declared.row.Row.{Row}
 use Rattle.dr_select.specs.Rows.{key_seen}
-use Rattle.dr_select.proofs.TellLemmas.{one-last}
+use Rattle.dr_select.proofs.KeyLemmas.{one-last}
 use Rattle.dr_select.proofs.rows.arrived_keys.Goals as goal
 
 pub loop-i-preserved : goal.loop-i-preserved

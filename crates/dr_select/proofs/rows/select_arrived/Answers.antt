@@ -1,7 +1,7 @@
 use Rattle.std.proofs.Common.{◌∙◌, ap, map, slice_range}
 use Rattle.dr_filter.specs.Condition.{condition_in}
 use Rattle.dr_select.specs.Rows.{meets}
-use Rattle.dr_select.proofs.TellLemmas.{through-keys}
+use Rattle.dr_select.proofs.KeyLemmas.{through-keys}
 use Rattle.dr_select.proofs.rows.select_arrived.Goals as goal
 
 pub returns : goal.returns

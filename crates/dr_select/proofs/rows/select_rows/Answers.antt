@@ -1,7 +1,7 @@
 use Rattle.std.proofs.Common.{◌∙◌, ap, map}
 use Rattle.dr_filter.specs.Condition.{condition_in}
 use Rattle.dr_select.specs.Rows.{meets}
-use Rattle.dr_select.proofs.TellLemmas.{through-keys}
+use Rattle.dr_select.proofs.KeyLemmas.{through-keys}
 use Rattle.dr_select.proofs.rows.select_rows.Goals as goal
 
 pub returns : goal.returns
