@@ -30,7 +30,7 @@ pub fn narrow(
     requires { length told.old ≡ length view.now.times }
     ensures { OnOk result (Narrows (meets view.now (condition_in filter.now)) told.old told.new) }
 {
-    if is_asked_at_once(filter, told.len()) {
+    if is_asked_at_once(filter) {
         return narrow_at_once(alloc, view, filter, told);
     }
     narrow_asked(alloc, view, filter.asked(), told)?;

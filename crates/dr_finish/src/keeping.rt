@@ -1,18 +1,18 @@
-ghost use Rattle.std.specs.Prelude.{◌≡◌, ◌++◌, ◌∷◌, [], IfOk, OnOk, filter, option_map};
+ghost use Rattle.std.specs.Prelude.{◌≡◌, ◌++◌, ◌∷◌, [], Bool, false, IfOk, OnOk, filter, get_or, map, option_map};
+ghost use Rattle.dr_base.specs.declared.row.Row.{Row as OneRow};
 ghost use Rattle.dr_having.specs.Condition.{condition_in};
 ghost use Rattle.dr_answers.specs.Given.{is_kept as is_kept_of};
-ghost use Rattle.dr_finish.specs.Meeting.{row_meets};
 ghost use Rattle.dr_finish.specs.RowOrder.{spread_row};
 
+use crate::meeting::met;
 use dr_ask::{Aggregations, GroupBy};
 use dr_base::Row;
-use dr_having::AskedHaving;
-use dr_outputs::{OutputNumbers, OutputTexts};
 use std::alloc::AllocError;
 
 /// The groups that a `having` keeps, as they come; all of them where there is none. No group is copied. The only error is
 /// that memory ran out. It takes time by the groups and what is asked of each, in which the conditions on outputs with one value count
-/// once, and memory by the groups that are kept and by the conditions.
+/// once, but where much is asked, as [`AskedHaving::select`](dr_having::AskedHaving::select); and memory by the groups and by the
+/// conditions.
 pub fn kept(
     by: &GroupBy,
     aggregations: &Aggregations,
@@ -22,50 +22,43 @@ pub fn kept(
 {
     match &by.having {
         Some(having) => {
-            let asked = having.asked_together(*groups.allocator(), aggregations.numbers())?;
-            kept_by(&asked, by, aggregations, groups)
+            let alloc = *groups.allocator();
+            let asked = having.asked_together(alloc, aggregations.numbers())?;
+            let met = met(alloc, &asked, by, aggregations, groups.as_slice())?;
+            kept_where(groups, met.as_slice())
         }
         None => Ok(groups),
     }
 }
 
-// The groups that meet what is asked.
-fn kept_by(
-    asked: &AskedHaving,
-    by: &GroupBy,
-    aggregations: &Aggregations,
-    groups: Vec<Row>,
-) -> Result<Vec<Row>, AllocError>
-    ensures { IfOk result (λ kept. kept.items ≡ filter (row_meets asked.now by.now.dimensions aggregations.now) groups.items) }
+// The groups of which true is told, each at its place.
+fn kept_where(groups: Vec<Row>, told: &[bool]) -> Result<Vec<Row>, AllocError>
+    ensures { (test : OneRow → Bool) → told.now ≡ map test groups.items → IfOk result (λ kept. kept.items ≡ filter test groups.items) }
 {
     let mut kept = Vec::new(*groups.allocator());
+    let mut i = 0usize;
     for group in groups {
-        put_kept(asked, by, aggregations, &mut kept, group)?;
+        put_where(is_told(told, i), &mut kept, group)?;
+        i = i.saturating_add(1);
     }
     Ok(kept)
 }
 
-// Puts a group behind others, where it meets what is asked.
-fn put_kept(
-    asked: &AskedHaving,
-    by: &GroupBy,
-    aggregations: &Aggregations,
-    kept: &mut Vec<Row>,
-    group: Row,
-) -> Result<(), AllocError>
-    ensures { OnOk result (kept.new.items ≡ kept.old.items ++ filter (row_meets asked.now by.now.dimensions aggregations.now) (group ∷ [])) }
+fn is_told(told: &[bool], i: usize) -> bool
+    ensures { result ≡ get_or told.now i false }
 {
-    if is_kept(asked, by, aggregations, &group) {
+    match told.get(i) {
+        Some(truth) => *truth,
+        None => false,
+    }
+}
+
+// Puts a group behind others, where it is wanted.
+fn put_where(wanted: bool, kept: &mut Vec<Row>, group: Row) -> Result<(), AllocError>
+    ensures { OnOk result (kept.new.items ≡ kept.old.items ++ filter (λ g. wanted) (group ∷ [])) }
+{
+    if wanted {
         kept.push(group)?;
     }
     Ok(())
-}
-
-// Whether a group meets what is asked.
-fn is_kept(asked: &AskedHaving, by: &GroupBy, aggregations: &Aggregations, group: &Row) -> bool
-    ensures { result ≡ row_meets asked.now by.now.dimensions aggregations.now group.now }
-{
-    let dims = OutputTexts::new(group.key.dims.as_slice(), by.dimensions.numbers());
-    let values = OutputNumbers::new(group.metrics.as_slice(), aggregations.numbers());
-    asked.meets(&dims, &values)
 }

@@ -9,6 +9,7 @@ mod grouping;
 mod keeping;
 mod limiting;
 mod listing;
+mod meeting;
 mod ordering;
 mod series;
 mod spreading;

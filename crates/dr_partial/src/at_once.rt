@@ -22,7 +22,7 @@ pub fn filter_of_many(query: &Query, rows: usize) -> Option<&Filter>
     ensures { IfSome result (λ f. option_map condition_in query.now.filter ≡ Some (condition_in f.now)) }
 {
     match &query.filter {
-        Some(filter) if is_asked_at_once(filter, rows) => Some(filter),
+        Some(filter) if is_asked_at_once(filter) => Some(filter),
         _ => None,
     }
 }

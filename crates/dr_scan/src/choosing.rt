@@ -42,7 +42,7 @@ fn selection_at_once(
     ensures { IfOk result (λ told. AreTold told (asked query.now) rows.now) }
 {
     match &query.filter {
-        Some(filter) if is_asked_at_once(filter, rows.len()) => {
+        Some(filter) if is_asked_at_once(filter) => {
             let told = told_at_once(alloc, query, filter, rows)?;
             Ok(Some(Selection::Told(told)))
         }

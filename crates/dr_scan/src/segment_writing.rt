@@ -60,7 +60,7 @@ fn left_out<'s>(query: &Query, window: Window, segment: &'s Segment<'_>) -> Opti
 
 fn asks_at_once(query: &Query, rows: usize) -> bool {
     match &query.filter {
-        Some(filter) => is_asked_at_once(filter, rows),
+        Some(filter) => is_asked_at_once(filter),
         None => false,
     }
 }
