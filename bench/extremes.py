@@ -223,6 +223,43 @@ def published_apart(n):
     yield series(intervals=spans)
 
 
+def of_two_sums(n):
+    """Groups of two sums, each of which differs, that meet each of many `or`s of a comparison of the one and one of the other."""
+    yield spec(metrics=("v", "w"))
+    for it in range(n):
+        yield event(BEGIN, f"{it:x}", v=it + 5000, w=n - it)
+    sums = SUM + [{"type": "longSum", "name": "w", "fieldName": "w"}]
+    both = lambda it: [{"type": "lessThan", "aggregation": "v", "value": it}, {"type": "greaterThan", "aggregation": "w", "value": -it}]
+    some = lambda it: [{"type": "equalTo", "aggregation": "v", "value": it}, {"type": "equalTo", "aggregation": "w", "value": it}]
+    limit = {"type": "default", "limit": 1}
+    yield groups(aggregations=sums, limitSpec=limit, having={"type": "and", "havingSpecs": [{"type": "or", "havingSpecs": both(it)} for it in range(5000)]})
+    yield groups(aggregations=sums, limitSpec=limit, having={"type": "or", "havingSpecs": [{"type": "and", "havingSpecs": some(it)} for it in range(5000)]})
+
+
+def asked_apart(n):
+    """Ranges of one row each under nests that the rows meet at last, by a timeseries and by a scan."""
+    yield spec(dims=("page", "lang"), maxRowsInMemory=1)
+    for it in range(n):
+        yield event(BEGIN + it % DAY, "a", lang=f"l{it}")
+    yield series(filter=every(RANGES_OF_TWO_DIMENSIONS))
+    yield series(filter=every(ORS_OF_TWO_DIMENSIONS))
+    scan = {"queryType": "scan", "dataSource": "w", "intervals": ALWAYS, "columns": ["page"], "resultFormat": "compactedList", "limit": 10, "offset": n - 10}
+    yield "query " + compact(scan | {"filter": every(RANGES_OF_TWO_DIMENSIONS)})
+
+
+def stretches(n):
+    """Rows that meet each of many `or`s of a stretch of time and a text of another dimension than theirs, but for those of the last."""
+    yield spec(dims=("page", "lang"))
+    clock = lambda second: f"2024-01-01T{second // 3600:02d}:{second // 60 % 60:02d}:{second % 60:02d}Z"
+    for it in range(n):
+        yield event(BEGIN + it * 800, "a", lang=f"l{it}")
+    either = lambda it: one_of({"type": "interval", "dimension": "__time", "intervals": [f"2024-01-01/{clock(80000 - it)}"]}, at("lang", f"l{it}"))
+    yield series(filter=every([either(it) for it in range(5000)]))
+    yield f"seal {instant(1)}"
+    yield f"publish {instant(1)} 0 1"
+    yield series(filter=every([either(it) for it in range(5000)]))
+
+
 def long_having(n):
     yield spec()
     for it in range(n):
@@ -498,6 +535,9 @@ INPUTS = {
     "groups under a having that is an or of 5,000 ors of two comparisons": (asked_of_texts(ORS_OF_A_HAVING), 100000),
     "groups under a having that is an or of 7,400 ands of a dimension value and a comparison": (asked_of_texts(HAVING_OF_PAIRS), 100000),
     "groups under a having that is an or of 4,900 ands of two dimension values and a comparison": (of_two, 100000),
+    "groups under nests of 5,000 comparisons of two sums": (of_two_sums, 100000),
+    "ranges of one row under nests of two dimensions": (asked_apart, 100000),
+    "rows under an and of 5,000 ors of an interval and a selector": (stretches, 100000),
     "groups under a having of 9,990 comparisons that don't hold": (asked_of_texts(LONG_HAVING_OF_DENIED), 100000),
     "groups under a having of 14,000 comparisons": (long_having, 100000),
     "groups under a having of 17,000 dimension values": (asked_of_texts(LONG_HAVING_OF_TEXTS), 100000),
