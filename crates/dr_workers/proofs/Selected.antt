@@ -1,6 +1,6 @@
 -- What a query selects of rows that were added to groups and of rows that wait.
-use Rattle.std.proofs.Common.{◌≡◌, ◌∙◌, sym, ap, subst, ℕ, ◌+◌, ◌<◌, true, Result, Ok, Err, IfOk, OnOk, List, [], ◌∷◌, ◌++◌, map, length, take, slice_get, Some, append_assoc}
-use Rattle.std.specs.List.{All, AllByRecursion}
+use Rattle.std.proofs.Common.{◌≡◌, ◌∙◌, sym, refl, ap, subst, ℕ, ◌+◌, ◌-◌, ◌<◌, true, false, cond, ◌&&◌, arith, Result, Ok, Err, IfOk, OnOk, List, [], ◌∷◌, ◌++◌, map, length, take, slice_get, Some, append_assoc}
+use Rattle.std.specs.List.{All, AllByRecursion, range_with_len}
 use Rattle.std.proofs.lemmas.List.{append-nil, take_more}
 use Rattle.std.proofs.lemmas.List.Elements.{filter-append}
 use Rattle.std.proofs.lemmas.Option.{get_or_from_slice_get}
@@ -8,12 +8,16 @@ use Rattle.dr_base.specs.declared.row.Row.{Row}
 use Rattle.dr_agg.specs.Rollup.{rollup}
 use Rattle.dr_intervals.specs.Printable.{StartsPrintable}
 use Rattle.dr_time.specs.Printed.{IsPrintable}
+use Rattle.dr_time.specs.Union.{union_holds}
+use Rattle.dr_image.specs.Table.{Table, row_at, rows_of}
+use Rattle.dr_columns.specs.Rows.{key_at}
+use Rattle.dr_partial.proofs.ByColumns.{all-between}
 use Rattle.dr_ask.specs.declared.query.Query.{Query}
 use Rattle.dr_ask.specs.Asked.{Asked}
 use Rattle.dr_ask.specs.Once.{asked_once}
-use Rattle.dr_answers.specs.Selection.{selects, selected}
+use Rattle.dr_answers.specs.Selection.{selects, passes, selected}
 use Rattle.dr_partial.specs.Partial.{kinds_in, alone, partial}
-use Rattle.dr_workers.specs.Gathered.{AreInstants, ArePut, AreGathered}
+use Rattle.dr_workers.specs.Gathered.{AreApart, AreInstants, ArePut, AreGathered}
 use Rattle.dr_workers.specs.Shared.{IsFoldOf}
 use Rattle.dr_workers.proofs.Rows.{in-first, in-second}
 
@@ -30,6 +34,25 @@ module _ (q : Asked) where
 module _ (q : Query) where
   pub put-none : (before : List Row) → ArePut q before [] before
   put-none before = record { same = ap (selected (asked_once q)) (sym (append-nil before)); instants = λ own none. own }
+
+  -- of rows that no interval holds none is selected
+  none-selected : (rows : List Row) → AreApart q rows → selected (asked_once q) rows ≡ []
+  none-selected [] apart = refl
+  none-selected (r ∷ rows) apart =
+      ap (λ b. cond (b && passes (asked_once q).filter r.key) (r ∷ selected (asked_once q) rows) (selected (asked_once q) rows)) apart.0 ∙ none-selected rows apart.1
+
+  pub put-nowhere : (before rows : List Row) → AreApart q rows → ArePut q before rows before
+  put-nowhere before rows apart = record {
+    same = sym (in-parts (asked_once q) before rows ∙ ap (λ l. selected (asked_once q) before ++ l) (none-selected rows apart) ∙ append-nil (selected (asked_once q) before));
+    instants = λ own more. own;
+  }
+
+  -- the rows of an image
+  pub apart-there : (t : Table) (rows : List Row) → rows_of t ≡ rows → ((i : ℕ) → i < length t.times → union_holds q.intervals (key_at t i).time ≡ false) → AreApart q rows
+  apart-there t rows is out =
+      let all : length t.times - 0 ≡ length t.times = omega arith in
+      subst (AreApart q) (ap (λ n. map (row_at t) (range_with_len 0 n)) all ∙ is)
+      (all-between (λ (r : Row). union_holds q.intervals r.key.time ≡ false) t 0 (length t.times) (omega arith) (λ i le lt. out i lt))
 
   pub put-more : (before x between y after : List Row) → ArePut q before x between → ArePut q between y after → ArePut q before (x ++ y) after
   put-more before x between y after first second = record {

@@ -1,13 +1,15 @@
-ghost use Rattle.std.specs.Prelude.{◌∷◌, [], OnOk};
-ghost use Rattle.dr_workers.specs.Gathered.{ArePut};
+ghost use Rattle.std.specs.Prelude.{◌≡◌, ◌∷◌, [], true, OnOk};
+ghost use Rattle.dr_workers.specs.Gathered.{AreApart, ArePut};
 
 use dr_ask::Query;
 use dr_base::Row;
+use dr_columns::is_apart;
 use dr_fragment::{LyingRows, RowRef, SharedFragment};
 use std::alloc::{AllocError, Global};
 
 /// Puts copies of the rows of a range behind others, but for those whose time no interval of the query holds. The only error is that
-/// memory ran out. It takes time and memory by the rows and the bytes of their dimension values; of an index, n log n in its rows.
+/// memory ran out. It takes time by the rows, and time and memory by those that are copied and the bytes of their dimension values; of
+/// an index, n log n in its rows; and of an image that lies outside the intervals it takes time logarithmic in their number.
 pub(crate) fn put_rows(
     alloc: Global,
     waiting: &mut Vec<Row>,
@@ -17,7 +19,20 @@ pub(crate) fn put_rows(
     ensures { OnOk result (ArePut query.now waiting.old.items fragment.now.rows waiting.new.items) }
 {
     let rows = fragment.ordered()?;
+    if lie_apart(query, &rows) {
+        return Ok(());
+    }
     put_each(alloc, waiting, query, &rows)
+}
+
+// Whether no interval holds the time of any of these rows, where the least and the greatest time of an image tell it.
+fn lie_apart(query: &Query, rows: &LyingRows<'_>) -> bool
+    ensures { result ≡ true → AreApart query.now rows.now }
+{
+    match rows.view() {
+        Some(view) => is_apart(view, &query.intervals),
+        None => false,
+    }
 }
 
 fn put_each(
