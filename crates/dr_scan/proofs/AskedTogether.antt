@@ -1,5 +1,5 @@
 -- Rows of several segments of which a filter is asked together.
-use Rattle.std.proofs.Common.{◌≡◌, ◌∙◌, sym, refl, ap, subst, ℕ, zero, suc, ◌+◌, ◌<◌, Bool, false, List, [], ◌∷◌, ◌++◌, map, drop, take, length, get_or, slice_get, Option, Some, arith}
+use Rattle.std.proofs.Common.{◌≡◌, ◌∙◌, sym, refl, ap, subst, ℕ, zero, suc, ◌+◌, ◌<◌, Bool, false, cond, ◌&&◌, List, [], ◌∷◌, ◌++◌, map, drop, take, length, get_or, slice_get, Option, Some, arith}
 use Rattle.std.specs.List.{flat_map}
 use Rattle.std.proofs.lemmas.List.{append-nil, drop_more, take_more, get_or_default}
 use Rattle.std.proofs.lemmas.List.Concat.{flat_map-append, flat_map-cons}
@@ -10,11 +10,14 @@ use Rattle.dr_time.specs.Union.{union_holds}
 use Rattle.dr_answers.specs.Selection.{passes, selects}
 use Rattle.dr_ask.specs.Asked.{Asked}
 use Rattle.dr_filter.specs.Condition.{Condition, matches}
+use Rattle.dr_image.specs.Table.{Table, rows_of}
+use Rattle.dr_columns.specs.Rows.{key_at}
 use Rattle.dr_columns.specs.declared.selection.Selection.{Selection}
 use Rattle.dr_scan.specs.Chosen.{AreTold, AreEachTold}
 use Rattle.dr_scan.specs.Rows.{row_in, no_row}
-use Rattle.dr_scan.specs.Together.{held, AreLeft}
+use Rattle.dr_scan.specs.Together.{held, AreApart, AreLeft}
 use Rattle.dr_scan.proofs.AtOnce.{told-at}
+use Rattle.dr_scan.proofs.ImageRows.{counted, row-there}
 
 -- ---- the rows that the intervals hold
 
@@ -31,6 +34,32 @@ module _ (q : Asked) where
       regroups : (a b c : List Row) → (a ++ b) ++ c ≡ a ++ (b ++ c)
       regroups [] b c = refl
       regroups (x ∷ a) b c = ap (λ l. x ∷ l) (regroups a b c)
+
+  -- of rows that lie apart none is held
+  nothing-held : (rows : List Row) → AreApart q rows → held q rows ≡ []
+  nothing-held [] apart = refl
+  nothing-held (r ∷ rows) apart = ap (λ b. cond b (r ∷ held q rows) (held q rows)) apart.0 ∙ nothing-held rows apart.1
+
+  pub none-held : (rows lot : List Row) → AreApart q rows → lot ≡ lot ++ held q rows
+  none-held rows lot apart = sym (ap (λ l. lot ++ l) (nothing-held rows apart) ∙ append-nil lot)
+
+  pub apart-left : (passed : List Bool) (next : ℕ) (rows rest : List Row) → AreApart q rows → AreLeft q passed next (rows ++ rest) → AreLeft q passed next rest
+  apart-left passed next rows rest apart left = left ∙ ap (map (λ (r : Row). passes q.filter r.key)) (held-append rows rest ∙ ap (λ l. l ++ held q rest) (nothing-held rows apart))
+
+  pub apart-told : (rows : List Row) (i : ℕ) → AreApart q rows → i < length rows → false ≡ selects q (row_in rows i).key
+  apart-told [] i apart lt = absurd (omega (arith, lt))
+  apart-told (r ∷ rows) zero apart lt = ap (λ b. b && passes q.filter r.key) (sym apart.0)
+  apart-told (r ∷ rows) (suc i) apart lt = apart-told rows i apart.1 (omega (arith, lt))
+
+  every : (rows : List Row) → ((i : ℕ) → i < length rows → union_holds q.intervals (row_in rows i).key.time ≡ false) → AreApart q rows
+  every [] each = tt
+  every (r ∷ rows) each = (each 0 (omega arith), every rows (λ i lt. each (suc i) (omega (arith, lt))))
+
+  -- the rows of an image
+  pub apart-there : (t : Table) (rows : List Row) → rows_of t ≡ rows → ((i : ℕ) → i < length t.times → union_holds q.intervals (key_at t i).time ≡ false) → AreApart q rows
+  apart-there t rows is out = every rows (λ i lt.
+      let within : i < length t.times = subst (λ n. i < n) (counted t rows is) lt in
+      ap (λ (r : Row). union_holds q.intervals r.key.time) (row-there t rows is i within) ∙ out i within)
 
   pub held-behind : (segments : List (List Row)) (i : ℕ) (rows lot new : List Row) → i < length segments → rows ≡ get_or segments i rows
       → new ≡ lot ++ held q rows → lot ≡ flat_map (held q) (take i segments) → new ≡ flat_map (held q) (take (i + 1) segments)

@@ -4,10 +4,10 @@ ghost use Rattle.dr_answers.specs.Selection.{selects};
 ghost use Rattle.dr_ask.specs.Asked.{asked};
 ghost use Rattle.dr_base.specs.declared.row.Row.{Row};
 ghost use Rattle.dr_filter.specs.Condition.{condition_in};
-ghost use Rattle.dr_scan.specs.Chosen.{AreEachTold};
+ghost use Rattle.dr_scan.specs.Chosen.{AreEachTold, AreTold};
 ghost use Rattle.dr_scan.specs.Together.{AreLeft};
 
-use crate::holding::held_rows;
+use crate::holding::{held_rows, lie_apart};
 use dr_ask::Query;
 use dr_columns::Selection;
 use dr_filter::Filter;
@@ -46,13 +46,30 @@ fn tell_each(
     let mut told = Vec::with_capacity(alloc, segments.len())?;
     let mut next = 0;
     for rows in segments {
-        let truths = tell_rows(alloc, query, rows, passed, &mut next)?;
-        told.push(Some(Selection::Told(truths)))?;
+        let selection = tell_segment(alloc, query, rows, passed, &mut next)?;
+        told.push(Some(selection))?;
     }
     Ok(told)
 }
 
-// Of each row of a segment, whether the query selects it. The next row that the intervals hold is the one at a place among all of these.
+// Which rows of a segment the query selects. The next row that the intervals hold is the one at a place among all of these.
+fn tell_segment(
+    alloc: Global,
+    query: &Query,
+    rows: &LyingRows<'_>,
+    passed: &RowSet,
+    next: &mut usize,
+) -> Result<Selection, AllocError>
+    ensures { IfOk result (λ s. (rest : List Row) → AreLeft (asked query.now) passed.now next.old (rows.now ++ rest) → AreTold (Some s) (asked query.now) rows.now × AreLeft (asked query.now) passed.now next.new rest) }
+{
+    if lie_apart(query, rows) {
+        return Ok(Selection::Told(Vec::new(alloc)));
+    }
+    let told = tell_rows(alloc, query, rows, passed, next)?;
+    Ok(Selection::Told(told))
+}
+
+// Of each row, whether the query selects it.
 fn tell_rows(
     alloc: Global,
     query: &Query,
