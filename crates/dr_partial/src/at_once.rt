@@ -1,4 +1,4 @@
-ghost use Rattle.std.specs.Prelude.{◌≡◌, ◌∷◌, [], ◌<◌, ◌≤◌, Some, length, map, option_map, slice_range, IfSome, OnOk};
+ghost use Rattle.std.specs.Prelude.{◌≡◌, ◌∷◌, [], ◌<◌, ◌≤◌, Some, length, map, option_map, slice_range, OnOk};
 ghost use Rattle.std.specs.List.{AllByRecursion};
 ghost use Rattle.dr_answers.specs.Selection.{passes as passes_of, selects};
 ghost use Rattle.dr_ask.specs.Once.{asked_once};
@@ -13,19 +13,9 @@ use dr_ask::Query;
 use dr_base::{Key, Numbers, Row, Text};
 use dr_filter::Filter;
 use dr_rollup::{Arrived, KeyOf};
-use dr_select::{is_asked_at_once, lot_end, select_arrived, select_rows};
+use dr_select::{lot_end, select_arrived, select_rows};
 use indexmap::IndexMap;
 use std::alloc::AllocError;
-
-/// The filter of a query, where it has so many tests that it is asked soonest of so many rows at once.
-pub fn filter_of_many(query: &Query, rows: usize) -> Option<&Filter>
-    ensures { IfSome result (λ f. option_map condition_in query.now.filter ≡ Some (condition_in f.now)) }
-{
-    match &query.filter {
-        Some(filter) if is_asked_at_once(filter) => Some(filter),
-        _ => None,
-    }
-}
 
 /// Adds the rows of an index, of which a filter is asked many at once. `group` is memory to use again.
 pub fn add_arrived_at_once(

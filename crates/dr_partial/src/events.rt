@@ -10,7 +10,7 @@ ghost use Rattle.dr_ask.specs.Once.{asked_once};
 ghost use Rattle.dr_partial.specs.Grouped.{IsSound, AddsAll};
 ghost use Rattle.dr_partial.specs.Partial.{kinds_in};
 
-use crate::at_once::{filter_of_many, is_told};
+use crate::at_once::is_told;
 use crate::rows::add_selected;
 use crate::selecting::is_selected;
 use dr_ask::Query;
@@ -20,7 +20,7 @@ use dr_fragment::SharedEvent;
 use dr_rollup::{KeyOf, push_contributions};
 use dr_rowindex::RowSet;
 use dr_schema::{Metric, Schema};
-use dr_select::{lot_end, select};
+use dr_select::{filter_of_many, lot_end, select};
 use indexmap::IndexMap;
 use std::alloc::{AllocError, Global};
 
@@ -56,7 +56,7 @@ fn add_events(
     requires sound { IsSound (kinds_in (asked_once query.now).aggregations) (map row_of groups.old.entries) }
     ensures { OnOk result (AddsAll (asked_once query.now) (map row_of groups.old.entries) (map (unrolled schema.now) events.now) (map row_of groups.new.entries)) }
 {
-    match filter_of_many(query, events.len()) {
+    match filter_of_many(&query.filter) {
         Some(filter) => add_at_once(groups, group, metrics, query, filter, schema, events),
         None => add_each(groups, group, metrics, query, schema, events),
     }

@@ -7,11 +7,12 @@ ghost use Rattle.dr_partial.specs.Grouped.{IsSound, AddsAll};
 ghost use Rattle.dr_partial.specs.Partial.{kinds_in};
 
 use crate::arrived_runs::{add_run, run_end};
-use crate::at_once::{add_arrived_at_once, filter_of_many};
+use crate::at_once::add_arrived_at_once;
 use crate::window::Window;
 use dr_ask::Query;
 use dr_base::{Key, Numbers, Text};
 use dr_rollup::{Arrived, OpenIndex};
+use dr_select::filter_of_many;
 use indexmap::IndexMap;
 use std::alloc::AllocError;
 
@@ -40,7 +41,7 @@ fn add_arrived(
     requires sound { IsSound (kinds_in (asked_once query.now).aggregations) (map row_of groups.old.entries) }
     ensures { OnOk result (AddsAll (asked_once query.now) (map row_of groups.old.entries) rows.now (map row_of groups.new.entries)) }
 {
-    match filter_of_many(query, rows.len()) {
+    match filter_of_many(&query.filter) {
         Some(filter) => add_arrived_at_once(groups, group, query, filter, rows),
         None => add_runs(groups, group, query, rows),
     }

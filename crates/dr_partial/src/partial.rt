@@ -16,7 +16,7 @@ ghost use Rattle.dr_partial.specs.Partial.{partial, values_at, kinds_in, IsParti
 use crate::events::add_event_pieces;
 use crate::fragments::add_range;
 use crate::merging::add_groups;
-use crate::rows::add_pieces;
+use crate::rows::{add_pieces, add_rows};
 use dr_agg::sort_rows;
 use dr_ask::Query;
 use dr_base::{Key, Numbers, Row};
@@ -109,7 +109,8 @@ impl Partial {
     /// rows, and expected time by the groups and the bytes of their values; and memory by the groups, by a byte a row for each
     /// level of the filter, and by at most 65521 places of groups. Without dimensions and filter it takes no memory but that of
     /// the groups. A filter of many tests ([`is_asked_at_once`](dr_select::is_asked_at_once)) is asked of many rows at once, in whatever
-    /// form they lie, which takes what [`select_rows`](dr_select::select_rows) takes of so many.
+    /// form they lie, which takes what [`select_rows`](dr_select::select_rows) takes of so many; of the rows of several small ranges it
+    /// is asked soonest together, by [`add_rows`](Partial::add_rows).
     pub fn add_fragment(
         self,
         query: &Query,
@@ -124,6 +125,23 @@ impl Partial {
         let mut groups = self.groups;
         add_range(&mut groups, query, fragment)?;
         Ok(Partial { groups })
+    }
+
+    /// The groups of this partial result and of some rows more, whose times lie from 0001-01-01 to 9999-12-31: each row that the query
+    /// selects is added to the group that there is, or to a new one. The only error is that memory ran out. It takes what `of_rows`
+    /// takes for these rows, of which none is copied; no group that was there is touched unless a row is of it. A filter of many
+    /// tests is asked of up to 16,384 of them at once, which takes what [`select_rows`](dr_select::select_rows) takes of so many.
+    pub fn add_rows(self, query: &Query, rows: &[Row]) -> Result<Partial, AllocError>
+        requires own { IsPartial (asked_once query.now) self }
+        requires instants { AllByRecursion (λ r. IsInstant r.key.time) rows.now }
+        ensures value { IfOk result (λ p. (a : List Row) → self ≡ partial (asked_once query.now) a → p ≡ partial (asked_once query.now) (a ++ rows.now)) }
+        ensures printable { All StartsPrintable query.now.intervals → AllByRecursion (λ g. IsPrintable g.key.time) self → IfOk result (λ p. AllByRecursion (λ g. IsPrintable g.key.time) p) }
+    {
+        let _ = self.groups.len();
+        let mut added = self.groups;
+        let mut group = Vec::new(*added.allocator());
+        add_rows(&mut added, &mut group, query, rows)?;
+        Ok(Partial { groups: added })
     }
 
     /// The groups of this partial result and another one of the same query, those of one key combined: where they are of some

@@ -9,12 +9,13 @@ ghost use Rattle.dr_partial.specs.Grouped.{folds_alone, IsSound, Adds, AddsAll};
 ghost use Rattle.dr_partial.specs.Partial.{kinds_in};
 ghost use Rattle.dr_partial.specs.Runs.{LiesIn};
 
-use crate::at_once::{add_rows_at_once, filter_of_many};
+use crate::at_once::add_rows_at_once;
 use crate::grouping::{add, combine, is_group_at};
 use crate::selecting::{bucket_start, dimensions, is_selected, passes, read_group};
 use dr_ask::Query;
 use dr_base::{Key, Numbers, Row, Text};
 use dr_rollup::KeyOf;
+use dr_select::filter_of_many;
 use indexmap::IndexMap;
 use std::alloc::AllocError;
 
@@ -46,7 +47,7 @@ pub fn add_rows(
     requires sound { IsSound (kinds_in (asked_once query.now).aggregations) (map row_of groups.old.entries) }
     ensures { OnOk result (AddsAll (asked_once query.now) (map row_of groups.old.entries) rows.now (map row_of groups.new.entries)) }
 {
-    match filter_of_many(query, rows.len()) {
+    match filter_of_many(&query.filter) {
         Some(filter) => add_rows_at_once(groups, group, query, filter, rows),
         None => add_each(groups, group, query, rows),
     }

@@ -12,10 +12,10 @@ use Rattle.dr_columns.specs.Told.{tells}
 use Rattle.dr_scan.specs.Rows.{row_in, no_row}
 
 module _ (t : Table) (rows : List Row) (is : rows_of t ≡ rows) where
-  counted : length rows ≡ length t.times
+  pub counted : length rows ≡ length t.times
   counted = ap length (sym is) ∙ length-map-range_with_len (row_at t) 0 (length t.times)
 
-  row-there : (i : ℕ) → i < length t.times → row_in rows i ≡ row_at t i
+  pub row-there : (i : ℕ) → i < length t.times → row_in rows i ≡ row_at t i
   row-there i lt =
       unwrap_or-slice_get rows i no_row ∙ ap (λ (rs : List Row). get_or rs i no_row) (sym is)
       ∙ get_or-map-range_with_len (row_at t) 0 (length t.times) i i no_row lt (omega arith)

@@ -8,3 +8,5 @@ mod PlaceLemmas
 mod ImageRows
 mod LeftOut
 pub mod AtOnce
+mod AskedTogether
+mod InTurn

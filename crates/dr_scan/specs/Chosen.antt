@@ -1,5 +1,5 @@
 -- Of which rows it is told that a query selects them. No public contract cites this file.
-use Rattle.std.specs.Prelude.{◌≡◌, ◌<◌, ℕ, List, length, Option, Some, None}
+use Rattle.std.specs.Prelude.{◌≡◌, ◌<◌, ℕ, List, [], ◌∷◌, length, Option, Some, None}
 use Rattle.dr_base.specs.declared.row.Row.{Row}
 use Rattle.dr_answers.specs.Selection.{selects}
 use Rattle.dr_ask.specs.Asked.{Asked}
@@ -15,3 +15,10 @@ IsTold (Some selection) q rows i = tells selection i ≡ selects q (row_in rows 
 -- of each row
 abbrev pub AreTold : Option Selection → Asked → List Row → Type 0
 AreTold told q rows = (i : ℕ) → i < length rows → IsTold told q rows i
+
+-- and of those of each of some segments
+abbrev pub AreEachTold : Asked → List (Option Selection) → List (List Row) → Type 0
+AreEachTold q [] [] = Unit {0}
+AreEachTold q [] (g ∷ gs) = ⊥
+AreEachTold q (t ∷ ts) [] = ⊥
+AreEachTold q (t ∷ ts) (g ∷ gs) = AreTold t q g × AreEachTold q ts gs

@@ -2,8 +2,10 @@ pub mod Identified
 pub mod Identifier
 pub mod Rows
 pub mod Chosen
+pub mod Together
 pub mod Entries
 pub mod ScanText
 pub mod Window
 pub mod Written
+pub mod Turns
 pub mod Places

@@ -13,7 +13,7 @@ use dr_base::Text;
 use dr_columns::{Selection, is_apart, rows_selected};
 use dr_fragment::LyingRows;
 use dr_image::SegmentView;
-use dr_select::is_asked_at_once;
+use dr_select::filter_of_many;
 use std::alloc::{AllocError, Global};
 
 /// Which of these rows a query selects, where they lie in an image, which tells it column by column, or where the filter has many
@@ -41,12 +41,12 @@ fn selection_at_once(
 ) -> Result<Option<Selection>, AllocError>
     ensures { IfOk result (λ told. AreTold told (asked query.now) rows.now) }
 {
-    match &query.filter {
-        Some(filter) if is_asked_at_once(filter) => {
+    match filter_of_many(&query.filter) {
+        Some(filter) => {
             let told = told_at_once(alloc, query, filter, rows)?;
             Ok(Some(Selection::Told(told)))
         }
-        _ => Ok(None),
+        None => Ok(None),
     }
 }
 

@@ -36,7 +36,7 @@ pub(crate) fn write_ordered(
 }
 
 /// The rows of each segment.
-fn rows_of_each<'a>(
+pub(crate) fn rows_of_each<'a>(
     alloc: Global,
     segments: &'a [Segment<'_>],
 ) -> Result<Vec<LyingRows<'a>>, AllocError>

@@ -3,13 +3,17 @@ ghost use Rattle.std.specs.Ordering.{int_cmp};
 ghost use Rattle.dr_answers.specs.Given.{limited as limited_of};
 ghost use Rattle.dr_answers.specs.InOrder.{in_order_by};
 ghost use Rattle.dr_ask.specs.Asked.{asked};
+ghost use Rattle.dr_scan.specs.Chosen.{AreTold};
 ghost use Rattle.dr_scan.specs.Places.{places_cmp, places_in, places_over};
 
 use crate::choosing::{selection, selects};
+use crate::lot_placing::places_in_lots;
 use crate::row_place::RowPlace;
 use dr_ask::{Query, TimeOrder};
 use dr_base::Text;
+use dr_columns::Selection;
 use dr_fragment::LyingRows;
+use dr_select::filter_of_many;
 use std::alloc::{AllocError, Global};
 use std::cmp::Ordering;
 
@@ -21,16 +25,30 @@ pub(crate) fn selected_places(
 ) -> Result<Vec<RowPlace>, AllocError>
     ensures { IfOk result (λ ps. ps.items ≡ places_over (asked query.now) 0 segments.now) }
 {
+    match filter_of_many(&query.filter) {
+        Some(filter) => places_in_lots(alloc, query, filter, segments),
+        None => places_in_turn(alloc, query, segments),
+    }
+}
+
+// Each segment is asked by itself.
+fn places_in_turn(
+    alloc: Global,
+    query: &Query,
+    segments: &[LyingRows<'_>],
+) -> Result<Vec<RowPlace>, AllocError>
+    ensures { IfOk result (λ ps. ps.items ≡ places_over (asked query.now) 0 segments.now) }
+{
     let mut places = Vec::new(alloc);
     let mut dims = Vec::new(alloc);
     for (i, rows) in segments.iter().enumerate() {
-        add_places(&mut places, &mut dims, query, rows, i)?;
+        add_asked(&mut places, &mut dims, query, rows, i)?;
     }
     Ok(places)
 }
 
-/// Adds those of a segment. `dims` is memory to use again.
-fn add_places(
+/// Adds those of a segment that is asked by itself. `dims` is memory to use again.
+pub(crate) fn add_asked(
     places: &mut Vec<RowPlace>,
     dims: &mut Vec<Text>,
     query: &Query,
@@ -40,8 +58,23 @@ fn add_places(
     ensures { OnOk result (places.new.items ≡ places.old.items ++ places_in (asked query.now) segment 0 rows.now) }
 {
     let told = selection(*dims.allocator(), query, rows)?;
+    add_places(places, dims, query, rows, &told, segment)
+}
+
+/// Adds those of a segment, of which it may be told which of its rows are selected. `dims` is memory to use again.
+pub(crate) fn add_places(
+    places: &mut Vec<RowPlace>,
+    dims: &mut Vec<Text>,
+    query: &Query,
+    rows: &LyingRows<'_>,
+    told: &Option<Selection>,
+    segment: usize,
+) -> Result<(), AllocError>
+    requires { AreTold told.now (asked query.now) rows.now }
+    ensures { OnOk result (places.new.items ≡ places.old.items ++ places_in (asked query.now) segment 0 rows.now) }
+{
     for row in 0..rows.len() {
-        if !selects(query, &told, rows, row, dims)? {
+        if !selects(query, told, rows, row, dims)? {
             continue;
         }
         let time = rows.row(row).time();

@@ -9,11 +9,13 @@ ghost use Rattle.dr_scan.specs.Written.{segments_tokens};
 ghost use Rattle.dr_writer.specs.Written.{Adds, data_tokens};
 
 use crate::columns_written::columns_written;
+use crate::lot_writing::write_in_lots;
 use crate::ordered_writing::write_ordered;
 use crate::segment::Segment;
 use crate::segment_writing::write_segment;
 use crate::window::Window;
 use dr_ask::{Query, Scan, ScanColumn, Shape};
+use dr_select::filter_of_many;
 use json::Writer;
 use std::alloc::{AllocError, Global};
 
@@ -29,12 +31,15 @@ use std::alloc::{AllocError, Global};
 /// sorted, but not where the offset that is left is as large as their number: then those that are selected are counted as they lie.
 /// An order takes n log n in the rows that are selected. Of an image a filter takes time by its tests, each by the rows and by the
 /// dictionary's values; rows that were made are asked one by one; and a filter of many tests is asked of many rows at once, as by
-/// [`select_rows`](dr_select::select_rows). Rows that aren't written aren't read but for their time and, where they were made and there
-/// is a filter, their dimension values.
+/// [`select_rows`](dr_select::select_rows): of those of segments of fewer than 1024 rows that stand next to each other together, up to
+/// 16,384 of them. Rows that aren't written aren't read but for their time and, where they were made and there is a filter, their
+/// dimension values. Behind the limit no segment is read, but for those that were asked together with the last one that is written.
 ///
 /// The text grows in one buffer. Beside it stand, of one segment at a time, of an index where each row lies, and of an image which
 /// rows are selected: a byte for each row and each level of the filter, and nothing where all its times lie in the intervals and
-/// there is no filter. With an order there are the places of all rows that are selected, and where the rows of each index lie.
+/// there is no filter. Of segments that are asked together there are copies of the rows whose times lie in the intervals while they are
+/// asked, and until these segments are written a byte for each row, and of an index where each row lies. With an order there are the
+/// places of all rows that are selected, and where the rows of each index lie.
 pub fn scan(alloc: Global, query: &Query, segments: &[Segment<'_>]) -> Result<Vec<u8>, AllocError>
     ensures { IfOk result (λ text. text.items ≡ scanned (asked query.now) segments.now) }
 {
@@ -90,6 +95,23 @@ fn write_scan(
 
 /// Writes the entries of segments, one segment after another, without an order.
 fn write_segments(
+    alloc: Global,
+    out: &mut Writer,
+    query: &Query,
+    scan: &Scan,
+    columns: &[ScanColumn],
+    segments: &[Segment<'_>],
+) -> Result<(), AllocError>
+    ensures { Adds result out.old out.new (segments_tokens (asked query.now) scan.now columns.now (record { skip = scan.now.offset; left = scan.now.limit }) segments.now) }
+{
+    match filter_of_many(&query.filter) {
+        Some(filter) => write_in_lots(alloc, out, query, filter, scan, columns, segments),
+        None => write_in_turn(alloc, out, query, scan, columns, segments),
+    }
+}
+
+// Each segment is asked by itself.
+fn write_in_turn(
     alloc: Global,
     out: &mut Writer,
     query: &Query,

@@ -2,6 +2,7 @@ ghost use Rattle.std.specs.Prelude.{◌≡◌, ◌<◌, ◌≤◌, Some, length,
 ghost use Rattle.std.specs.List.Sorted.{IsPermutation};
 ghost use Rattle.dr_answers.specs.Selection.{selected};
 ghost use Rattle.dr_ask.specs.Asked.{asked};
+ghost use Rattle.dr_scan.specs.Chosen.{AreTold};
 ghost use Rattle.dr_scan.specs.Window.{after, given};
 ghost use Rattle.dr_scan.specs.Written.{at_end, before_row, count_with, entry_back, entry_front, segment_tokens};
 ghost use Rattle.dr_writer.specs.Written.{Adds};
@@ -15,9 +16,10 @@ use crate::segment::Segment;
 use crate::window::Window;
 use dr_ask::{Query, Scan, ScanColumn};
 use dr_base::Text;
+use dr_columns::Selection;
 use dr_fragment::LyingRows;
 use dr_rollup::Arrived;
-use dr_select::is_asked_at_once;
+use dr_select::filter_of_many;
 use json::Writer;
 use std::alloc::{AllocError, Global};
 
@@ -40,7 +42,10 @@ pub(crate) fn write_segment(
         None => {
             let rows = segment.rows()?;
             let identifier = segment.identifier();
-            write_given(alloc, out, window, query, scan, columns, identifier, &rows)
+            let told = selection(alloc, query, &rows)?;
+            write_given(
+                alloc, out, window, query, scan, columns, identifier, &rows, &told,
+            )
         }
     }
 }
@@ -52,21 +57,14 @@ fn left_out<'s>(query: &Query, window: Window, segment: &'s Segment<'_>) -> Opti
     ensures none { IfSome result (λ rows. length rows ≤ window.skip) }
 {
     let rows = segment.arrived()?;
-    if asks_at_once(query, rows.len()) || rows.len() as u64 > window.skip {
+    if filter_of_many(&query.filter).is_some() || rows.len() as u64 > window.skip {
         return None;
     }
     Some(rows)
 }
 
-fn asks_at_once(query: &Query, rows: usize) -> bool {
-    match &query.filter {
-        Some(filter) => is_asked_at_once(filter),
-        None => false,
-    }
-}
-
-/// Writes the entries of a segment with this identifier and these rows.
-fn write_given(
+/// Writes the entries of a segment with this identifier and these rows, of which it may be told which are selected.
+pub(crate) fn write_given(
     alloc: Global,
     out: &mut Writer,
     window: &mut Window,
@@ -75,15 +73,16 @@ fn write_given(
     columns: &[ScanColumn],
     identifier: &Text,
     rows: &LyingRows<'_>,
+    told: &Option<Selection>,
 ) -> Result<(), AllocError>
+    requires { AreTold told.now (asked query.now) rows.now }
     ensures tokens { Adds result out.old out.new (segment_tokens scan.now columns.now identifier.now 0 (given window.old (selected (asked query.now) rows.now))) }
     ensures window { OnOk result (window.new ≡ after window.old (length (selected (asked query.now) rows.now))) }
 {
-    let told = selection(alloc, query, rows)?;
     let mut dims = Vec::new(alloc);
     let mut count = 0;
     for i in 0..rows.len() {
-        if !selects(query, &told, rows, i, &mut dims)? {
+        if !selects(query, told, rows, i, &mut dims)? {
             continue;
         }
         if !window.takes() {

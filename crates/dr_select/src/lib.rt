@@ -11,5 +11,5 @@ mod placed_order;
 mod rows;
 
 pub use choosing::select;
-pub use lots::{is_asked_at_once, lot_end};
+pub use lots::{ROWS_ALONE, ROWS_AT_ONCE, filter_of_many, is_asked_at_once, lot_end};
 pub use rows::{select_arrived, select_rows};

@@ -1,16 +1,32 @@
-ghost use Rattle.std.specs.Prelude.{◌<◌, ◌≤◌};
+ghost use Rattle.std.specs.Prelude.{◌≡◌, ◌<◌, ◌≤◌, Some, IfSome, option_map};
+ghost use Rattle.dr_filter.specs.Condition.{condition_in};
 
 use dr_filter::Filter;
+
+/// Of how many rows at most a filter is asked at once, of which each stands in the order of each dimension meanwhile.
+pub const ROWS_AT_ONCE: usize = 16384;
+
+/// From how many rows on those of one range are asked by themselves. A test costs two searches among the rows that are asked at once,
+/// however many these are: among so many that is a fiftieth of a comparison for each, and copies of more rows would cost more than they
+/// spare.
+pub const ROWS_ALONE: usize = 1024;
 
 // How many tests a filter has at least that is asked of many rows at once.
 const MANY_TESTS: usize = 32;
 
-// Of how many rows at most, of which each stands in the order of each dimension meanwhile.
-const ROWS_AT_ONCE: usize = 16384;
-
 /// Whether a filter is asked soonest of many rows at once, since it has many tests. It takes constant time.
 pub fn is_asked_at_once(filter: &Filter) -> bool {
     filter.test_count() >= MANY_TESTS
+}
+
+/// The filter, where there is one that is asked soonest of many rows at once. It takes constant time.
+pub fn filter_of_many(filter: &Option<Filter>) -> Option<&Filter>
+    ensures { IfSome result (λ f. option_map condition_in filter.now ≡ Some (condition_in f.now)) }
+{
+    match filter {
+        Some(filter) if is_asked_at_once(filter) => Some(filter),
+        _ => None,
+    }
 }
 
 /// Behind which place those of so many rows end that are asked together with the one at a place, so that the memory for them is bounded.

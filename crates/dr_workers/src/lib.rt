@@ -3,8 +3,10 @@
 #![tactic(auto)]
 
 mod gate;
+mod gathering;
 mod one;
 mod open_gate;
+mod waiting;
 mod working;
 
 pub use gate::Gate;

@@ -17,7 +17,8 @@ use std::alloc::{AllocError, Global};
 
 /// The groups of a timeseries or groupBy over the rows of all ranges, whose times lie from 0001-01-01 to 9999-12-31, by this
 /// thread alone: the rows of each range in turn are added to the groups of those before it. The only error is that memory ran out. It
-/// takes the expected time that [`Partial::add_fragment`] takes for each range, and memory by the groups.
+/// takes the expected time that [`Partial::add_fragment`] takes for each range, and memory by the groups. A filter of many tests is
+/// asked of the rows of small ranges together, as [`partial_of`] says, which takes memory for fewer than 17,408 of them.
 pub fn scatter_one(
     alloc: Global,
     query: &Query,

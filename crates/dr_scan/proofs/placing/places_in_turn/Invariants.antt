@@ -1,7 +1,7 @@
 use Rattle.std.proofs.Common.{◌≡◌, ◌++◌, drop}
 use Rattle.dr_ask.specs.Asked.{asked}
 use Rattle.dr_scan.specs.Places.{places_over}
-use Rattle.dr_scan.proofs.placing.selected_places.Given as goal
+use Rattle.dr_scan.proofs.placing.places_in_turn.Given as goal
 
 -- with the segments that are left
 abbrev pub invariant-loop-i : goal.invariant-loop-i

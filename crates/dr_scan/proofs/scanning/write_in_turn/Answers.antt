@@ -1,13 +1,10 @@
-use Rattle.std.proofs.Common.{◌≡◌, ◌∙◌, ap, sym, Bool, true, false, not, List, ◌++◌, refl, drop}
+use Rattle.std.proofs.Common.{◌∙◌, ap, sym, List, ◌++◌, drop}
 use Rattle.std.proofs.lemmas.List.{append-nil}
 use Rattle.json.specs.Token.{Token}
 use Rattle.dr_ask.specs.Asked.{asked}
 use Rattle.dr_scan.proofs.EntryTokens.{none-after}
-use Rattle.dr_scan.proofs.scanning.write_segments.Goals as goal
-
-turned : (b : Bool) → not b ≡ true → b ≡ false
-turned true h = cc
-turned false h = refl
+use Rattle.dr_scan.proofs.InTurn.{turned}
+use Rattle.dr_scan.proofs.scanning.write_in_turn.Goals as goal
 
 pub returns-then-is_over : goal.returns-then-is_over
 returns-then-is_over c =

@@ -1,7 +1,7 @@
 use Rattle.std.proofs.Common.{◌≡◌, ◌++◌, drop}
 use Rattle.dr_ask.specs.Asked.{asked}
 use Rattle.dr_scan.specs.Written.{segments_tokens}
-use Rattle.dr_scan.proofs.scanning.write_segments.Given as goal
+use Rattle.dr_scan.proofs.scanning.write_in_turn.Given as goal
 
 -- with the segments that are left
 abbrev pub invariant-loop-segment : goal.invariant-loop-segment
