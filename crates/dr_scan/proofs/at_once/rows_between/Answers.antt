@@ -1,5 +1,5 @@
 use Rattle.std.proofs.Common.{◌∙◌, ◌++◌, ◌∷◌, [], sym, ap, slice_range, arith}
-use Rattle.dr_select.proofs.TellLemmas.{one-last}
+use Rattle.dr_select.proofs.KeyLemmas.{one-last}
 use Rattle.dr_scan.proofs.at_once.rows_between.Goals as goal
 
 pub loop-i-preserved : goal.loop-i-preserved
