@@ -3,3 +3,4 @@ pub mod AnyOrder
 pub mod Numbered
 pub mod Printing
 pub mod Kept
+pub mod AtOnce
