@@ -1,9 +1,9 @@
 -- One level of what is asked.
-use Rattle.std.proofs.Common.{◌≡◌, ◌∙◌, sym, ap, refl, not, ◌&&◌, map, ℕ, ℤ, Bool, List}
+use Rattle.std.proofs.Common.{◌≡◌, ◌∙◌, sym, ap, not, ◌&&◌, map, ℕ, ℤ, Bool, List}
 use Rattle.std.specs.List.{list_all}
-use Rattle.dr_having.specs.declared.asked_having.AskedHaving.{AskedHaving, fold-AskedHaving, out-AskedHaving}
+use Rattle.dr_having.specs.declared.asked_having.AskedHaving.{AskedHaving, out-AskedHaving}
 use Rattle.dr_having.specs.declared.asked_having.AskedHaving.TheFolds.{fold-roll-AskedHaving}
-use Rattle.dr_having.specs.declared.asked_having.AskedHaving.TheViews.{roll-AskedHaving, roll-out-AskedHaving}
+use Rattle.dr_having.specs.declared.asked_having.AskedHaving.TheViews.{roll-out-AskedHaving}
 use Rattle.dr_having.specs.Asked.{asked_meets, asked_step}
 use Rattle.dr_having.specs.OutputMeets.{outputs_meet}
 

@@ -1,8 +1,7 @@
 -- The numbers of a set, from cut to cut.
 use Rattle.std.proofs.Common.{◌≡◌, ◌∙◌, sym, refl, ap, ℤ, ◌≤ℤ◌, int_le, int_lt, not, ◌&&◌, ◌||◌, Bool, true, false, if◌then◌else◌, Option, Some, None, List, [], ◌∷◌, arith}
-use Rattle.std.specs.List.{AllByRecursion}
 use Rattle.std.proofs.lemmas.Int.{ints}
-use Rattle.dr_rowindex.specs.Orders.{reached, unended, lies_between}
+use Rattle.dr_rowindex.specs.Orders.{reached, lies_between}
 use Rattle.dr_having.specs.Steps.{turned_by, Rise}
 use Rattle.dr_having.proofs.Turning.{before}
 

@@ -1,9 +1,9 @@
 -- Numbers that rise, and those that lie between two.
-use Rattle.std.proofs.Common.{◌≡◌, ◌∙◌, sym, refl, ap, cond, ℕ, ℤ, pos, ◌<◌, ◌≤◌, ◌≤ℤ◌, int_le, int_lt, not, ◌&&◌, Bool, true, false, Option, Some, List, length, get_or, arith}
+use Rattle.std.proofs.Common.{◌≡◌, ◌∙◌, sym, refl, ap, cond, ℕ, ℤ, pos, ◌≤ℤ◌, int_lt, ◌&&◌, Bool, true, false, Option, Some, List, get_or, arith}
 use Rattle.std.specs.List.Sorted.{IsPartitionedBy}
 use Rattle.std.specs.Ordering.{int_cmp, is_lt}
 use Rattle.std.specs.declared.cmp.Ordering.TheVariants.{Less, Equal, Greater}
-use Rattle.std.specs.Cmp.{IsStrictWeakOrder, on_total}
+use Rattle.std.specs.Cmp.{IsStrictWeakOrder}
 use Rattle.std.specs.List.Sorted.{IsSortedBy}
 use Rattle.std.proofs.lemmas.Int.{ints}
 use Rattle.std.proofs.lemmas.Cmp.{int_cmp_total}

@@ -1,5 +1,5 @@
 -- Texts that rise, and those that a range holds.
-use Rattle.std.proofs.Common.{◌≡◌, ◌∙◌, sym, refl, ap, ℕ, ◌<◌, ◌≤◌, not, ◌&&◌, Bool, true, false, List, [], length, get_or}
+use Rattle.std.proofs.Common.{◌≡◌, ◌∙◌, sym, refl, ap, ℕ, not, ◌&&◌, Bool, true, false, List, [], get_or}
 use Rattle.std.specs.List.Sorted.{IsPartitionedBy, IsSortedBy}
 use Rattle.std.specs.Ordering.{nat_cmp, is_lt}
 use Rattle.std.specs.Cmp.{IsStrictWeakOrder}

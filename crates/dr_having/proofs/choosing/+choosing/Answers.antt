@@ -1,4 +1,4 @@
-use Rattle.std.proofs.Common.{◌≡◌, sym, subst, not, map}
+use Rattle.std.proofs.Common.{sym, subst, not, map}
 use Rattle.std.specs.List.{list_all}
 use Rattle.dr_rowindex.specs.Orders.{Tell}
 use Rattle.dr_rowindex.proofs.TellLemmas.{tell-both, tell-same}

@@ -1,4 +1,4 @@
-use Rattle.std.proofs.Common.{◌∙◌, refl, ap, not, sym, subst, length}
+use Rattle.std.proofs.Common.{refl, sym, subst, length}
 use Rattle.dr_rowindex.specs.Orders.{Tell}
 use Rattle.dr_rowindex.proofs.TellLemmas.{tell-not}
 use Rattle.dr_having.specs.declared.group_outputs.GroupOutputs.{GroupOutputs}

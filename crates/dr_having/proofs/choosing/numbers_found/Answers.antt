@@ -1,5 +1,4 @@
-use Rattle.std.proofs.Common.{refl, length, bytes_eq}
-use Rattle.std.specs.List.{list_any}
+use Rattle.std.proofs.Common.{refl, length}
 use Rattle.dr_outputs.specs.Numbered.{number_at}
 use Rattle.dr_rowindex.proofs.TellLemmas.{tell-added}
 use Rattle.dr_having.specs.Steps.{is_among}

@@ -2,7 +2,6 @@ use Rattle.std.proofs.Common.{refl, length, bytes_eq}
 use Rattle.std.specs.List.{list_any}
 use Rattle.dr_outputs.specs.Numbered.{text_at}
 use Rattle.dr_rowindex.proofs.TellLemmas.{tell-added}
-use Rattle.dr_having.specs.Steps.{is_among}
 use Rattle.dr_having.specs.declared.group_outputs.GroupOutputs.{GroupOutputs}
 use Rattle.dr_having.proofs.choosing.texts_found.Goals as goal
 

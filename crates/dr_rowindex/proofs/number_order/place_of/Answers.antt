@@ -1,4 +1,4 @@
-use Rattle.std.proofs.Common.{rules, ◌≡◌, ℕ, pos, true, false, int_lt, get_or, arith}
+use Rattle.std.proofs.Common.{rules, ◌≡◌, pos, int_lt, get_or, arith}
 use Rattle.std.proofs.lemmas.Fn.{always_returns_same}
 use Rattle.dr_rowindex.proofs.NumberLemmas.{numbers-parted}
 use Rattle.dr_rowindex.proofs.number_order.place_of.Goals as goal

@@ -1,4 +1,4 @@
-use Rattle.std.proofs.Common.{◌≡◌, ◌∙◌, ◌+◌, ◌<◌, sym, subst, false, get_or, length, replicate, slice_range, arith}
+use Rattle.std.proofs.Common.{◌∙◌, ◌+◌, ◌<◌, sym, subst, false, get_or, length, replicate, slice_range, arith}
 use Rattle.std.proofs.lemmas.List.{get_or_default, length-replicate}
 use Rattle.dr_rowindex.specs.Orders.{Put}
 use Rattle.dr_rowindex.proofs.RowLemmas.{row-within}

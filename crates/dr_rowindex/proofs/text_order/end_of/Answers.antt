@@ -1,4 +1,4 @@
-use Rattle.std.proofs.Common.{rules, ◌≡◌, ℕ, [], not, map, get_or, arith}
+use Rattle.std.proofs.Common.{rules, ◌≡◌, [], map, get_or, arith}
 use Rattle.std.proofs.lemmas.Fn.{always_returns_same}
 use Rattle.dr_predicate.specs.Ranges.{unended}
 use Rattle.dr_rowindex.proofs.TextLemmas.{unended-parted}

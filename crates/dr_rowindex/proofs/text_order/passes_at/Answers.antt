@@ -1,4 +1,4 @@
-use Rattle.std.proofs.Common.{◌≡◌, ◌<◌, ◌-◌, ◌∙◌, [], sym, ap, map, length, get_or, arith}
+use Rattle.std.proofs.Common.{◌<◌, ◌-◌, ◌∙◌, [], sym, ap, map, length, get_or, arith}
 use Rattle.std.proofs.lemmas.List.{get_or_default}
 use Rattle.std.proofs.lemmas.Slice.Eq.{bytes_eq-Decides}
 use Rattle.dr_predicate.specs.Match.{passes}

@@ -1,4 +1,4 @@
-use Rattle.std.proofs.Common.{refl, map, length}
+use Rattle.std.proofs.Common.{refl, length}
 use Rattle.dr_time.specs.Union.{union_holds}
 use Rattle.dr_rowindex.proofs.TellLemmas.{tell-added}
 use Rattle.dr_select.proofs.choosing.held.Goals as goal

@@ -1,10 +1,10 @@
-use Rattle.std.proofs.Common.{rules, ◌≡◌, ◌∙◌, FitsSigned, w64, pos, refl, sym, ap, get_or}
+use Rattle.std.proofs.Common.{rules, ◌∙◌, FitsSigned, w64, pos, get_or}
 use Rattle.std.specs.Int.{w128}
 use Rattle.std.proofs.lemmas.Int.{to_z-of_z}
 use Rattle.std.proofs.lemmas.List.{get_or_default}
 use Rattle.dr_time.specs.Interval.{holds_time}
 use Rattle.dr_time.specs.declared.interval.Interval.{Interval}
-use Rattle.dr_rowindex.proofs.AddLemmas.{one-more, adds-same}
+use Rattle.dr_rowindex.proofs.AddLemmas.{one-more}
 use Rattle.dr_select.proofs.choosing.insert_held.Goals as goal
 
 pub loop-interval-preserved : goal.loop-interval-preserved

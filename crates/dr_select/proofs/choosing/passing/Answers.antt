@@ -1,4 +1,4 @@
-use Rattle.std.proofs.Common.{refl, map, length}
+use Rattle.std.proofs.Common.{refl, length}
 use Rattle.dr_predicate.specs.Match.{passes}
 use Rattle.dr_select.specs.Rows.{value_of}
 use Rattle.dr_rowindex.proofs.TellLemmas.{tell-added}

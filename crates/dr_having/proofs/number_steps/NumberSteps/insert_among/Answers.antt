@@ -1,4 +1,4 @@
-use Rattle.std.proofs.Common.{rules, FitsSigned, to_z, of_z, ◌≡◌, ◌∙◌, ◌&&◌, ◌||◌, ◌∷◌, [], ◌+◌, ◌<◌, ◌≤◌, length, not, true, ℤ, Bool, Option, Some, None, sym, ap, subst, drop, get_or, pos}
+use Rattle.std.proofs.Common.{rules, FitsSigned, to_z, of_z, ◌≡◌, ◌∙◌, ◌&&◌, ◌∷◌, [], ◌+◌, ◌<◌, ◌≤◌, length, not, true, ℤ, Bool, Some, None, sym, ap, subst, drop, get_or, pos}
 use Rattle.std.specs.Int.{w128}
 use Rattle.std.proofs.lemmas.Int.{to_z-of_z}
 use Rattle.std.proofs.lemmas.List.{drop_more, drop_all}

@@ -1,6 +1,6 @@
-use Rattle.std.proofs.Common.{◌≡◌, ◌&&◌, not, true, ℤ, drop, List}
+use Rattle.std.proofs.Common.{◌≡◌, ◌&&◌, not, true, ℤ, drop}
 use Rattle.dr_rowindex.specs.Orders.{Adds, reached}
-use Rattle.dr_having.specs.Steps.{is_among, turned_by, Rise}
+use Rattle.dr_having.specs.Steps.{is_among, turned_by}
 use Rattle.dr_having.proofs.StepLemmas.{IsBelow}
 use Rattle.dr_having.proofs.number_steps.NumberSteps.insert_among.Given as goal
 

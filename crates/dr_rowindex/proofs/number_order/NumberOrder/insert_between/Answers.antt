@@ -1,5 +1,5 @@
-use Rattle.std.proofs.Common.{◌≡◌, ◌∙◌, ◌<◌, ◌≤◌, ℕ, pos, true, false, sym, ap, subst, get_or, length, arith}
-use Rattle.dr_rowindex.specs.Orders.{lies_between, AreAll, Adds}
+use Rattle.std.proofs.Common.{pos, subst, get_or}
+use Rattle.dr_rowindex.specs.Orders.{lies_between, Adds}
 use Rattle.dr_rowindex.proofs.PutLemmas.{adds-between}
 use Rattle.dr_rowindex.proofs.NumberLemmas.{not-reached, inside, ended}
 use Rattle.dr_rowindex.proofs.number_order.NumberOrder.insert_between.Goals as goal

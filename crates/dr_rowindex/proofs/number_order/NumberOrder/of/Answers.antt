@@ -1,6 +1,5 @@
-use Rattle.std.proofs.Common.{rules, ◌≡◌, ◌≤ℤ◌, ◌∙◌, ap, sym, subst, pos, get_or, length, arith}
+use Rattle.std.proofs.Common.{rules, ◌≡◌, ap, sym, subst, pos, get_or, length, arith}
 use Rattle.std.specs.Ordering.{is_lt, int_cmp}
-use Rattle.std.specs.List.{range_with_len}
 use Rattle.std.proofs.lemmas.Fn.{always_returns_same}
 use Rattle.std.proofs.lemmas.List.FromFn.{length-range_with_len}
 use Rattle.std.proofs.lemmas.List.Sorted.{length_permutation}

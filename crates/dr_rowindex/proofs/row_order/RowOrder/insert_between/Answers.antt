@@ -1,4 +1,4 @@
-use Rattle.std.proofs.Common.{◌≡◌, ◌∙◌, inl, inr, ap, subst, slice_range, take, drop, ◌-◌, arith}
+use Rattle.std.proofs.Common.{◌≡◌, inl, inr, subst, slice_range, take, drop, ◌-◌, arith}
 use Rattle.std.proofs.lemmas.Bool.{cases_lt}
 use Rattle.dr_rowindex.specs.Orders.{Put}
 use Rattle.dr_rowindex.proofs.PutLemmas.{put-both, slices-joined}

@@ -1,4 +1,4 @@
-use Rattle.std.proofs.Common.{◌≡◌, ◌∙◌, ◌+◌, ◌-◌, ◌<◌, [], ap, sym, subst, true, set, drop, take, length, slice_range, arith}
+use Rattle.std.proofs.Common.{◌≡◌, ◌∙◌, ◌+◌, ◌-◌, ◌<◌, [], ap, sym, subst, drop, take, length, slice_range, arith}
 use Rattle.dr_rowindex.specs.Orders.{Put}
 use Rattle.dr_rowindex.proofs.RowLemmas.{row-within}
 use Rattle.dr_rowindex.proofs.PutLemmas.{next, put-more, put-none}

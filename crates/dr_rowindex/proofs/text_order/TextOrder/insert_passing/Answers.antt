@@ -1,8 +1,8 @@
-use Rattle.std.proofs.Common.{inl, inr, ◌≡◌, ◌∙◌, ◌+◌, ◌-◌, ◌<◌, ◌++◌, ◌∷◌, [], ℕ, Bool, sym, ap, subst, map, length, take, get_or, arith}
+use Rattle.std.proofs.Common.{inl, inr, ◌≡◌, ◌∙◌, ◌+◌, ◌-◌, ◌<◌, ◌++◌, ◌∷◌, [], ℕ, Bool, sym, ap, subst, length, take, get_or, arith}
 use Rattle.std.proofs.lemmas.Bool.{cases_Bool}
 use Rattle.std.proofs.lemmas.List.{take_more, take_all, length-map, get_or_default}
 use Rattle.dr_predicate.specs.Match.{passes}
-use Rattle.dr_rowindex.specs.Orders.{Adds, AreAll}
+use Rattle.dr_rowindex.specs.Orders.{AreAll}
 use Rattle.dr_rowindex.proofs.RowLemmas.{row-within}
 use Rattle.dr_rowindex.proofs.PutLemmas.{adds-where, PutWhere, where-passed, where-failed}
 use Rattle.dr_rowindex.proofs.text_order.TextOrder.insert_passing.Goals as goal

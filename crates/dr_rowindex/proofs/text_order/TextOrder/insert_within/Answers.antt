@@ -1,4 +1,4 @@
-use Rattle.std.proofs.Common.{◌≡◌, ◌∙◌, ◌<◌, ◌≤◌, ℕ, [], sym, ap, subst, map, get_or, length, arith}
+use Rattle.std.proofs.Common.{◌∙◌, [], sym, subst, map, get_or}
 use Rattle.std.proofs.lemmas.List.{length-map}
 use Rattle.dr_predicate.specs.Within.{lies_within}
 use Rattle.dr_rowindex.specs.Orders.{Adds}
