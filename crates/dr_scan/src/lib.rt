@@ -1,6 +1,7 @@
 //! Scans: the text of the rows that a query selects, segment by segment or by their times, and the identifiers of segments.
 //! Rows are read where they lie, and nothing is kept but the text, where the rows of an index lie or which rows of an image are
-//! selected while these are read, and where rows are ordered their places.
+//! selected while these are read, copies of rows of small segments while a filter of many tests is asked of them together, and where
+//! rows are ordered their places.
 #![tactic(auto)]
 
 mod at_once;
