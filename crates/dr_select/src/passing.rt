@@ -1,5 +1,4 @@
-ghost use Rattle.std.specs.Prelude.{◌≡◌, length, OnOk, bytes_eq};
-ghost use Rattle.std.specs.List.{list_any};
+ghost use Rattle.std.specs.Prelude.{◌≡◌, length, OnOk};
 ghost use Rattle.dr_predicate.specs.Match.{passes};
 ghost use Rattle.dr_predicate.specs.Within.{some_within};
 ghost use Rattle.dr_rowindex.specs.Orders.{Adds};
