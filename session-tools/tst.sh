@@ -1,9 +1,0 @@
-#!/bin/bash
-echo ${NICE:-0} > /proc/self/autogroup
-export PATH=/work/wt/bin:$PATH; clone=$1; shift
-export TMPDIR=/work/wt/tmp/tst$$; mkdir -p $TMPDIR
-for k in "$@"; do
-  b=$(date +%s)
-  (cd $clone/crates/$k && rt test --jobs 1 > /work/wt/logs/test_$k.log 2>&1 < /dev/null); rc=$?
-  echo "$(date +%H:%M) test:$k rc=$rc $(( $(date +%s)-b ))s $(tail -1 /work/wt/logs/test_$k.log)" >> /work/wt/logs/tests.log
-done
