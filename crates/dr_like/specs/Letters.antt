@@ -1,4 +1,4 @@
--- Characters that a text lacks. No public contract cites this file.
+-- Characters that a text lacks.
 use Rattle.std.specs.Prelude.{ℕ, ◌==◌, List}
 use Rattle.std.specs.Str.{NonePass}
 

@@ -3,7 +3,7 @@ ghost use Rattle.std.specs.Str.{chars, IsUtf8};
 ghost use Rattle.dr_like.specs.Like.{is_empty as is_empty_of};
 ghost use Rattle.dr_like.specs.Letters.{Lacks};
 
-/// The first character of a text, and what follows it.
+/// The first character of a text, and what follows it; none of the empty text. It takes constant time.
 pub fn split_first(text: &str) -> Option<(char, &str)>
     ensures parts { MatchOption result (chars text.now ≡ []) (λ p. chars text.now ≡ p.0 ∷ chars p.1.now) }
     ensures utf8 { IfSome result (λ p. IsUtf8 p.1.now) }
@@ -15,7 +15,7 @@ pub fn split_first(text: &str) -> Option<(char, &str)>
     }
 }
 
-/// The last character of a text, and what stands before it.
+/// The last character of a text, and what stands before it; none of the empty text. It takes constant time.
 pub fn split_last(text: &str) -> Option<(&str, char)>
     ensures parts { MatchOption result (chars text.now ≡ []) (λ p. chars text.now ≡ chars p.0.now ++ p.1 ∷ []) }
     ensures utf8 { IfSome result (λ p. IsUtf8 p.0.now) }
@@ -27,7 +27,8 @@ pub fn split_last(text: &str) -> Option<(&str, char)>
     }
 }
 
-/// What stands before the first place of a character, and what follows it.
+/// What stands before the first place of a character, and what follows it; none where the text has no such character. It takes time by
+/// the bytes of the text up to there.
 pub fn split_at_letter(text: &str, letter: char) -> Option<(&str, &str)>
     ensures parts { MatchOption result (Lacks letter (chars text.now)) (λ p. Lacks letter (chars p.0.now) × (chars text.now ≡ chars p.0.now ++ letter ∷ chars p.1.now)) }
     ensures utf8 { IfSome result (λ p. IsUtf8 p.0.now × IsUtf8 p.1.now) }

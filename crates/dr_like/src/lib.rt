@@ -10,4 +10,5 @@ mod pieces;
 mod walked;
 
 pub use laws::{what_fits_is_found, what_is_found_fits};
+pub use letters::{split_at_letter, split_first, split_last};
 pub use like::fits;

@@ -1,4 +1,5 @@
 pub mod Begun
+pub mod Divided
 pub mod Each
 pub mod Fitting
 pub mod Literals

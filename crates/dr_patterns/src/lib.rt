@@ -4,6 +4,7 @@
 #![tactic(auto)]
 
 mod by_kind;
+mod divided;
 mod edges;
 mod gathered;
 mod implying;
@@ -13,5 +14,6 @@ mod patterns;
 mod side;
 mod words;
 
+pub use divided::DividedPatterns;
 pub use implying::without_implied;
 pub use patterns::Patterns;

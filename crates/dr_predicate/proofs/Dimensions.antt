@@ -98,3 +98,9 @@ all_put true true within no_texts no_ranges others = refl
 pub three_put : (before each none others : Bool) → (((before && each) && none) && others) ≡ (before && ((each && none) && others))
 three_put false each none others = refl
 three_put true each none others = refl
+
+-- what is denied of one, and of others
+pub denied_with : (before one others : Bool) → ((before && not one) && not others) ≡ (before && not (one || others))
+denied_with false one others = refl
+denied_with true true others = refl
+denied_with true false others = refl

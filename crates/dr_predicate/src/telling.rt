@@ -1,6 +1,7 @@
 ghost use Rattle.std.specs.Prelude.{◌≡◌, ◌&&◌, not, false, ℕ, List, IfOk, OnOk};
 ghost use Rattle.std.specs.List.{list_all};
 ghost use Rattle.dr_base.specs.Told.{told};
+ghost use Rattle.dr_patterns.specs.Divided.{fits_divided};
 ghost use Rattle.dr_patterns.specs.Each.{fits_all};
 ghost use Rattle.dr_patterns.specs.Fitting.{fits_some};
 ghost use Rattle.dr_predicate.specs.Asked.{all_asked, all_told, apart_told, asked_at, tests_hold, dimensions_told, is_asked, is_denied};
@@ -19,7 +20,7 @@ use crate::value_test::ValueTest;
 use crate::value_tests::ValueTests;
 use dr_base::Text;
 use dr_dict::TextSet;
-use dr_patterns::{Patterns, without_implied};
+use dr_patterns::{DividedPatterns, Patterns, without_implied};
 use std::alloc::{AllocError, Global};
 
 impl DimensionTests {
@@ -31,9 +32,9 @@ impl DimensionTests {
     }
 
     /// The tests as they are to be asked: whatever tests of one dimension ask for texts and ranges, they are one test or the denial of
-    /// one. Patterns stand apart, those that no value is to fit as one test. The only error is that memory ran out. It takes memory by
-    /// the bytes of the tests, and expected time by these, the ranges, the texts that are denied beside them, and the patterns times
-    /// the logarithm of their number.
+    /// one. Patterns stand apart; of those that no value is to fit those of the usual forms are one test, and each of 32 others or more
+    /// is one. The only error is that memory ran out. It takes memory by the bytes of the tests, and expected time by these, the ranges,
+    /// the texts that are denied beside them, and the patterns times the logarithm of their number.
     pub fn told(self, alloc: Global) -> Result<Vec<ToldDimension>, AllocError>
         ensures { IfOk result (λ tests. (dims : List (List ℕ)) → dimensions_told dims tests.items ≡ tests_hold dims self) }
     {
@@ -203,8 +204,36 @@ fn put_each(
     Ok(())
 }
 
-// Puts that the value fits none of some patterns: one is tried, and more are asked together.
+// Puts that the value fits none of some patterns: those of the usual forms are asked together, and many others are tests of their own.
 fn put_no_patterns(
+    alloc: Global,
+    tests: &mut Vec<ToldDimension>,
+    place: Option<usize>,
+    patterns: Vec<Text>,
+) -> Result<(), AllocError>
+    ensures { OnOk result ((dims : List (List ℕ)) → dimensions_told dims tests.new.items ≡ (dimensions_told dims tests.old.items && not (fits_some patterns.items (value_at place dims)))) }
+{
+    let divided = DividedPatterns::of(alloc, patterns)?;
+    put_divided(alloc, tests, place, divided)?;
+    Ok(())
+}
+
+fn put_divided(
+    alloc: Global,
+    tests: &mut Vec<ToldDimension>,
+    place: Option<usize>,
+    patterns: DividedPatterns,
+) -> Result<(), AllocError>
+    ensures { OnOk result ((dims : List (List ℕ)) → dimensions_told dims tests.new.items ≡ (dimensions_told dims tests.old.items && not (fits_divided patterns (value_at place dims)))) }
+{
+    let DividedPatterns { together, tried } = patterns;
+    put_together(alloc, tests, place, together)?;
+    put_tried(tests, place, tried)?;
+    Ok(())
+}
+
+// Puts that the value fits none of some patterns: one is tried, and more are asked together.
+fn put_together(
     alloc: Global,
     tests: &mut Vec<ToldDimension>,
     place: Option<usize>,
@@ -216,6 +245,20 @@ fn put_no_patterns(
         return Ok(());
     }
     put(tests, place, test_of(alloc, patterns)?, false)
+}
+
+// Puts that the value fits none of some patterns, each of which is a test of its own.
+fn put_tried(
+    tests: &mut Vec<ToldDimension>,
+    place: Option<usize>,
+    patterns: Vec<Text>,
+) -> Result<(), AllocError>
+    ensures { OnOk result ((dims : List (List ℕ)) → dimensions_told dims tests.new.items ≡ (dimensions_told dims tests.old.items && not (fits_some patterns.items (value_at place dims)))) }
+{
+    for pattern in patterns {
+        put(tests, place, ValueTest::Like(pattern), false)?;
+    }
+    Ok(())
 }
 
 // A test that a value passes that fits one of some patterns.

@@ -1,0 +1,34 @@
+-- The characters of texts by their places. No public contract cites this file.
+use Rattle.std.specs.Prelude.{◌≡◌, ℕ, zero, suc, ◌+◌, ◌<◌, ◌^◌, ◌==◌, Bool, true, ◌&&◌, eqb, not, List, [], ◌∷◌, length, get_or, drop, map}
+use Rattle.std.specs.Int.{bit_at}
+use Rattle.std.specs.List.{AllByRecursion}
+use Rattle.dr_rowindex.specs.Truths.{has_bit}
+use Rattle.dr_rowindex.specs.Orders.{Tell}
+use Rattle.dr_rowindex.specs.declared.row_set.RowSet.{RowSet}
+
+-- the number of the first character, counted from 1, and 0 of no characters
+abbrev pub first_code : List ℕ → ℕ
+first_code [] = 0
+first_code (c ∷ cs) = c + 1
+
+-- the number of the character at a place of a text
+abbrev pub code_at : ℕ → List ℕ → ℕ
+code_at place letters = first_code (drop place letters)
+
+-- of the texts that were told of those are left whose value passes a test
+pub record Keeps {V : Type 0} (test : V → Bool) (values : List V) (before after : List Bool) : Type 0 where
+  pub count : length after ≡ length before
+  pub each : (i : ℕ) (v : V) → i < length values → get_or after i false ≡ (get_or before i false && test (get_or values i v))
+
+-- two numbers have the same bits up to a place
+abbrev pub same_bits : ℕ → ℕ → ℕ → Bool
+same_bits zero n m = true
+same_bits (suc b) n m = same_bits b n m && eqb (bit_at n b) (bit_at m b)
+
+-- each number is below that power of two
+abbrev pub AreBelow : ℕ → List ℕ → Type 0
+AreBelow bits numbers = AllByRecursion (λ n. n < 2 ^ bits) numbers
+
+-- of each bit, from the lowest on, it is told which of the numbers have it
+abbrev pub ArePlanes : List ℕ → List RowSet → Type 0
+ArePlanes numbers planes = (b : ℕ) (told : List Bool) → b < length planes → Tell (λ n. has_bit n b) numbers (get_or planes b told)

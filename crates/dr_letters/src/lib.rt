@@ -1,0 +1,5 @@
+//! Which of many texts fit a pattern of `like`, told of all of them at once: of each place of a text it is kept, bit by bit, which
+//! texts have which character there, and the pattern is gone through once for all texts, 64 to a word.
+#![tactic(auto)]
+
+mod place_letters;
