@@ -1,8 +1,13 @@
-use Rattle.std.proofs.Common.{◌<◌, ◌≡◌, ◌^◌, ◌-◌, ◌+◌, ap, sym, subst, arith}
+use Rattle.std.proofs.Common.{◌≡◌, ◌-◌, subst, arith}
 use Rattle.std.proofs.lemmas.Nat.{leading_length}
+use Rattle.std.specs.Int.Count.{count_leading_zeros}
 use Rattle.dr_letters.specs.Codes.{AreBelow}
 use Rattle.dr_letters.proofs.CodeLemmas.{are-below}
 use Rattle.dr_letters.proofs.place_letters.bits_of.Goals as goal
 
 pub returns-clause-below : goal.returns-clause-below
-returns-clause-below c = ?
+returns-clause-below c =
+    let greatest = c.greatest_of-greatest.result in
+    let bits = leading_length 32 greatest c.greatest_of-greatest.type_inv in
+    let used : bits.0 ≡ 32 - count_leading_zeros 32 greatest = omega (arith, bits.1) in
+    subst (λ n. AreBelow n c.args.codes.now) used (are-below c.args.codes.now greatest bits.0 c.greatest_of-greatest.ensures bits.2)
