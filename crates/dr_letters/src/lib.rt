@@ -2,4 +2,9 @@
 //! texts have which character there, and the pattern is gone through once for all texts, 64 to a word.
 #![tactic(auto)]
 
+mod fitting;
+mod letter_rows;
 mod place_letters;
+mod states;
+
+pub use letter_rows::LetterRows;

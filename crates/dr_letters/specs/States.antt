@@ -1,0 +1,35 @@
+-- Which of some texts a pattern fits from a place on, place by place. No public contract cites this file.
+use Rattle.std.specs.Prelude.{◌≡◌, ℕ, ◌+◌, ◌<◌, ◌≤◌, ◌==◌, Bool, ◌&&◌, not, List, [], length, get_or, drop, map}
+use Rattle.std.specs.List.{list_any, AllByRecursion}
+use Rattle.std.specs.Str.{chars}
+use Rattle.dr_like.specs.Like.{fits, is_empty}
+use Rattle.dr_rowindex.specs.Orders.{Tell}
+use Rattle.dr_rowindex.specs.declared.row_set.RowSet.{RowSet}
+use Rattle.dr_letters.specs.declared.place_letters.PlaceLetters.{PlaceLetters}
+use Rattle.dr_letters.specs.Codes.{code_at}
+
+-- the text has no characters behind so many
+abbrev pub is_short : ℕ → List ℕ → Bool
+is_short places text = is_empty (drop places (chars text))
+
+-- it has none, and what is left of it from a place on fits the pattern
+abbrev pub left_fits : (places : ℕ) (pattern : List ℕ) (place : ℕ) → List ℕ → Bool
+left_fits places pattern place text = is_short places text && fits pattern (drop place (chars text))
+
+-- the characters of the texts are known at so many places
+abbrev pub AreCodes : List (List ℕ) → List PlaceLetters → Type 0
+AreCodes texts places = (k : ℕ) (codes : List ℕ) → k < length places → get_or places k codes ≡ map (λ t. code_at k (chars t)) texts
+
+-- the texts that have more characters than these
+pub record AreLong (texts : List (List ℕ)) (places : ℕ) (long : List ℕ) : Type 0 where
+  pub within : AllByRecursion (λ r. r < length texts) long
+  pub each : (i : ℕ) (t : List ℕ) → i < length texts → list_any (λ r. r == i) long ≡ not (is_short places (get_or texts i t))
+
+-- so many sets of so many rows
+abbrev pub AreSets : (rows count : ℕ) → List RowSet → Type 0
+AreSets rows count sets = (length sets ≡ count) × ((k : ℕ) (told : List Bool) → k < length sets → length (get_or sets k told) ≡ rows)
+
+-- for each place, and the one behind them, it is told which of the texts fit the pattern from there on
+pub record AreStates (pattern : List ℕ) (texts : List (List ℕ)) (places : ℕ) (states : List RowSet) : Type 0 where
+  pub count : length states ≡ places + 1
+  pub each : (k : ℕ) (told : List Bool) → k ≤ places → Tell (left_fits places pattern k) texts (get_or states k told)
