@@ -1,9 +1,11 @@
 -- Which of some texts a pattern fits from a place on, place by place.
-use Rattle.std.proofs.Common.{inl, inr, ◌≡◌, ◌∙◌, sym, refl, ap, subst, ℕ, zero, suc, ◌+◌, ◌<◌, ◌≤◌, ◌==◌, ◌&&◌, ◌||◌, if◌then◌else◌, Bool, true, false, List, [], ◌∷◌, ◌++◌, length, get_or, set, drop, drop-drop, replicate, arith}
+use Rattle.std.proofs.Common.{inl, inr, ◌≡◌, ◌∙◌, sym, refl, ap, subst, ℕ, ◌+◌, ◌<◌, ◌≤◌, ◌==◌, ◌&&◌, ◌||◌, if◌then◌else◌, Bool, true, false, List, [], ◌∷◌, ◌++◌, length, get_or, set, drop, drop-drop, replicate, arith}
 use Rattle.std.specs.Str.{chars}
-use Rattle.std.proofs.lemmas.Bool.{cases_eq, cases_lt}
-use Rattle.std.proofs.lemmas.List.{length-set, get_or-set_same, get_or-set_other, get_or-replicate, length-replicate, length-append, get_or_append_left, get_or_at, length-drop, get_or-drop}
+use Rattle.std.proofs.lemmas.Bool.{cases_eq}
+use Rattle.std.proofs.lemmas.List.{length-set, get_or-set_same, get_or-set_other, get_or-replicate, length-replicate, length-append, get_or_append_left, get_or_at, length-drop, get_or-drop, drop_at, append_assoc}
 use Rattle.dr_like.specs.Like.{fits, is_empty, letter_fits, first_and_rest, behind_some_run}
+use Rattle.dr_like.specs.Letters.{Lacks}
+use Rattle.dr_like.proofs.Patterns.{lacks-left, lacks-right, too_short}
 use Rattle.dr_rowindex.specs.Orders.{Tell}
 use Rattle.dr_rowindex.specs.Truths.{Joined}
 use Rattle.dr_rowindex.specs.declared.row_set.RowSet.{RowSet}
@@ -94,8 +96,8 @@ module _ (places : ℕ) (behind : List ℕ) (text : List ℕ) where
       let next : drop 1 (drop place (chars text)) ≡ drop (place + 1) (chars text) = drop-drop 1 place (chars text) in
       gathered (is_short places text) (fits behind (drop place (chars text))) (fits (37 ∷ behind) (drop (place + 1) (chars text)))
       ∙ ap (λ b. is_short places text && b)
-        (ap (λ b. fits behind (drop place (chars text)) || b) (one_run behind (drop (place + 1) (chars text)) ∙ ap (behind_some_run (fits behind)) (sym next))
-        ∙ sym (run_here (fits behind) (drop place (chars text))) ∙ sym (one_run behind (drop place (chars text))))
+      (ap (λ b. fits behind (drop place (chars text)) || b) (one_run behind (drop (place + 1) (chars text)) ∙ ap (behind_some_run (fits behind)) (sym next))
+      ∙ sym (run_here (fits behind) (drop place (chars text))) ∙ sym (one_run behind (drop place (chars text))))
     where
       gathered : (a b c : Bool) → ((a && b) || (a && c)) ≡ (a && (b || c))
       gathered true b c = refl
@@ -107,7 +109,7 @@ pub states-sets : (pattern : List ℕ) (texts : List (List ℕ)) (places : ℕ) 
 states-sets pattern texts places states was = (was.count, λ k told lt. (was.each k told (omega (arith, lt, was.count))).count)
 
 module _ (pattern : List ℕ) (texts : List (List ℕ)) (places : ℕ) where
-  tell-kept : (letter place : ℕ) (told after : List Bool) → (letter == 37) ≡ false → Tell (left_fits places pattern (place + 1)) texts told
+  pub tell-kept : (letter place : ℕ) (told after : List Bool) → (letter == 37) ≡ false → Tell (left_fits places pattern (place + 1)) texts told
       → Keeps (λ t. first_and_rest (letter_fits letter) (λ more. true) (drop place (chars t))) texts told after → Tell (left_fits places (letter ∷ pattern) place) texts after
   tell-kept letter place told after one was keeps = record {
     count = keeps.count ∙ was.count;
@@ -155,7 +157,7 @@ module _ (pattern : List ℕ) (texts : List (List ℕ)) (places : ℕ) where
     done = λ j told below within. elim (cases_eq j k) [
       | inl same ↦ (subst (λ i. Tell (left_fits places (letter ∷ pattern) i) texts (get_or (set states k set') i told)) (sym same)
           (subst (Tell (left_fits places (letter ∷ pattern) k) texts) (sym (get_or-set_same states k set' told (omega (arith, lt, was.count))))
-            (tell-kept letter k (get_or states k d) set' one (was.left k d (omega arith) lt) keeps)))
+          (tell-kept letter k (get_or states k d) set' one (was.left k d (omega arith) lt) keeps)))
       | inr differs ↦ (subst (Tell (left_fits places (letter ∷ pattern) j) texts) (sym (get_or-set_other states k j set' told differs)) (was.done j told (omega (arith, below, differs)) within))
     ];
     left = λ j told le within. subst (Tell (left_fits places pattern (j + 1)) texts) (sym (get_or-set_other states k j set' told (λ e. absurd (omega (arith, e, le))))) (was.left j told (omega (arith, le)) within);
@@ -248,26 +250,84 @@ module _ (pattern : List ℕ) (texts : List (List ℕ)) (places : ℕ) where
 
 pub sets-set : (rows count k : ℕ) (sets : List RowSet) (after : RowSet) (d : List Bool) → AreSets rows count sets → k < count → length after ≡ length (get_or sets k d) → AreSets rows count (set sets k after)
 sets-set rows count k sets after d was lt same = (
-    length-set sets k after ∙ was.0,
-    λ j told within. elim (cases_eq j k) [
-      | inl at ↦ (subst (λ i. length (get_or (set sets k after) i told) ≡ rows) (sym at)
-          (ap length (get_or-set_same sets k after told here) ∙ same ∙ was.1 k d here))
-      | inr differs ↦ (ap length (get_or-set_other sets k j after told differs) ∙ was.1 j told (omega (arith, within, length-set sets k after)))
-    ],
-  )
+  length-set sets k after ∙ was.0,
+  λ j told within. elim (cases_eq j k) [
+    | inl at ↦ (subst (λ i. length (get_or (set sets k after) i told) ≡ rows) (sym at)
+        (ap length (get_or-set_same sets k after told here) ∙ same ∙ was.1 k d here))
+    | inr differs ↦ (ap length (get_or-set_other sets k j after told differs) ∙ was.1 j told (omega (arith, within, length-set sets k after)))
+  ],
+)
   where
     here : k < length sets
     here = omega (arith, lt, was.0)
 
 pub sets-moved : (rows places : ℕ) (before after : List RowSet) (none : RowSet) → AreSets rows (places + 1) before → length none ≡ rows → after ≡ drop 1 before ++ none ∷ [] → AreSets rows (places + 1) after
 sets-moved rows places before after none was long moved = (
-    ap length moved ∙ length-append (drop 1 before) (none ∷ []) ∙ omega (arith, length-drop 1 before, was.0),
-    λ j told within. elim (cases_eq j places) [
-      | inl at ↦ (ap length (ap (λ l. get_or l j told) moved ∙ get_or_at (drop 1 before) none [] told j (front ∙ sym at)) ∙ long)
-      | inr differs ↦ (let less : j < places = omega (arith, within, differs, ap length moved, length-append (drop 1 before) (none ∷ []), front) in
-          ap length (ap (λ l. get_or l j told) moved ∙ get_or_append_left (drop 1 before) (none ∷ []) told j (omega (arith, less, front)) ∙ get_or-drop 1 before j told) ∙ was.1 (1 + j) told (omega (arith, less, was.0)))
-    ],
-  )
+  ap length moved ∙ length-append (drop 1 before) (none ∷ []) ∙ omega (arith, length-drop 1 before, was.0),
+  λ j told within. elim (cases_eq j places) [
+    | inl at ↦ (ap length (ap (λ l. get_or l j told) moved ∙ get_or_at (drop 1 before) none [] told j (front ∙ sym at)) ∙ long)
+    | inr differs ↦ (let less : j < places = omega (arith, within, differs, ap length moved, length-append (drop 1 before) (none ∷ []), front) in
+        ap length (ap (λ l. get_or l j told) moved ∙ get_or_append_left (drop 1 before) (none ∷ []) told j (omega (arith, less, front)) ∙ get_or-drop 1 before j told) ∙ was.1 (1 + j) told (omega (arith, less, was.0)))
+  ],
+)
   where
     front : length (drop 1 before) ≡ places
     front = omega (arith, length-drop 1 before, was.0)
+
+-- ---- a pattern without letters
+
+pub ended-state : (texts : List (List ℕ)) (places k : ℕ) (told : List Bool) → Tell (λ t. is_short places t && is_empty (drop k (chars t))) texts told → Tell (left_fits places [] k) texts told
+unfolding fits
+ended-state texts places k told tells = tells
+
+abbrev pub AreSome : (texts : List (List ℕ)) (places k : ℕ) → List RowSet → Type 0
+AreSome texts places k states = (length states ≡ k) × ((j : ℕ) (told : List Bool) → j < k → Tell (left_fits places [] j) texts (get_or states j told))
+
+pub one-state : (texts : List (List ℕ)) (places k : ℕ) (before after : List RowSet) (last : RowSet) → AreSome texts places k before → after ≡ before ++ last ∷ []
+    → Tell (left_fits places [] k) texts last → AreSome texts places (k + 1) after
+one-state texts places k before after last was more tells = (
+  ap length more ∙ length-append before (last ∷ []) ∙ ap (λ n. n + 1) was.0,
+  λ j told lt. elim (cases_eq j k) [
+    | inl same ↦ (subst (λ i. Tell (left_fits places [] i) texts (get_or after i told)) (sym same)
+        (subst (Tell (left_fits places [] k) texts) (sym (ap (λ l. get_or l k told) more ∙ get_or_at before last [] told k was.0)) tells))
+    | inr differs ↦ (let less : j < k = omega (arith, lt, differs) in
+        subst (Tell (left_fits places [] j) texts) (sym (ap (λ l. get_or l j told) more ∙ get_or_append_left before (last ∷ []) told j (omega (arith, less, was.0)))) (was.1 j told less))
+  ],
+)
+
+pub all-states : (texts : List (List ℕ)) (places : ℕ) (states : List RowSet) (k : ℕ) → k ≡ places → AreSome texts places (k + 1) states → AreStates [] texts places states
+all-states texts places states k same was = record { count = was.0 ∙ ap (λ n. n + 1) same; each = λ j told le. was.1 j told (omega (arith, le, same)) }
+
+-- ---- a pattern from its last letter on
+
+pub behind_more : (pattern left more : List ℕ) (letter : ℕ) → pattern ≡ left ++ drop (length left) pattern → left ≡ more ++ letter ∷ []
+    → (pattern ≡ more ++ drop (length more) pattern) × (drop (length more) pattern ≡ letter ∷ drop (length left) pattern)
+behind_more pattern left more letter parts last =
+    let whole : pattern ≡ more ++ (letter ∷ drop (length left) pattern) = parts ∙ ap (λ l. l ++ drop (length left) pattern) last ∙ append_assoc more (letter ∷ []) (drop (length left) pattern) in
+    let behind : drop (length more) pattern ≡ letter ∷ drop (length left) pattern = ap (drop (length more)) whole ∙ drop_at more (letter ∷ drop (length left) pattern) (length more) refl in
+    (whole ∙ ap (λ l. more ++ l) (sym behind), behind)
+
+pub last_letter_is_one : (more : List ℕ) (letter : ℕ) (left : List ℕ) → left ≡ more ++ letter ∷ [] → Lacks 37 left → (letter == 37) ≡ false
+last_letter_is_one more letter left last lacks = (lacks-right 37 more (letter ∷ []) (subst (Lacks 37) last lacks)).0
+
+pub letters_before : (more : List ℕ) (letter : ℕ) (left : List ℕ) → left ≡ more ++ letter ∷ [] → Lacks 37 left → Lacks 37 more
+letters_before more letter left last lacks = lacks-left 37 more (letter ∷ []) (subst (Lacks 37) last lacks)
+
+-- ---- a start that is longer than the texts
+
+short_length : (n : ℕ) (cs : List ℕ) → is_empty (drop n cs) ≡ true → length cs ≤ n
+short_length n cs short = omega (arith, length-drop n cs, ap length (empty_is (drop n cs) short))
+
+pub none-so-long : (texts : List (List ℕ)) (places : ℕ) (start more : List ℕ) (told : List Bool) (n : ℕ) → Lacks 37 start → places < length start → n ≡ length texts → told ≡ replicate n false
+    → Tell (left_fits places (start ++ more) 0) texts told
+none-so-long texts places start more told n lacks lt rows is = record {
+  count = ap length is ∙ length-replicate n false ∙ rows;
+  each = λ i t within. ap (λ l. get_or l i false) is ∙ get_or-replicate n i false false (omega (arith, within, rows)) ∙ misses (chars (get_or texts i t));
+}
+  where
+    misses : (cs : List ℕ) → false ≡ (is_empty (drop places cs) && fits (start ++ more) (drop 0 cs))
+    misses cs = at (is_empty (drop places cs)) refl
+      where
+        at : (b : Bool) → is_empty (drop places cs) ≡ b → false ≡ (b && fits (start ++ more) (drop 0 cs))
+        at false is = refl
+        at true is = sym (too_short start more cs lacks (omega (arith, lt, short_length places cs is)))

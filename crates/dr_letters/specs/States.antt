@@ -1,5 +1,5 @@
 -- Which of some texts a pattern fits from a place on, place by place. No public contract cites this file.
-use Rattle.std.specs.Prelude.{◌≡◌, ℕ, ◌+◌, ◌<◌, ◌≤◌, ◌==◌, Bool, ◌&&◌, not, List, [], length, get_or, drop, map}
+use Rattle.std.specs.Prelude.{◌≡◌, ℕ, ◌+◌, ◌<◌, ◌≤◌, ◌==◌, Bool, ◌&&◌, not, List, length, get_or, drop, map}
 use Rattle.std.specs.List.{list_any, AllByRecursion}
 use Rattle.std.specs.Str.{chars}
 use Rattle.dr_like.specs.Like.{fits, is_empty}

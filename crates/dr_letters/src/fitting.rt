@@ -39,9 +39,9 @@ impl<'a> LetterRows<'a> {
         requires { Lacks 37 (chars pattern.now) }
         ensures { IfOk result (λ s. Tell (left_fits self.now.1 (chars pattern.now) 0) self.now.0 s) }
     {
-        let count = pattern.chars().count();
+        let count = letter_count(pattern);
         if count > self.place_count() {
-            return RowSet::none(alloc, self.text_count());
+            return Ok(RowSet::none(alloc, self.text_count())?);
         }
         let mut set = self.ended(alloc, count)?;
         self.keep_start(pattern, count, &mut set);
@@ -53,9 +53,9 @@ impl<'a> LetterRows<'a> {
         requires { Lacks 37 (chars start.now) }
         ensures { IfOk result (λ s. Tell (left_fits self.now.1 (chars start.now ++ 37 ∷ chars more.now) 0) self.now.0 s) }
     {
-        let count = start.chars().count();
+        let count = letter_count(start);
         if count > self.place_count() {
-            return RowSet::none(alloc, self.text_count());
+            return Ok(RowSet::none(alloc, self.text_count())?);
         }
         let mut states = states_of(alloc, self, more)?;
         put_run(alloc, self, &mut states)?;
@@ -80,4 +80,11 @@ impl<'a> LetterRows<'a> {
             left = more;
         }
     }
+}
+
+// How many characters a text has.
+fn letter_count(text: &str) -> usize
+    ensures { result ≡ length (chars text.now) }
+{
+    text.chars().count()
 }

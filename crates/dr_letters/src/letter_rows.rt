@@ -92,13 +92,10 @@ impl<'a> LetterRows<'a> {
         requires { place ≤ self.now.1 }
         ensures { IfOk result (λ s. Tell (λ t. is_short self.now.1 t && is_empty (drop place (chars t))) self.now.0 s) }
     {
-        let mut set = RowSet::none(alloc, self.texts.len())?;
         if place < self.places.len() {
-            set.or(self.places[place].ended());
-        } else {
-            set.or(&self.short);
+            return Ok(copy_of(alloc, self.places[place].ended())?);
         }
-        Ok(set)
+        Ok(copy_of(alloc, &self.short)?)
     }
 
     // Adds those of the other texts that fit a pattern, each of which is asked by itself.
@@ -129,6 +126,15 @@ fn places_of<'a>(
         rests = tails_of(alloc, rests.as_slice())?;
     }
     Ok((places, rests))
+}
+
+// The same rows.
+fn copy_of(alloc: Global, set: &RowSet) -> Result<RowSet, AllocError>
+    ensures { IfOk result (λ copy. copy ≡ set.now) }
+{
+    let mut copy = RowSet::none(alloc, set.row_count())?;
+    copy.or(set);
+    Ok(copy)
 }
 
 // Whether more than a few of the texts have a character left.
@@ -196,7 +202,7 @@ fn tail_of(text: &str) -> &str
 
 // The texts that are empty.
 fn ended_of(alloc: Global, texts: &[&str]) -> Result<RowSet, AllocError>
-    ensures { IfOk result (λ s. Tell is_empty (map (λ t. chars t.now) texts.now) s) }
+    ensures { IfOk result (λ s. Tell (λ t. is_empty (chars t.now)) texts.now s) }
 {
     let mut set = RowSet::none(alloc, texts.len())?;
     for i in 0..texts.len() {

@@ -1,4 +1,4 @@
-use Rattle.std.proofs.Common.{◌≡◌, ◌+◌, ℕ, List, length}
+use Rattle.std.proofs.Common.{◌+◌, ℕ, List, length}
 use Rattle.dr_letters.specs.States.{AreSets, AreStates}
 use Rattle.dr_letters.proofs.StateLemmas.{IsPut}
 use Rattle.dr_letters.proofs.states.put_one.Given as goal

@@ -1,4 +1,4 @@
-use Rattle.std.proofs.Common.{take, get_or, [], length}
+use Rattle.std.proofs.Common.{take, get_or, []}
 use Rattle.std.specs.Str.{chars}
 use Rattle.dr_like.specs.Like.{fits}
 use Rattle.dr_rowindex.proofs.PutLemmas.{PutWhere}
