@@ -1,15 +1,16 @@
 use dr_filter::FilterTree;
-use dr_predicate::DimensionTest;
+use dr_predicate::{DimensionTest, ValueTest};
 use dr_rowindex::AskedPlaces;
 use std::alloc::{AllocError, Global};
 
 // How often times are asked for at least, before it takes less time to put the rows in their order.
 const OFTEN: usize = 8;
 
-/// How often a filter asks for the values at each place among the dimensions, and for the times.
+/// How often a filter asks for the values at each place among the dimensions, how often by a pattern, and for the times.
 #[derive(Drop)]
 pub struct AskedFor {
     pub places: AskedPlaces,
+    pub patterns: AskedPlaces,
     times: usize,
 }
 
@@ -18,6 +19,7 @@ impl AskedFor {
     pub(crate) fn of(alloc: Global, filter: &FilterTree) -> Result<AskedFor, AllocError> {
         let mut asked = AskedFor {
             places: AskedPlaces::new(alloc),
+            patterns: AskedPlaces::new(alloc),
             times: 0,
         };
         asked.add(filter)?;
@@ -52,9 +54,12 @@ impl AskedFor {
     }
 
     fn add_place(&mut self, test: &DimensionTest) -> Result<(), AllocError> {
-        match test.place {
-            Some(place) => self.places.add(place),
-            None => Ok(()),
+        let Some(place) = test.place else {
+            return Ok(());
+        };
+        if let ValueTest::Like(_) = &test.test {
+            self.patterns.add(place)?;
         }
+        self.places.add(place)
     }
 }

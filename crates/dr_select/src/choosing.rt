@@ -8,7 +8,7 @@ ghost use Rattle.dr_select.specs.Rows.{meets};
 use crate::lot::Lot;
 use crate::passing::insert_passing;
 use dr_filter::{Filter, FilterTree};
-use dr_predicate::DimensionTest;
+use dr_predicate::{DimensionTest, ValueTest};
 use dr_rollup::KeyOf;
 use dr_rowindex::{NumberOrder, RowSet, asks_for_many};
 use dr_time::{Interval, Union};
@@ -73,8 +73,26 @@ fn met_by_some(alloc: Global, filters: &[FilterTree], lot: &Lot<'_>) -> Result<R
     Ok(set)
 }
 
-// The rows whose value passes a test.
+// The rows whose value passes a test: a pattern is asked of the characters of all values at once, where these were read.
 fn passing(alloc: Global, test: &DimensionTest, lot: &Lot<'_>) -> Result<RowSet, AllocError>
+    ensures { IfOk result (λ s. Tell (λ row. holds_of test.now row.dims.now) lot.now.rows.now s) }
+{
+    let Some(letters) = lot.letters_at(test.place) else {
+        return passing_in_order(alloc, test, lot);
+    };
+    let ValueTest::Like(pattern) = &test.test else {
+        return passing_in_order(alloc, test, lot);
+    };
+    let set = letters.fitting(alloc, pattern.as_str())?;
+    Ok(set)
+}
+
+// The rows whose value passes a test, found by the order of their values, where they stand in that.
+fn passing_in_order(
+    alloc: Global,
+    test: &DimensionTest,
+    lot: &Lot<'_>,
+) -> Result<RowSet, AllocError>
     ensures { IfOk result (λ s. Tell (λ row. holds_of test.now row.dims.now) lot.now.rows.now s) }
 {
     match lot.order_at(test.place) {

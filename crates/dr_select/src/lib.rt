@@ -7,6 +7,7 @@ mod choosing;
 mod lot;
 mod lots;
 mod passing;
+mod placed_letters;
 mod placed_order;
 mod rows;
 

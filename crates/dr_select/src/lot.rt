@@ -3,21 +3,25 @@ ghost use Rattle.std.specs.List.{All};
 ghost use Rattle.dr_select.specs.Rows.{value_of};
 
 use crate::asked_for::AskedFor;
+use crate::placed_letters::PlacedLetters;
 use crate::placed_order::PlacedOrder;
 use dr_filter::FilterTree;
+use dr_letters::LetterRows;
 use dr_predicate::value_at;
 use dr_rollup::KeyOf;
 use dr_rowindex::{NumberOrder, TextOrder};
 use std::alloc::{AllocError, Global};
 
 /// Rows of which a filter is asked, and these in the order of their values in each dimension that it often asks for, and of their times,
-/// where it often asks for these.
+/// where it often asks for these; and with the characters of their values in each dimension that it often asks by a pattern.
 #[derive(Drop)]
 pub struct Lot<'a> {
     pub rows: &'a [KeyOf<'a>],
     orders: Vec<PlacedOrder<'a>>,
+    letters: Vec<PlacedLetters<'a>>,
     times: Option<NumberOrder>,
     ghost values: { All (λ o. o.order ≡ map (value_of o.place) rows.now) orders.items },
+    ghost read: { All (λ l. l.letters.0 ≡ map (value_of l.place) rows.now) letters.items },
     ghost held: { unwrap_or times (map (λ r. r.time) rows.now) ≡ map (λ r. r.time) rows.now },
 }
 
@@ -33,10 +37,12 @@ impl<'a> Lot<'a> {
         let asked = AskedFor::of(alloc, filter)?;
         let places = asked.places.often(alloc)?;
         let orders = orders_of(alloc, rows, places.as_slice())?;
+        let letters = letters_of(alloc, rows, asked.patterns.often(alloc)?.as_slice())?;
         let times = times_of(alloc, rows, asked.asks_times_often())?;
         Ok(Lot {
             rows,
             orders,
+            letters,
             times,
         })
     }
@@ -48,6 +54,18 @@ impl<'a> Lot<'a> {
         for placed in self.orders.as_slice() {
             if placed.place == place {
                 return Some(&placed.order);
+            }
+        }
+        None
+    }
+
+    // The rows with the characters of their values at a place, where a filter often asks for it by a pattern.
+    pub(crate) fn letters_at(&self, place: Option<usize>) -> Option<&LetterRows<'a>>
+        ensures { IfSome result (λ l. l.now.0 ≡ map (value_of place) self.now.rows.now) }
+    {
+        for read in self.letters.as_slice() {
+            if read.place == place {
+                return Some(&read.letters);
             }
         }
         None
@@ -75,6 +93,22 @@ fn orders_of<'a>(
         orders.push(PlacedOrder { place, order })?;
     }
     Ok(orders)
+}
+
+fn letters_of<'a>(
+    alloc: Global,
+    rows: &'a [KeyOf<'a>],
+    places: &[usize],
+) -> Result<Vec<PlacedLetters<'a>>, AllocError>
+    ensures { IfOk result (λ found. All (λ l. l.letters.0 ≡ map (value_of l.place) rows.now) found.items) }
+{
+    let mut found = Vec::with_capacity(alloc, places.len())?;
+    for place in places {
+        let place = Some(*place);
+        let letters = LetterRows::of(alloc, values_at(alloc, rows, place)?)?;
+        found.push(PlacedLetters { place, letters })?;
+    }
+    Ok(found)
 }
 
 // The value of each row at a place among the dimensions.
