@@ -5,6 +5,8 @@ use Rattle.std.specs.List.{AllByRecursion}
 use Rattle.std.proofs.lemmas.Bool.{cases_lt, eq-eqb, eqb-true}
 use Rattle.std.proofs.lemmas.Nat.Bits.{same_from_bits_below}
 use Rattle.std.proofs.Math.Pow.{pow_mono}
+use Rattle.dr_rowindex.specs.Orders.{Tell}
+use Rattle.dr_rowindex.specs.Truths.{Joined}
 use Rattle.dr_letters.specs.Codes.{AreBelow, Keeps, same_bits}
 
 -- ---- truths
@@ -72,4 +74,12 @@ keeps-code code bits codes before after below lt was = record {
   each = λ i v within.
       let n = get_or codes i v in
       was.each i v within ∙ ap (λ x. get_or before i false && x) (same_number bits n code (all_at (λ m. m < 2 ^ bits) codes below i v within) lt);
+}
+
+-- ---- told already
+
+pub keeps-told : {V : Type 0} (test : V → Bool) (values : List V) (told before after : List Bool) → length before ≡ length values → Tell test values told → Joined (λ a b. a && b) told before after → Keeps test values before after
+keeps-told test values told before after long tells joined = record {
+  count = joined.count;
+  each = λ i v lt. joined.each i (omega (arith, lt, long)) ∙ ap (λ b. get_or before i false && b) (tells.each i v lt);
 }

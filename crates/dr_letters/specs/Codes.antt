@@ -1,10 +1,11 @@
 -- The characters of texts by their places. No public contract cites this file.
-use Rattle.std.specs.Prelude.{◌≡◌, ℕ, zero, suc, ◌+◌, ◌<◌, ◌^◌, Bool, true, false, ◌&&◌, eqb, List, [], ◌∷◌, length, get_or, drop}
+use Rattle.std.specs.Prelude.{◌≡◌, ℕ, zero, suc, ◌+◌, ◌<◌, ◌^◌, ◌==◌, Bool, true, false, ◌&&◌, eqb, List, [], ◌∷◌, length, get_or, drop}
 use Rattle.std.specs.Int.{bit_at}
-use Rattle.std.specs.List.{AllByRecursion}
+use Rattle.std.specs.List.{All, AllByRecursion}
 use Rattle.dr_rowindex.specs.Truths.{has_bit}
 use Rattle.dr_rowindex.specs.Orders.{Tell}
 use Rattle.dr_rowindex.specs.declared.row_set.RowSet.{RowSet}
+use Rattle.dr_letters.specs.declared.common_code.CommonCode.{CommonCode}
 
 -- the number of the first character, counted from 1, and 0 of no characters
 abbrev pub first_code : List ℕ → ℕ
@@ -32,3 +33,7 @@ AreBelow bits numbers = AllByRecursion (λ n. n < 2 ^ bits) numbers
 -- of each bit, from the lowest on, it is told which of the numbers have it
 abbrev pub ArePlanes : List ℕ → List RowSet → Type 0
 ArePlanes numbers planes = (b : ℕ) (told : List Bool) → b < length planes → Tell (λ n. has_bit n b) numbers (get_or planes b told)
+
+-- of each of some codes it is told which of the numbers are it
+abbrev pub AreCommon : List ℕ → List CommonCode → Type 0
+AreCommon numbers common = All (λ (c : CommonCode). Tell (λ n. n == c.code) numbers c.texts) common

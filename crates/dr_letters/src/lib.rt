@@ -2,6 +2,7 @@
 //! texts have which character there, and the pattern is gone through once for all texts, 64 to a word.
 #![tactic(auto)]
 
+mod common_code;
 mod fitting;
 mod letter_rows;
 mod place_letters;

@@ -1,8 +1,9 @@
-ghost use Rattle.std.specs.Prelude.{◌≡◌, ◌<◌, ◌≤◌, ◌==◌, ◌&&◌, ◌^◌, not, nat_le, Bool, true, false, ℕ, List, length, get_or, IfOk};
+ghost use Rattle.std.specs.Prelude.{◌≡◌, ◌<◌, ◌≤◌, ◌==◌, ◌&&◌, ◌^◌, not, nat_le, Bool, true, false, ℕ, List, length, get_or, IfOk, IfSome};
 ghost use Rattle.dr_rowindex.specs.Orders.{Tell};
 ghost use Rattle.dr_rowindex.specs.Truths.{Joined, has_bit};
 ghost use Rattle.dr_letters.specs.Codes.{AreBelow, ArePlanes, Keeps, same_bits};
 
+use crate::common_code::{CommonCode, common_codes};
 use dr_rowindex::RowSet;
 use std::alloc::{AllocError, Global};
 use std::marker::Model;
@@ -16,33 +17,38 @@ pub struct PlaceLetters {
     ended: RowSet,
     // Of each bit of the codes, from the lowest on, the texts whose code has it.
     planes: Vec<RowSet>,
+    // Of the codes that many texts have, which these are.
+    common: Vec<CommonCode>,
 }
 
 impl Model for PlaceLetters {
     ghost use Rattle.std.specs.Prelude.{ℕ, List, ◌==◌, length};
     ghost use Rattle.dr_rowindex.specs.Orders.{Tell};
-    ghost use Rattle.dr_letters.specs.Codes.{AreBelow, ArePlanes};
+    ghost use Rattle.dr_letters.specs.Codes.{AreBelow, ArePlanes, AreCommon};
 
     ghost Value = { List ℕ };
 
     ghost view = { λ p. p.codes.items };
 
-    ghost invariant = { λ p. Tell (λ n. n == 0) p.codes.items p.ended × (ArePlanes p.codes.items p.planes.items × AreBelow (length p.planes.items) p.codes.items) };
+    ghost invariant = { λ p. Tell (λ n. n == 0) p.codes.items p.ended × (ArePlanes p.codes.items p.planes.items × (AreBelow (length p.planes.items) p.codes.items × AreCommon p.codes.items p.common.items)) };
 }
 
 impl PlaceLetters {
     // The characters with these codes. The only error is that memory ran out. It takes time by the texts times the bits of the greatest
-    // code, and memory by the texts and by a bit for each of them and each of these.
+    // code, or n log n in the texts, where that is more, and memory by the texts and by a bit for each of them and each of these; and as
+    // much for each code that one text in 64 has at least.
     pub fn of(alloc: Global, codes: Vec<u32>) -> Result<PlaceLetters, AllocError>
         ensures { IfOk result (λ p. p ≡ codes.items) }
     {
         let ended = ended_of(alloc, codes.as_slice())?;
         let bits = bits_of(codes.as_slice());
         let planes = planes_of(alloc, codes.as_slice(), bits)?;
+        let common = common_codes(alloc, codes.as_slice())?;
         Ok(PlaceLetters {
             codes,
             ended,
             planes,
+            common,
         })
     }
 
@@ -53,9 +59,31 @@ impl PlaceLetters {
         &self.ended
     }
 
-    // Keeps of some texts those that have the character with this code here. It takes time by the texts, 64 at once, for each bit of the
-    // greatest code here.
+    // Keeps of some texts those that have the character with this code here. It takes time by the texts, 64 at once, and that for each bit
+    // of the greatest code here, where not one text in 64 has the character.
     pub fn keep(&self, code: u32, set: &mut RowSet)
+        requires { length set.old ≡ length self.now }
+        ensures { Keeps (λ n. n == code) self.now set.old set.new }
+    {
+        match self.texts_with(code) {
+            Some(texts) => set.and(texts),
+            None => self.keep_by_bits(code, set),
+        }
+    }
+
+    // The texts that have the character with this code, where these are many.
+    fn texts_with(&self, code: u32) -> Option<&RowSet>
+        ensures { IfSome result (λ s. Tell (λ n. n == code) self.now s.now) }
+    {
+        for common in self.common.as_slice() {
+            if common.code == code {
+                return Some(&common.texts);
+            }
+        }
+        None
+    }
+
+    fn keep_by_bits(&self, code: u32, set: &mut RowSet)
         requires { length set.old ≡ length self.now }
         ensures { Keeps (λ n. n == code) self.now set.old set.new }
     {
