@@ -1,0 +1,7 @@
+pub mod WordLemmas
+pub mod BitLemmas
+pub mod FitLemmas
+pub mod DigitLemmas
+pub mod RunLemmas
+pub mod StepLemmas
+pub mod LetterLemmas

@@ -1,0 +1,84 @@
+ghost use Rattle.std.specs.Prelude.{◌≡◌, ◌==◌, ◌≤◌, ◌<◌, ◌+◌, ◌/◌, ℕ, List, [], ◌∷◌, false, length, take, drop};
+ghost use Rattle.dr_like.specs.Like.{fits};
+ghost use Rattle.dr_places.specs.Places.{AreRight, IsSearch, letters_in, reach_at};
+
+use crate::letters::is_run;
+use crate::runs::spread;
+use crate::text_places::TextPlaces;
+use crate::words::{is_set, shift_bits};
+
+/// A pattern that is gone through from its end, and the text whose places are told of: where the first run of the pattern is, and
+/// how many characters the text has more than the pattern has letters that each stand for one.
+#[derive(Clone, Copy)]
+pub struct Search<'t> {
+    pub pattern: &'t [char],
+    pub places: &'t TextPlaces,
+    pub first_run: usize,
+    pub spare: usize,
+}
+
+impl<'t> Search<'t> {
+    // Whether the whole text fits the pattern, from the set of its end.
+    pub fn walk(&self, words: &mut [u64]) -> bool
+        requires search { IsSearch self.now.pattern.now self.now.places.now self.now.first_run self.now.spare }
+        requires long { length words.old ≡ length self.now.places.now / 64 + 2 }
+        requires right { AreRight words.old 0 (length self.now.places.now) [] self.now.places.now }
+        ensures { result ≡ fits self.now.pattern.now self.now.places.now }
+    {
+        let mut at = self.pattern.len();
+        let mut lo = self.places.count() - self.spare;
+        while at > 0 {
+            at -= 1;
+            lo = self.step(words, at, lo);
+        }
+        is_set(words[0], 0)
+    }
+
+    // Goes one letter further to the front of the pattern: from the places where what follows the letter fits to those where it
+    // fits with the letter. The first place that is asked for is as far in the text as the pattern has letters before.
+    fn step(&self, words: &mut [u64], at: usize, lo: usize) -> usize
+        requires search { IsSearch self.now.pattern.now self.now.places.now self.now.first_run self.now.spare }
+        requires within { at < length self.now.pattern.now }
+        requires long { length words.old ≡ length self.now.places.now / 64 + 2 }
+        requires before { lo ≡ letters_in (take (at + 1) self.now.pattern.now) }
+        requires right { AreRight words.old lo (lo + reach_at self.now.first_run self.now.spare (at + 1)) (drop (at + 1) self.now.pattern.now) self.now.places.now }
+        ensures count { length words.new ≡ length words.old }
+        ensures before { result ≡ letters_in (take at self.now.pattern.now) }
+        ensures right { AreRight words.new result (result + reach_at self.now.first_run self.now.spare at) (drop at self.now.pattern.now) self.now.places.now }
+    {
+        let letter = self.pattern[at];
+        if letter != '%' {
+            let before = lo - 1;
+            step_back(self.places, words, letter, before, before + self.reach(at));
+            return before;
+        }
+        if is_run(self.pattern, at + 1) {
+            return lo;
+        }
+        spread(words, lo, lo + self.spare);
+        lo
+    }
+
+    // How many places more than the first are asked for before a letter.
+    fn reach(&self, at: usize) -> usize
+        ensures { result ≡ reach_at self.now.first_run self.now.spare at }
+    {
+        if self.first_run < at { self.spare } else { 0 }
+    }
+}
+
+// What a letter that is no run, before some places, makes of them: the places before these where the letter fits.
+fn step_back(places: &TextPlaces, words: &mut [u64], letter: char, lo: usize, hi: usize)
+    requires itself { (letter == 37) ≡ false }
+    requires order { lo ≤ hi }
+    requires within { hi < length places.now }
+    requires long { length words.old ≡ length places.now / 64 + 2 }
+    ensures count { length words.new ≡ length words.old }
+    ensures right { (pattern : List ℕ) → AreRight words.old (lo + 1) (hi + 1) pattern places.now → AreRight words.new lo hi (letter ∷ pattern) places.now }
+{
+    shift_bits(words, lo / 64, hi / 64 + 1);
+    if letter == '_' {
+        return;
+    }
+    places.keep(words, letter, lo / 64, hi / 64 + 1);
+}
