@@ -1,13 +1,12 @@
 -- The sets of the places at which a digit of the characters is this or that.
-use Rattle.std.proofs.Common.{inl, inr, ◌⊎◌, ◌≡◌, ◌≢◌, ◌∙◌, sym, refl, ap, subst, ℕ, zero, suc, ◌+◌, ◌/◌, ◌%◌, ◌<◌, ◌≤◌, ◌&&◌, Bool, true, false, List, [], length, get_or, set, replicate, eqb, nat_lt, arith}
-use Rattle.std.specs.Int.RustNames.{bit_and}
+use Rattle.std.proofs.Common.{inl, inr, ◌⊎◌, ◌≡◌, ◌≢◌, ◌∙◌, sym, refl, ap, subst, ℕ, zero, suc, ◌+◌, ◌/◌, ◌%◌, ◌<◌, ◌≤◌, ◌&&◌, ◌-◌, drop, if◌then◌else◌, Bool, true, false, List, [], length, get_or, set, replicate, eqb, nat_lt, arith}
 use Rattle.std.proofs.lemmas.Bool.{cases_eq}
 use Rattle.std.proofs.lemmas.Bool.Decides.{nat_tests}
-use Rattle.std.proofs.lemmas.Nat.{div_below, div-add-mod'}
-use Rattle.std.proofs.lemmas.List.{length-set, get_or-set_same, get_or-set_other, get_or-replicate, length-replicate}
-use Rattle.dr_places.specs.Places.{has_bit, truth_in}
+use Rattle.std.proofs.lemmas.Nat.{div_below, mod_below, div-add-mod'}
+use Rattle.std.proofs.lemmas.List.{length-set, get_or-drop, get_or-set_same, get_or-set_other, get_or-replicate, length-replicate}
+use Rattle.dr_places.specs.Places.{has_bit, bit_from, truth_in, IsKept}
 use Rattle.dr_places.specs.Digits.{HasDigit, AreDigits, AreMarked}
-use Rattle.dr_places.proofs.BitLemmas.{bit-and, bit-zero}
+use Rattle.dr_places.proofs.BitLemmas.{bit-zero}
 
 -- ---- the places with a digit are kept
 
@@ -18,12 +17,28 @@ digit-within cs d m x sets are some lt = at are.all
     at (inl all) = omega (arith, all, lt)
     at (inr none) = absurd (omega (arith, none.0, some))
 
-pub kept : (cs words others after : List ℕ) (from end d m x : ℕ) → HasDigit cs d m x others
-    → ((k : ℕ) → from ≤ k → k < end → get_or after k 0 ≡ bit_and (get_or words k 0) (get_or others k 0))
-    → (k : ℕ) → from ≤ k / 64 → k / 64 < end → k < length cs → truth_in after k ≡ (truth_in words k && eqb (get_or cs k 0 / d % m) x)
-kept cs words others after from end d m x has each k le lt within =
-    ap (λ w. has_bit w (k % 64)) (each (k / 64) le lt) ∙ bit-and (get_or words (k / 64) 0) (get_or others (k / 64) 0) (k % 64)
-    ∙ ap (λ b. truth_in words k && b) (has.told k within)
+-- a bit of a set, counted from a place on
+from-place : (places : List ℕ) (lo k : ℕ) → bit_from (get_or (drop (lo / 64) places) (k / 64) 0) (get_or (drop (lo / 64) places) (k / 64 + 1) 0) (lo % 64) (k % 64) ≡ truth_in places (lo + k)
+from-place places lo k = at (nat_lt (k % 64 + lo % 64) 64) refl
+  where
+    at : (b : Bool) → nat_lt (k % 64 + lo % 64) 64 ≡ b
+        → (if b then has_bit (get_or (drop (lo / 64) places) (k / 64) 0) (k % 64 + lo % 64) else has_bit (get_or (drop (lo / 64) places) (k / 64 + 1) 0) (k % 64 + lo % 64 - 64)) ≡ truth_in places (lo + k)
+    at true is =
+        let less : k % 64 + lo % 64 < 64 = grind (arith, nat_tests) in
+        let word : lo / 64 + k / 64 ≡ (lo + k) / 64 = omega (arith, less) in
+        let bit : k % 64 + lo % 64 ≡ (lo + k) % 64 = omega (arith, less) in
+        ap (λ w. has_bit w (k % 64 + lo % 64)) (get_or-drop (lo / 64) places (k / 64) 0 ∙ ap (λ i. get_or places i 0) word) ∙ ap (has_bit (get_or places ((lo + k) / 64) 0)) bit
+    at false is =
+        let more : 64 ≤ k % 64 + lo % 64 = grind (arith, nat_tests) in
+        let word : lo / 64 + (k / 64 + 1) ≡ (lo + k) / 64 = omega (arith, more) in
+        let bit : k % 64 + lo % 64 - 64 ≡ (lo + k) % 64 = omega (arith, more) in
+        ap (λ w. has_bit w (k % 64 + lo % 64 - 64)) (get_or-drop (lo / 64) places (k / 64 + 1) 0 ∙ ap (λ i. get_or places i 0) word) ∙ ap (has_bit (get_or places ((lo + k) / 64) 0)) bit
+
+pub kept : (cs words places after : List ℕ) (lo from end d m x : ℕ) → HasDigit cs d m x places
+    → ((k : ℕ) → from ≤ k → k < end → IsKept (get_or (drop (lo / 64) places) k 0) (get_or (drop (lo / 64) places) (k + 1) 0) (lo % 64) (get_or words k 0) (get_or after k 0))
+    → (k : ℕ) → from ≤ k / 64 → k / 64 < end → lo + k < length cs → truth_in after k ≡ (truth_in words k && eqb (get_or cs (lo + k) 0 / d % m) x)
+kept cs words places after lo from end d m x has each k le lt within =
+    each (k / 64) le lt (k % 64) (mod_below k 64 (omega arith)) ∙ ap (λ b. truth_in words k && b) (from-place places lo k ∙ has.told (lo + k) within)
 
 -- ---- a digit that is 0 in every character
 
@@ -45,15 +60,15 @@ same-digit a b t x y = grind (arith, nat_tests)
 other-digit : (a b : ℕ) (t : Bool) → a ≡ 0 → b ≢ 0 → false ≡ (t && eqb a b)
 other-digit a b t x y = grind (arith, nat_tests)
 
-module _ (cs words : List ℕ) (d m p : ℕ) (sets : List (List ℕ)) (are : AreDigits cs d m sets) (none : length sets ≡ 0) (some : 0 < m) where
-  pub all-kept : p / d % m ≡ 0 → (k : ℕ) → k < length cs → truth_in words k ≡ (truth_in words k && eqb (get_or cs k 0 / d % m) (p / d % m))
-  all-kept is k lt = same-digit (get_or cs k 0 / d % m) (p / d % m) (truth_in words k) (no-digit cs d m sets are none some k lt) is
+module _ (cs words : List ℕ) (lo d m p : ℕ) (sets : List (List ℕ)) (are : AreDigits cs d m sets) (none : length sets ≡ 0) (some : 0 < m) where
+  pub all-kept : p / d % m ≡ 0 → (k : ℕ) → lo + k < length cs → truth_in words k ≡ (truth_in words k && eqb (get_or cs (lo + k) 0 / d % m) (p / d % m))
+  all-kept is k lt = same-digit (get_or cs (lo + k) 0 / d % m) (p / d % m) (truth_in words k) (no-digit cs d m sets are none some (lo + k) lt) is
 
   pub none-kept : (after : List ℕ) (from end : ℕ) → p / d % m ≢ 0 → ((k : ℕ) → from ≤ k → k < end → get_or after k 0 ≡ 0)
-      → (k : ℕ) → from ≤ k / 64 → k / 64 < end → k < length cs → truth_in after k ≡ (truth_in words k && eqb (get_or cs k 0 / d % m) (p / d % m))
+      → (k : ℕ) → from ≤ k / 64 → k / 64 < end → lo + k < length cs → truth_in after k ≡ (truth_in words k && eqb (get_or cs (lo + k) 0 / d % m) (p / d % m))
   none-kept after from end isnt each k le lt within =
       ap (λ w. has_bit w (k % 64)) (each (k / 64) le lt) ∙ bit-zero (k % 64)
-      ∙ other-digit (get_or cs k 0 / d % m) (p / d % m) (truth_in words k) (no-digit cs d m sets are none some k within) isnt
+      ∙ other-digit (get_or cs (lo + k) 0 / d % m) (p / d % m) (truth_in words k) (no-digit cs d m sets are none some (lo + k) within) isnt
 
 -- ---- one place more
 

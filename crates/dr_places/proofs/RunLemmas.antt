@@ -1,5 +1,5 @@
 -- What a run before some places makes of them.
-use Rattle.std.proofs.Common.{inl, inr, ◌⊎◌, ◌≡◌, ◌∙◌, sym, ap, ℕ, ◌+◌, ◌-◌, ◌^◌, ◌/◌, ◌%◌, ◌<◌, ◌≤◌, true, false, List, ◌∷◌, length, get_or, set, arith}
+use Rattle.std.proofs.Common.{inl, inr, ◌⊎◌, ◌≡◌, ◌∙◌, sym, ap, ℕ, ◌+◌, ◌-◌, ◌^◌, ◌/◌, ◌%◌, ◌<◌, ◌≤◌, true, false, List, ◌∷◌, length, get_or, set, subst, arith}
 use Rattle.std.proofs.lemmas.Bool.{cases_eq, cases_lt}
 use Rattle.std.proofs.lemmas.Nat.{div-add-mod'}
 use Rattle.std.proofs.lemmas.List.{get_or-set_same, get_or-set_other}
@@ -20,25 +20,24 @@ filled first second from last end w within before here same k le to =
           ∙ bit-ones (k % 64) (omega arith)
     ]
 
-module _ (words after : List ℕ) (lo hi : ℕ) (ps cs : List ℕ) (all : hi + letters_in ps ≡ length cs) (right : AreRight words lo hi ps cs) where
-  -- what isn't among the places up to hi isn't behind them
-  none-later : (k : ℕ) → lo ≤ k → ((j : ℕ) → k ≤ j → j ≤ hi → truth_in words j ≡ false) → (j : ℕ) → k ≤ j → fits_at ps j cs ≡ false
-  none-later k from none j le = elim (cases_lt hi j) [
+module _ (words after : List ℕ) (reach lo : ℕ) (ps cs : List ℕ) (all : lo + reach + letters_in ps ≡ length cs) (right : AreRight words reach lo ps cs) where
+  -- what isn't among the places as far as they reach isn't behind them
+  none-later : (k : ℕ) → ((j : ℕ) → k ≤ j → j ≤ reach → truth_in words j ≡ false) → (j : ℕ) → lo + k ≤ j → fits_at ps j cs ≡ false
+  none-later k none j le = elim (cases_lt (lo + reach) j) [
     | inl past ↦ too-short ps j cs (omega (arith, past, all))
-    | inr within ↦ sym (right j (omega (arith, from, le)) within) ∙ none j le within
+    | inr within ↦ (let same : lo + (j - lo) ≡ j = omega (arith, le) in
+        subst (λ i. fits_at ps i cs ≡ false) same (sym (right (j - lo) (omega (arith, within, le))) ∙ none (j - lo) (omega (arith, le)) (omega (arith, within, le))))
   ]
 
-  pub spread-none : ((k : ℕ) → lo / 64 ≤ k / 64 → k ≤ hi → truth_in words k ≡ false)
-      → ((k : ℕ) → lo / 64 ≤ k → k < hi / 64 + 1 → get_or after k 0 ≡ 0) → AreRight after lo hi (37 ∷ ps) cs
-  spread-none none each = λ k from to.
-      ap (λ w. has_bit w (k % 64)) (each (k / 64) (omega (arith, from)) (omega (arith, to))) ∙ bit-zero (k % 64)
-      ∙ sym (run-nowhere ps k cs (none-later k from (λ j le within. none j (omega (arith, from, le)) within)))
+  pub spread-none : ((k : ℕ) → k ≤ reach → truth_in words k ≡ false) → ((k : ℕ) → 0 ≤ k → k < reach / 64 + 1 → get_or after k 0 ≡ 0) → AreRight after reach lo (37 ∷ ps) cs
+  spread-none none each = λ k to.
+      ap (λ w. has_bit w (k % 64)) (each (k / 64) (omega arith) (omega (arith, to))) ∙ bit-zero (k % 64) ∙ sym (run-nowhere ps (lo + k) cs (none-later k (λ j le within. none j within)))
 
-  pub spread-some : (last : ℕ) → lo / 64 ≤ last / 64 → last ≤ hi → truth_in words last ≡ true
-      → ((k : ℕ) → last < k → k ≤ hi → truth_in words k ≡ false)
-      → ((k : ℕ) → lo / 64 ≤ k / 64 → k ≤ last → truth_in after k ≡ true)
-      → ((k : ℕ) → last < k → k / 64 < hi / 64 + 1 → truth_in after k ≡ false) → AreRight after lo hi (37 ∷ ps) cs
-  spread-some last begin within is later before behind = λ k from to. elim (cases_lt last k) [
-    | inl past ↦ behind k past (omega (arith, to)) ∙ sym (run-nowhere ps k cs (none-later k from (λ j le most. later j (omega (arith, past, le)) most)))
-    | inr le ↦ before k (omega (arith, from)) le ∙ sym (run-before ps k last cs le (sym (right last (omega (arith, from, le)) within) ∙ is))
+  pub spread-some : (last : ℕ) → last ≤ reach → truth_in words last ≡ true
+      → ((k : ℕ) → last < k → k ≤ reach → truth_in words k ≡ false)
+      → ((k : ℕ) → k ≤ last → truth_in after k ≡ true)
+      → ((k : ℕ) → last < k → k / 64 < reach / 64 + 1 → truth_in after k ≡ false) → AreRight after reach lo (37 ∷ ps) cs
+  spread-some last within is later before behind = λ k to. elim (cases_lt last k) [
+    | inl past ↦ behind k past (omega (arith, to)) ∙ sym (run-nowhere ps (lo + k) cs (none-later k (λ j le most. later j (omega (arith, past, le)) most)))
+    | inr le ↦ before k le ∙ sym (run-before ps (lo + k) (lo + last) cs (omega (arith, le)) (sym (right last within) ∙ is))
   ]

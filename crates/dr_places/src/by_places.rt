@@ -1,4 +1,4 @@
-ghost use Rattle.std.specs.Prelude.{◌≡◌, ◌≢◌, ◌+◌, ◌/◌, ℕ, true, false, length, IfOk};
+ghost use Rattle.std.specs.Prelude.{◌≡◌, ◌≢◌, ◌+◌, ◌<◌, ◌/◌, ℕ, true, false, length, IfOk};
 ghost use Rattle.std.specs.Str.{chars};
 ghost use Rattle.dr_like.specs.Like.{fits};
 ghost use Rattle.dr_places.specs.Places.{truth_in};
@@ -28,23 +28,24 @@ fn is_fitting(alloc: Global, pattern: &[char], places: &TextPlaces) -> Result<bo
     if taken > count {
         return Ok(false);
     }
-    let mut words = end_of(alloc, count)?;
+    let spare = count - taken;
+    let mut words = only(alloc, spare)?;
     let search = Search {
         pattern,
         places,
         first_run: first_run(pattern),
-        spare: count - taken,
+        spare,
     };
     Ok(search.walk(words.as_mut_slice()))
 }
 
-// The set of the end of a text of so many characters.
-fn end_of(alloc: Global, count: usize) -> Result<Vec<u64>, AllocError>
-    ensures long { IfOk result (λ w. length w.items ≡ count / 64 + 2) }
-    ensures same { IfOk result (λ w. truth_in w.items count ≡ true) }
-    ensures others { IfOk result (λ w. (k : ℕ) → k ≢ count → truth_in w.items k ≡ false) }
+// The set of one place.
+fn only(alloc: Global, place: usize) -> Result<Vec<u64>, AllocError>
+    ensures long { IfOk result (λ w. place / 64 < length w.items) }
+    ensures same { IfOk result (λ w. truth_in w.items place ≡ true) }
+    ensures others { IfOk result (λ w. (k : ℕ) → k ≢ place → truth_in w.items k ≡ false) }
 {
-    let mut set = PlaceSet::none(alloc, count)?;
-    set.insert(count);
+    let mut set = PlaceSet::none(alloc, place)?;
+    set.insert(place);
     Ok(set.into_words())
 }

@@ -1,4 +1,4 @@
-ghost use Rattle.std.specs.Prelude.{◌≡◌, ◌≤◌, ◌<◌, ◌&&◌, ◌+◌, ◌/◌, ◌%◌, ℕ, true, false, length, get_or, eqb, replicate, IfOk};
+ghost use Rattle.std.specs.Prelude.{◌≡◌, ◌≤◌, ◌<◌, ◌&&◌, ◌+◌, ◌/◌, ◌%◌, ◌⊎◌, ℕ, true, false, length, get_or, eqb, replicate, IfOk};
 ghost use Rattle.dr_places.specs.Places.{truth_in};
 ghost use Rattle.dr_places.specs.Digits.{AreDigits, AreMarked, IsDigitOf};
 
@@ -35,20 +35,30 @@ impl Digits {
         })
     }
 
-    // Keeps of some places, in the words from one up to another, those where the digit is that of a letter.
-    pub fn keep(&self, letters: &[char], words: &mut [u64], letter: char, from: usize, end: usize)
+    // Keeps of some places, counted from lo on, in the words from one up to another, those where the digit is that of a letter.
+    pub fn keep(
+        &self,
+        letters: &[char],
+        words: &mut [u64],
+        letter: char,
+        lo: usize,
+        from: usize,
+        end: usize,
+    )
         requires digits { AreDigits letters.now self.now.divisor self.now.count self.now.sets.items }
         requires divisor { 0 < self.now.divisor }
         requires count { 0 < self.now.count }
         requires order { from ≤ end }
         requires words { end ≤ length words.old }
-        requires long { length words.old ≡ length letters.now / 64 + 2 }
+        requires places { lo / 64 + end ≤ length letters.now / 64 + 1 }
         ensures count { length words.new ≡ length words.old }
-        ensures each { (k : ℕ) → from ≤ k / 64 → k / 64 < end → k < length letters.now → truth_in words.new k ≡ (truth_in words.old k && eqb (get_or letters.now k 0 / self.now.divisor % self.now.count) (letter / self.now.divisor % self.now.count)) }
+        ensures each { (k : ℕ) → from ≤ k / 64 → k / 64 < end → lo + k < length letters.now → truth_in words.new k ≡ (truth_in words.old k && eqb (get_or letters.now (lo + k) 0 / self.now.divisor % self.now.count) (letter / self.now.divisor % self.now.count)) }
+        ensures others { (k : ℕ) → (k < from) ⊎ (end ≤ k) → get_or words.new k 0 ≡ get_or words.old k 0 }
     {
         let digit = digit_of(letter, self.divisor, self.count);
         if !self.sets.is_empty() {
-            keep_bits(words, self.sets[digit].words(), from, end);
+            let set = self.sets[digit].words();
+            keep_bits(words, &set[lo / 64..], lo % 64, from, end);
             return;
         }
         if digit == 0 {

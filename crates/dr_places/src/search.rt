@@ -5,7 +5,7 @@ ghost use Rattle.dr_places.specs.Places.{AreRight, IsSearch, letters_in, reach_a
 use crate::letters::is_run;
 use crate::runs::spread;
 use crate::text_places::TextPlaces;
-use crate::words::{is_set, shift_bits};
+use crate::words::is_set;
 
 /// A pattern that is gone through from its end, and the text whose places are told of: where the first run of the pattern is, and
 /// how many characters the text has more than the pattern has letters that each stand for one.
@@ -21,8 +21,8 @@ impl<'t> Search<'t> {
     // Whether the whole text fits the pattern, from the set of its end.
     pub fn walk(&self, words: &mut [u64]) -> bool
         requires search { IsSearch self.now.pattern.now self.now.places.now self.now.first_run self.now.spare }
-        requires long { length words.old ≡ length self.now.places.now / 64 + 2 }
-        requires right { AreRight words.old 0 (length self.now.places.now) [] self.now.places.now }
+        requires words { self.now.spare / 64 < length words.old }
+        requires right { AreRight words.old self.now.spare (letters_in self.now.pattern.now) [] self.now.places.now }
         ensures { result ≡ fits self.now.pattern.now self.now.places.now }
     {
         let mut at = self.pattern.len();
@@ -39,23 +39,23 @@ impl<'t> Search<'t> {
     fn step(&self, words: &mut [u64], at: usize, lo: usize) -> usize
         requires search { IsSearch self.now.pattern.now self.now.places.now self.now.first_run self.now.spare }
         requires within { at < length self.now.pattern.now }
-        requires long { length words.old ≡ length self.now.places.now / 64 + 2 }
+        requires words { self.now.spare / 64 < length words.old }
         requires before { lo ≡ letters_in (take (at + 1) self.now.pattern.now) }
-        requires right { AreRight words.old lo (lo + reach_at self.now.first_run self.now.spare (at + 1)) (drop (at + 1) self.now.pattern.now) self.now.places.now }
+        requires right { AreRight words.old (reach_at self.now.first_run self.now.spare (at + 1)) lo (drop (at + 1) self.now.pattern.now) self.now.places.now }
         ensures count { length words.new ≡ length words.old }
         ensures before { result ≡ letters_in (take at self.now.pattern.now) }
-        ensures right { AreRight words.new result (result + reach_at self.now.first_run self.now.spare at) (drop at self.now.pattern.now) self.now.places.now }
+        ensures right { AreRight words.new (reach_at self.now.first_run self.now.spare at) result (drop at self.now.pattern.now) self.now.places.now }
     {
         let letter = self.pattern[at];
         if letter != '%' {
             let before = lo - 1;
-            step_back(self.places, words, letter, before, before + self.reach(at));
+            step_back(self.places, words, letter, before, self.reach(at));
             return before;
         }
         if is_run(self.pattern, at + 1) {
             return lo;
         }
-        spread(words, lo, lo + self.spare);
+        spread(words, self.spare);
         lo
     }
 
@@ -68,17 +68,15 @@ impl<'t> Search<'t> {
 }
 
 // What a letter that is no run, before some places, makes of them: the places before these where the letter fits.
-fn step_back(places: &TextPlaces, words: &mut [u64], letter: char, lo: usize, hi: usize)
+fn step_back(places: &TextPlaces, words: &mut [u64], letter: char, lo: usize, reach: usize)
     requires itself { (letter == 37) ≡ false }
-    requires order { lo ≤ hi }
-    requires within { hi < length places.now }
-    requires long { length words.old ≡ length places.now / 64 + 2 }
+    requires within { lo + reach < length places.now }
+    requires words { reach / 64 < length words.old }
     ensures count { length words.new ≡ length words.old }
-    ensures right { (pattern : List ℕ) → AreRight words.old (lo + 1) (hi + 1) pattern places.now → AreRight words.new lo hi (letter ∷ pattern) places.now }
+    ensures right { (pattern : List ℕ) → AreRight words.old reach (lo + 1) pattern places.now → AreRight words.new reach lo (letter ∷ pattern) places.now }
 {
-    shift_bits(words, lo / 64, hi / 64 + 1);
     if letter == '_' {
         return;
     }
-    places.keep(words, letter, lo / 64, hi / 64 + 1);
+    places.keep(words, letter, lo, 0, reach / 64 + 1);
 }

@@ -54,18 +54,18 @@ impl TextPlaces {
         self.letters.len()
     }
 
-    // Keeps of some places, in the words from one up to another, those where the text has a letter.
-    pub fn keep(&self, words: &mut [u64], letter: char, from: usize, end: usize)
+    // Keeps of some places, counted from lo on, in the words from one up to another, those where the text has a letter.
+    pub fn keep(&self, words: &mut [u64], letter: char, lo: usize, from: usize, end: usize)
         requires order { from ≤ end }
         requires words { end ≤ length words.old }
-        requires long { length words.old ≡ length self.now / 64 + 2 }
+        requires places { lo / 64 + end ≤ length self.now / 64 + 1 }
         ensures count { length words.new ≡ length words.old }
-        ensures each { (k : ℕ) → from ≤ k / 64 → k / 64 < end → k < length self.now → truth_in words.new k ≡ (truth_in words.old k && (get_or self.now k 0 == letter)) }
+        ensures each { (k : ℕ) → from ≤ k / 64 → k / 64 < end → lo + k < length self.now → truth_in words.new k ≡ (truth_in words.old k && (get_or self.now (lo + k) 0 == letter)) }
     {
         let letters = self.letters.as_slice();
-        self.lowest.keep(letters, words, letter, from, end);
-        self.second.keep(letters, words, letter, from, end);
-        self.third.keep(letters, words, letter, from, end);
-        self.highest.keep(letters, words, letter, from, end);
+        self.lowest.keep(letters, words, letter, lo, from, end);
+        self.second.keep(letters, words, letter, lo, from, end);
+        self.third.keep(letters, words, letter, lo, from, end);
+        self.highest.keep(letters, words, letter, lo, from, end);
     }
 }

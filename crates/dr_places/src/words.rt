@@ -1,37 +1,27 @@
 ghost use Rattle.std.specs.Prelude.{◌≡◌, ◌<◌, ◌≤◌, ◌≢◌, ◌+◌, ◌⊎◌, ℕ, true, false, length, get_or, set, MatchOption};
-ghost use Rattle.std.specs.Int.RustNames.{bit_and};
-ghost use Rattle.dr_places.specs.Places.{has_bit, IsMoved};
+ghost use Rattle.dr_places.specs.Places.{has_bit, bit_from, IsKept};
 
-// Moves each bit of the words from a place up to another one place down.
-pub fn shift_bits(words: &mut [u64], from: usize, end: usize)
-    requires order { from ≤ end }
-    requires words { end < length words.old }
-    ensures count { length words.new ≡ length words.old }
-    ensures each { (k : ℕ) → from ≤ k → k < end → IsMoved (get_or words.old k 0) (get_or words.old (k + 1) 0) (get_or words.new k 0) }
-{
-    for k in from..end {
-        words[k] = moved(words[k], words[k + 1]);
-    }
-}
-
-// A word with each bit one place down, and the first of the next word at the last.
-fn moved(word: u64, next: u64) -> u64
-    ensures { IsMoved word next result }
-{
-    (word >> 1) | (next << 63)
-}
-
-// Keeps of each word the bits that the word at the same place among others has.
-pub fn keep_bits(words: &mut [u64], others: &[u64], from: usize, end: usize)
+// Keeps of each word, from a place up to another, the bits that other words have, from a place in the first of these on.
+pub fn keep_bits(words: &mut [u64], others: &[u64], bits: usize, from: usize, end: usize)
+    requires bits { bits < 64 }
     requires order { from ≤ end }
     requires words { end ≤ length words.old }
-    requires others { end ≤ length others.now }
+    requires others { end < length others.now }
     ensures count { length words.new ≡ length words.old }
-    ensures each { (k : ℕ) → from ≤ k → k < end → get_or words.new k 0 ≡ bit_and (get_or words.old k 0) (get_or others.now k 0) }
+    ensures each { (k : ℕ) → from ≤ k → k < end → IsKept (get_or others.now k 0) (get_or others.now (k + 1) 0) bits (get_or words.old k 0) (get_or words.new k 0) }
+    ensures others { (k : ℕ) → (k < from) ⊎ (end ≤ k) → get_or words.new k 0 ≡ get_or words.old k 0 }
 {
     for k in from..end {
-        words[k] &= others[k];
+        words[k] &= word_from(others[k], others[k + 1], bits);
     }
+}
+
+// The bits of a word from a place on, and behind them the first of the next one.
+fn word_from(word: u64, next: u64, bits: usize) -> u64
+    requires { bits < 64 }
+    ensures { (k : ℕ) → k < 64 → has_bit result k ≡ bit_from word next bits k }
+{
+    (word >> bits) | ((next << 1) << (63 - bits))
 }
 
 // Makes each word from a place up to another the same.

@@ -3,9 +3,8 @@ use Rattle.dr_places.proofs.search.step_back.Goals as goal
 
 pub returns-then-letter-eq95-clause-right : goal.returns-then-letter-eq95-clause-right
 returns-then-letter-eq95-clause-right c pattern right =
-    gap-back c.args.words.now c.shift_bits.new.words c.args.lo c.args.hi c.args.places.now c.args.letter c.requires.itself c.shift_bits.ensures.each c.if-letter-eq95.true pattern right
+    gap-back c.args.words.now c.args.reach c.args.lo c.args.places.now c.args.letter c.requires.itself c.if-letter-eq95.true pattern right
 
 pub returns-clause-right : goal.returns-clause-right
 returns-clause-right c pattern right =
-    letter-back c.args.words.now c.shift_bits.new.words c.args.lo c.args.hi c.args.places.now c.args.letter c.requires.itself c.shift_bits.ensures.each
-    c.keep.new.words c.if-letter-eq95.false c.requires.within c.keep.ensures.each pattern right
+    letter-back c.args.words.now c.args.reach c.args.lo c.args.places.now c.args.letter c.requires.itself c.keep.new.words c.if-letter-eq95.false c.requires.within c.keep.ensures.each pattern right
