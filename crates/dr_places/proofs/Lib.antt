@@ -5,3 +5,4 @@ pub mod DigitLemmas
 pub mod LetterLemmas
 pub mod RunLemmas
 pub mod StepLemmas
+pub mod EmptyLemmas

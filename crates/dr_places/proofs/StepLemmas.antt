@@ -1,8 +1,9 @@
 -- A pattern that is gone through from its end, letter by letter.
-use Rattle.std.proofs.Common.{◌≡◌, ◌≢◌, ◌∙◌, sym, refl, ap, subst, ℕ, suc, ◌+◌, ◌-◌, ◌/◌, ◌<◌, ◌≤◌, ◌==◌, ◌&&◌, Bool, true, false, if◌then◌else◌, List, [], ◌∷◌, length, get_or, take, drop, nat_lt, true≢false, arith}
+use Rattle.std.proofs.Common.{◌≡◌, ◌≢◌, ◌∙◌, sym, refl, ap, subst, ℕ, zero, suc, ◌+◌, ◌-◌, ◌/◌, ◌<◌, ◌≤◌, ◌==◌, ◌&&◌, Bool, true, false, if◌then◌else◌, List, [], ◌∷◌, length, get_or, take, drop, nat_lt, true≢false, arith}
 use Rattle.std.proofs.lemmas.Bool.{eqb-true}
 use Rattle.std.proofs.lemmas.Bool.Decides.{nat_tests}
 use Rattle.std.proofs.lemmas.List.{drop_more}
+use Rattle.dr_like.specs.Like.{fits}
 use Rattle.dr_places.specs.Places.{truth_in, fits_at, letters_in, AreRight, IsSearch, reach_at}
 use Rattle.dr_places.proofs.FitLemmas.{letter-at, gap-at, runs-at, letters-step, letters-cut, letter-more, run-more}
 
@@ -97,3 +98,8 @@ module _ (pattern text : List ℕ) (f w at lo : ℕ) (search : IsSearch pattern 
         let two : rest ≡ 37 ∷ drop (at + 1 + 1) pattern = drop_more pattern (at + 1) 0 next ∙ ap (λ p. p ∷ drop (at + 1 + 1) pattern) again in
         run-told words (λ k to. run-asked words right k to ∙ ap (λ ps. fits_at ps (lo + k) text) two ∙ sym (runs-at (drop (at + 1 + 1) pattern) (lo + k) text)
         ∙ ap (λ ps. fits_at (37 ∷ ps) (lo + k) text) (sym two))
+
+-- at the front of the pattern
+pub told-all : (words : List ℕ) (pattern text : List ℕ) (reach at lo : ℕ) → at ≤ 0 → lo ≡ letters_in (take at pattern) → AreRight words reach lo (drop at pattern) text → truth_in words 0 ≡ fits pattern text
+told-all words pattern text reach zero lo le before right = let start : lo + 0 ≡ 0 = omega (arith, before) in right 0 (omega arith) ∙ ap (λ i. fits_at pattern i text) start
+told-all words pattern text reach (suc at) lo le before right = absurd (omega (arith, le))

@@ -5,7 +5,7 @@ ghost use Rattle.dr_places.specs.Places.{AreRight, IsSearch, letters_in, reach_a
 use crate::letters::is_run;
 use crate::runs::spread;
 use crate::text_places::TextPlaces;
-use crate::words::is_set;
+use crate::words::{is_empty, is_set};
 
 /// A pattern that is gone through from its end, and the text whose places are told of: where the first run of the pattern is, and
 /// how many characters the text has more than the pattern has letters that each stand for one.
@@ -18,7 +18,7 @@ pub struct Search<'t> {
 }
 
 impl<'t> Search<'t> {
-    // Whether the whole text fits the pattern, from the set of its end.
+    // Whether the whole text fits the pattern, from the set of its end. Where no place is left, none will be.
     pub fn walk(&self, words: &mut [u64]) -> bool
         requires search { IsSearch self.now.pattern.now self.now.places.now self.now.first_run self.now.spare }
         requires words { self.now.spare / 64 < length words.old }
@@ -28,6 +28,9 @@ impl<'t> Search<'t> {
         let mut at = self.pattern.len();
         let mut lo = self.places.count() - self.spare;
         while at > 0 {
+            if at % 64 == 0 && is_empty(words) {
+                return false;
+            }
             at -= 1;
             lo = self.step(words, at, lo);
         }

@@ -37,6 +37,18 @@ pub fn put_words(words: &mut [u64], from: usize, end: usize, word: u64)
     }
 }
 
+// Whether no word has a bit.
+pub fn is_empty(words: &[u64]) -> bool
+    ensures { result ≡ true → (k : ℕ) → get_or words.now k 0 ≡ 0 }
+{
+    for k in 0..words.len() {
+        if words[k] != 0 {
+            return false;
+        }
+    }
+    true
+}
+
 // Whether a word has the bit at a place, counted from the lowest.
 pub fn is_set(word: u64, k: usize) -> bool
     requires { k < 64 }
