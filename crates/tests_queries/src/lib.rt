@@ -1,4 +1,4 @@
-//! Tests of the public calls of `dr_patterns`, `dr_filter`, `dr_having`, `dr_order` and `dr_ask`, value by value and refusal by refusal.
+//! Tests of the public calls of `dr_places`, `dr_patterns`, `dr_filter`, `dr_having`, `dr_order` and `dr_ask`, value by value and refusal by refusal.
 //! They stand here so that no crate below them is proved once more with its tests.
 #![tactic(auto)]
 

@@ -1,0 +1,90 @@
+-- The bits of a word.
+use Rattle.std.proofs.Common.{inl, inr, ◌≡◌, ◌∙◌, sym, refl, ap, ap₂, ℕ, zero, suc, ◌+◌, ◌/◌, ◌%◌, ◌^◌, ◌*◌, ◌-◌, ◌<◌, ◌≤◌, ◌≢◌, ◌&&◌, Bool, min, max, true, false, eqb, nat_lt, arith, if◌then◌else◌}
+use Rattle.std.specs.Int.{bit_at, w64}
+use Rattle.std.specs.Int.RustNames.{bit_and, bit_or}
+use Rattle.std.proofs.lemmas.Bool.{cases_lt}
+use Rattle.std.proofs.lemmas.Nat.{div-add-mod', pow_pos, shr-shr}
+use Rattle.std.proofs.lemmas.Nat.Bits.{bit_at_and, bit_at_or, bit_at_set_same, bit_at_set_other, bit_at-lt, bit_at_ones, bit_at_ones_above, bit_at-zero, bit_at_above, bit_at_cat_low, bit_at_cat_high, ones_shr}
+use Rattle.std.proofs.lemmas.Bool.Decides.{nat_tests}
+use Rattle.dr_places.specs.Places.{has_bit, bit_from}
+
+both : (a b : ℕ) → a < 2 → b < 2 → eqb (min a b) 1 ≡ (eqb a 1 && eqb b 1)
+both zero zero p q = refl
+both zero (suc zero) p q = refl
+both (suc zero) zero p q = refl
+both (suc zero) (suc zero) p q = refl
+both (suc (suc a)) b p q = absurd (omega (arith, p))
+both zero (suc (suc b)) p q = absurd (omega (arith, q))
+both (suc zero) (suc (suc b)) p q = absurd (omega (arith, q))
+
+pub bit-and : (w v k : ℕ) → has_bit (bit_and w v) k ≡ (has_bit w k && has_bit v k)
+bit-and w v k = ap (λ n. eqb n 1) (bit_at_and w v k) ∙ both (bit_at w k) (bit_at v k) (bit_at-lt w k) (bit_at-lt v k)
+
+pub bit-zero : (k : ℕ) → has_bit 0 k ≡ false
+bit-zero k = ap (λ n. eqb n 1) (bit_at-zero k)
+
+pub bit-set : (w k : ℕ) → k < 64 → has_bit (bit_or w (1 * 2 ^ k % 2 ^ 64)) k ≡ true
+bit-set w k lt = ap (λ n. eqb n 1) (bit_at_set_same w64 w k lt)
+
+pub bit-other : (w k j : ℕ) → k < 64 → j ≢ k → has_bit (bit_or w (1 * 2 ^ k % 2 ^ 64)) j ≡ has_bit w j
+bit-other w k j lt apart = ap (λ n. eqb n 1) (bit_at_set_other w64 w k lt j apart)
+
+-- ---- the first bits of a word
+
+ones : (k : ℕ) → k < 64 → (2 ^ 64 - 1) / 2 ^ (63 - k) ≡ 2 ^ (k + 1) - 1
+ones k lt = let same : 64 - (63 - k) ≡ k + 1 = omega (arith, lt) in ones_shr 64 (63 - k) (omega (arith, lt)) ∙ ap (λ n. 2 ^ n - 1) same
+
+pub ones-within : (k j : ℕ) → k < 64 → j ≤ k → has_bit ((2 ^ 64 - 1) / 2 ^ (63 - k)) j ≡ true
+ones-within k j lt le = ap (λ w. has_bit w j) (ones k lt) ∙ ap (λ n. eqb n 1) (bit_at_ones (k + 1) j (omega (arith, le)))
+
+pub ones-behind : (k j : ℕ) → k < 64 → k < j → has_bit ((2 ^ 64 - 1) / 2 ^ (63 - k)) j ≡ false
+ones-behind k j lt less = ap (λ w. has_bit w j) (ones k lt) ∙ ap (λ n. eqb n 1) (bit_at_ones_above (k + 1) j (omega (arith, less)))
+
+-- ---- the bits of a word from a place on
+
+-- what doesn't fit into a word is none of its bits
+low : (x j : ℕ) → j < 64 → bit_at (x % 2 ^ 64) j ≡ bit_at x j
+low x j lt = sym (bit_at_cat_low (x / 2 ^ 64) 64 (x % 2 ^ 64) j lt) ∙ ap (λ n. bit_at n j) (div-add-mod' x (2 ^ 64))
+
+up-low : (x c j : ℕ) → j < c → bit_at (x * 2 ^ c) j ≡ 0
+up-low x c j lt = ap (λ n. bit_at n j) (sym (plus-zero (x * 2 ^ c))) ∙ bit_at_cat_low x c 0 j lt ∙ bit_at-zero j
+  where
+    plus-zero : (n : ℕ) → n + 0 ≡ n
+    plus-zero n = omega arith
+
+up-high : (x c j : ℕ) → c ≤ j → bit_at (x * 2 ^ c) j ≡ bit_at x (j - c)
+up-high x c j le = ap (λ n. bit_at n j) (sym (plus-zero (x * 2 ^ c))) ∙ bit_at_cat_high x c 0 j (pow_pos c) le
+  where
+    plus-zero : (n : ℕ) → n + 0 ≡ n
+    plus-zero n = omega arith
+
+down : (w b j : ℕ) → bit_at (w / 2 ^ b) j ≡ bit_at w (j + b)
+down w b j = let order : b + j ≡ j + b = omega arith in ap (λ n. n % 2) (shr-shr w b j) ∙ ap (bit_at w) order
+
+next-low : (v b j : ℕ) → b < 64 → j < 64 → j + b < 64 → bit_at (v * 2 ^ 1 % 2 ^ 64 * 2 ^ (63 - b) % 2 ^ 64) j ≡ 0
+next-low v b j within lt less = low (v * 2 ^ 1 % 2 ^ 64 * 2 ^ (63 - b)) j lt ∙ elim (cases_lt j (63 - b)) [
+  | inl under ↦ up-low (v * 2 ^ 1 % 2 ^ 64) (63 - b) j under
+  | inr le ↦ (let last : j - (63 - b) ≡ 0 = omega (arith, within, less, le) in
+      up-high (v * 2 ^ 1 % 2 ^ 64) (63 - b) j le ∙ ap (bit_at (v * 2 ^ 1 % 2 ^ 64)) last ∙ low (v * 2 ^ 1) 0 (omega arith) ∙ up-low v 1 0 (omega arith))
+]
+
+next-high : (v b j : ℕ) → b < 64 → j < 64 → 64 ≤ j + b → bit_at (v * 2 ^ 1 % 2 ^ 64 * 2 ^ (63 - b) % 2 ^ 64) j ≡ bit_at v (j + b - 64)
+next-high v b j within lt more =
+    let same : j - (63 - b) - 1 ≡ j + b - 64 = omega (arith, within, more) in
+    low (v * 2 ^ 1 % 2 ^ 64 * 2 ^ (63 - b)) j lt ∙ up-high (v * 2 ^ 1 % 2 ^ 64) (63 - b) j (omega (arith, within, more))
+    ∙ low (v * 2 ^ 1) (j - (63 - b)) (omega (arith, lt)) ∙ up-high v 1 (j - (63 - b)) (omega (arith, within, more)) ∙ ap (bit_at v) same
+
+pub word-from : (w v b : ℕ) → w < 2 ^ 64 → b < 64 → (j : ℕ) → j < 64 → has_bit (bit_or (w / 2 ^ b) (v * 2 ^ 1 % 2 ^ 64 * 2 ^ (63 - b) % 2 ^ 64)) j ≡ bit_from w v b j
+word-from w v b word within j lt = at (nat_lt (j + b) 64) refl
+  where
+    at : (t : Bool) → nat_lt (j + b) 64 ≡ t → has_bit (bit_or (w / 2 ^ b) (v * 2 ^ 1 % 2 ^ 64 * 2 ^ (63 - b) % 2 ^ 64)) j ≡ (if t then has_bit w (j + b) else has_bit v (j + b - 64))
+    at true is =
+        let less : j + b < 64 = grind (arith, nat_tests) in
+        ap (λ n. eqb n 1) (bit_at_or (w / 2 ^ b) (v * 2 ^ 1 % 2 ^ 64 * 2 ^ (63 - b) % 2 ^ 64) j ∙ ap₂ max (down w b j) (next-low v b j within lt less) ∙ omega arith)
+    at false is =
+        let more : 64 ≤ j + b = grind (arith, nat_tests) in
+        ap (λ n. eqb n 1) (bit_at_or (w / 2 ^ b) (v * 2 ^ 1 % 2 ^ 64 * 2 ^ (63 - b) % 2 ^ 64) j
+        ∙ ap₂ max (down w b j ∙ bit_at_above w 64 (j + b) word more) (next-high v b j within lt more) ∙ omega arith)
+
+pub bit-ones : (k : ℕ) → k < 64 → has_bit (2 ^ 64 - 1) k ≡ true
+bit-ones k lt = ap (λ n. eqb n 1) (bit_at_ones 64 k lt)

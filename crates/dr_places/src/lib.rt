@@ -1,0 +1,14 @@
+//! Whether a text fits a pattern of `like`, told of all its places at once, a bit for each place, 64 to a word. It takes memory, and
+//! for a long text with a long pattern far less time than going from place to place.
+#![tactic(auto)]
+
+mod by_places;
+mod digits;
+mod letters;
+mod place_set;
+mod runs;
+mod search;
+mod text_places;
+mod words;
+
+pub use by_places::fits_by_places;

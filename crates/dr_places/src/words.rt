@@ -1,0 +1,94 @@
+ghost use Rattle.std.specs.Prelude.{◌≡◌, ◌<◌, ◌≤◌, ◌≢◌, ◌+◌, ◌⊎◌, ℕ, true, false, length, get_or, set, MatchOption};
+ghost use Rattle.dr_places.specs.Places.{has_bit, bit_from, IsKept};
+
+// Keeps of each word, from a place up to another, the bits that other words have, from a place in the first of these on.
+pub fn keep_bits(words: &mut [u64], others: &[u64], bits: usize, from: usize, end: usize)
+    requires bits { bits < 64 }
+    requires order { from ≤ end }
+    requires words { end ≤ length words.old }
+    requires others { end < length others.now }
+    ensures count { length words.new ≡ length words.old }
+    ensures each { (k : ℕ) → from ≤ k → k < end → IsKept (get_or others.now k 0) (get_or others.now (k + 1) 0) bits (get_or words.old k 0) (get_or words.new k 0) }
+    ensures others { (k : ℕ) → (k < from) ⊎ (end ≤ k) → get_or words.new k 0 ≡ get_or words.old k 0 }
+{
+    for k in from..end {
+        words[k] &= word_from(others[k], others[k + 1], bits);
+    }
+}
+
+// The bits of a word from a place on, and behind them the first of the next one.
+fn word_from(word: u64, next: u64, bits: usize) -> u64
+    requires { bits < 64 }
+    ensures { (k : ℕ) → k < 64 → has_bit result k ≡ bit_from word next bits k }
+{
+    (word >> bits) | ((next << 1) << (63 - bits))
+}
+
+// Makes each word from a place up to another the same.
+pub fn put_words(words: &mut [u64], from: usize, end: usize, word: u64)
+    requires order { from ≤ end }
+    requires words { end ≤ length words.old }
+    ensures count { length words.new ≡ length words.old }
+    ensures each { (k : ℕ) → from ≤ k → k < end → get_or words.new k 0 ≡ word }
+    ensures others { (k : ℕ) → (k < from) ⊎ (end ≤ k) → get_or words.new k 0 ≡ get_or words.old k 0 }
+{
+    for k in from..end {
+        words[k] = word;
+    }
+}
+
+// Whether no word has a bit.
+pub fn is_empty(words: &[u64]) -> bool
+    ensures { result ≡ true → (k : ℕ) → get_or words.now k 0 ≡ 0 }
+{
+    for k in 0..words.len() {
+        if words[k] != 0 {
+            return false;
+        }
+    }
+    true
+}
+
+// Whether a word has the bit at a place, counted from the lowest.
+pub fn is_set(word: u64, k: usize) -> bool
+    requires { k < 64 }
+    ensures { result ≡ has_bit word k }
+{
+    (word >> k) & 1 == 1
+}
+
+// A word with the bit at a place.
+pub fn with_bit(word: u64, k: usize) -> u64
+    requires { k < 64 }
+    ensures same { has_bit result k ≡ true }
+    ensures others { (j : ℕ) → j ≢ k → has_bit result j ≡ has_bit word j }
+{
+    word | (1 << k)
+}
+
+// A word with the bits up to a place.
+pub fn ones_to(k: usize) -> u64
+    requires { k < 64 }
+    ensures within { (j : ℕ) → j ≤ k → has_bit result j ≡ true }
+    ensures behind { (j : ℕ) → k < j → has_bit result j ≡ false }
+{
+    u64::MAX >> (63 - k)
+}
+
+// The last bit of a word before a place.
+pub fn last_bit(word: u64, end: usize) -> Option<usize>
+    requires { end ≤ 64 }
+    ensures { MatchOption result ((j : ℕ) → j < end → has_bit word j ≡ false) (λ b. (b < end) × (has_bit word b ≡ true) × ((j : ℕ) → b < j → j < end → has_bit word j ≡ false)) }
+{
+    if word == 0 {
+        return None;
+    }
+    let mut k = end;
+    while k > 0 {
+        k -= 1;
+        if is_set(word, k) {
+            return Some(k);
+        }
+    }
+    None
+}
