@@ -1,4 +1,4 @@
-ghost use Rattle.std.specs.Prelude.{◌≡◌, ◌<◌, ◌≤◌, ◌&&◌, ◌==◌, ◌+◌, not, true, false, ℕ, List, [], length, get_or, drop, map, IfOk};
+ghost use Rattle.std.specs.Prelude.{◌≡◌, ◌<◌, ◌≤◌, ◌&&◌, ◌==◌, ◌+◌, not, true, false, ℕ, List, [], length, get_or, drop, map, IfOk, OnOk};
 ghost use Rattle.std.specs.List.{list_any, AllByRecursion};
 ghost use Rattle.std.specs.Str.{chars};
 ghost use Rattle.dr_like.specs.Like.{fits as fits_of, is_empty, first_and_rest, letter_fits};
@@ -7,7 +7,8 @@ ghost use Rattle.dr_letters.specs.Codes.{Keeps, code_at, first_code};
 ghost use Rattle.dr_letters.specs.States.{AreCodes, AreLong, is_short};
 
 use crate::place_letters::PlaceLetters;
-use dr_like::{fits, split_first};
+use dr_like::split_first;
+use dr_places::fits;
 use dr_rowindex::RowSet;
 use std::alloc::{AllocError, Global};
 use std::marker::Model;
@@ -99,15 +100,21 @@ impl<'a> LetterRows<'a> {
     }
 
     // Adds those of the other texts that fit a pattern, each of which is asked by itself.
-    pub(crate) fn insert_long(&self, pattern: &str, set: &mut RowSet)
+    pub(crate) fn insert_long(
+        &self,
+        alloc: Global,
+        pattern: &str,
+        set: &mut RowSet,
+    ) -> Result<(), AllocError>
         requires { Tell (λ t. is_short self.now.1 t && fits_of (chars pattern.now) (chars t)) self.now.0 set.old }
-        ensures { Tell (λ t. fits_of (chars pattern.now) (chars t)) self.now.0 set.new }
+        ensures { OnOk result (Tell (λ t. fits_of (chars pattern.now) (chars t)) self.now.0 set.new) }
     {
         for row in &self.long {
-            if fits(pattern, self.texts[*row]) {
+            if fits(alloc, pattern, self.texts[*row])? {
                 set.insert(*row);
             }
         }
+        Ok(())
     }
 }
 

@@ -9,6 +9,9 @@ use std::alloc::{AllocError, Global};
 // How many patterns are tests of their own at least: fewer are tried where the others are asked.
 const MANY: usize = 32;
 
+// For so many bytes a pattern counts for one more.
+const LONG: usize = 128;
+
 /// Patterns of `like` (Apache Druid documentation, query filters: like) of which a text is to fit one, in two lists: those that are
 /// asked together, and those that are tests of their own.
 #[derive(Drop)]
@@ -20,8 +23,9 @@ pub struct DividedPatterns {
 }
 
 impl DividedPatterns {
-    /// Patterns of which a text is to fit one. Those of no usual form are tests of their own, where they are 32 or more. The only error
-    /// is that memory ran out. It takes time by the bytes of the patterns, and memory by their number.
+    /// Patterns of which a text is to fit one. Those of no usual form are tests of their own, where they are 32 or more; one counts for one
+    /// more for each 128 bytes. The only error is that memory ran out. It takes time by the bytes of the patterns, and memory by their
+    /// number.
     pub fn of(alloc: Global, patterns: Vec<Text>) -> Result<DividedPatterns, AllocError>
         ensures { IfOk result (λ d. (text : List ℕ) → fits_divided d text ≡ fits_some patterns.items text) }
     {
@@ -57,7 +61,7 @@ impl DividedPatterns {
     fn joined_where_few(self, alloc: Global) -> Result<DividedPatterns, AllocError>
         ensures { IfOk result (λ d. (text : List ℕ) → fits_divided d text ≡ fits_divided self text) }
     {
-        if self.tried.len() >= MANY {
+        if are_many(self.tried.as_slice()) {
             return Ok(self);
         }
         let DividedPatterns {
@@ -70,6 +74,15 @@ impl DividedPatterns {
             tried: Vec::new(alloc),
         })
     }
+}
+
+// Whether some patterns are so many, or so long, that many texts are soonest asked for each of them at once.
+fn are_many(patterns: &[Text]) -> bool {
+    let mut count = 0usize;
+    for pattern in patterns {
+        count = count.saturating_add(1 + pattern.as_str().len() / LONG);
+    }
+    count >= MANY
 }
 
 fn divided_by_kind(alloc: Global, patterns: Vec<Text>) -> Result<DividedPatterns, AllocError>

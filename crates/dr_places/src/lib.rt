@@ -3,6 +3,7 @@
 #![tactic(auto)]
 
 mod by_places;
+mod choosing;
 mod digits;
 mod letters;
 mod place_set;
@@ -12,3 +13,4 @@ mod text_places;
 mod words;
 
 pub use by_places::fits_by_places;
+pub use choosing::fits;

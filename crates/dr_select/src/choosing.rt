@@ -1,14 +1,16 @@
 ghost use Rattle.std.specs.Prelude.{◌≡◌, length, map, IfOk};
-ghost use Rattle.dr_predicate.specs.Match.{holds_of};
+ghost use Rattle.dr_predicate.specs.Match.{holds_of, passes};
+ghost use Rattle.dr_predicate.specs.declared.value_test.ValueTest.TheVariants.{Like};
 ghost use Rattle.dr_time.specs.Union.{union_holds};
 ghost use Rattle.dr_filter.specs.Condition.{condition_in, conditions_in, every_matches, some_matches};
 ghost use Rattle.dr_rowindex.specs.Orders.{Adds, Tell};
-ghost use Rattle.dr_select.specs.Rows.{meets};
+ghost use Rattle.dr_select.specs.Rows.{meets, value_of};
 
 use crate::lot::Lot;
 use crate::passing::insert_passing;
 use dr_filter::{Filter, FilterTree};
-use dr_predicate::{DimensionTest, ValueTest};
+use dr_places::fits;
+use dr_predicate::{DimensionTest, ValueTest, value_at};
 use dr_rollup::KeyOf;
 use dr_rowindex::{NumberOrder, RowSet, asks_for_many};
 use dr_time::{Interval, Union};
@@ -73,17 +75,48 @@ fn met_by_some(alloc: Global, filters: &[FilterTree], lot: &Lot<'_>) -> Result<R
     Ok(set)
 }
 
-// The rows whose value passes a test: a pattern is asked of the characters of all values at once, where these were read.
+// The rows whose value passes a test.
 fn passing(alloc: Global, test: &DimensionTest, lot: &Lot<'_>) -> Result<RowSet, AllocError>
     ensures { IfOk result (λ s. Tell (λ row. holds_of test.now row.dims.now) lot.now.rows.now s) }
 {
-    let Some(letters) = lot.letters_at(test.place) else {
-        return passing_in_order(alloc, test, lot);
-    };
     let ValueTest::Like(pattern) = &test.test else {
         return passing_in_order(alloc, test, lot);
     };
-    let set = letters.fitting(alloc, pattern.as_str())?;
+    let set = fitting(alloc, pattern.as_str(), test.place, lot)?;
+    Ok(set)
+}
+
+// The rows whose value fits a pattern: it is asked of the characters of all values at once, where these were read.
+fn fitting(
+    alloc: Global,
+    pattern: &str,
+    place: Option<usize>,
+    lot: &Lot<'_>,
+) -> Result<RowSet, AllocError>
+    ensures { IfOk result (λ s. Tell (λ row. passes (Like pattern.now) (value_of place row)) lot.now.rows.now s) }
+{
+    let Some(letters) = lot.letters_at(place) else {
+        return fitting_by_rows(alloc, pattern, place, lot.rows);
+    };
+    let set = letters.fitting(alloc, pattern)?;
+    Ok(set)
+}
+
+// The same, each row asked by itself.
+fn fitting_by_rows(
+    alloc: Global,
+    pattern: &str,
+    place: Option<usize>,
+    rows: &[KeyOf<'_>],
+) -> Result<RowSet, AllocError>
+    ensures { IfOk result (λ s. Tell (λ row. passes (Like pattern.now) (value_of place row)) rows.now s) }
+{
+    let mut set = RowSet::none(alloc, rows.len())?;
+    for i in 0..rows.len() {
+        if fits(alloc, pattern, value_at(rows[i].dims, place))? {
+            set.insert(i);
+        }
+    }
     Ok(set)
 }
 

@@ -4,6 +4,7 @@
 
 mod asked_for;
 mod choosing;
+mod long_patterns;
 mod lot;
 mod lots;
 mod passing;
