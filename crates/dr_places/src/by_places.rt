@@ -11,6 +11,11 @@ use std::alloc::{AllocError, Global};
 
 /// Whether the whole text fits a pattern (Apache Druid documentation, query filters: like): `%` is any run of characters,
 /// `_` is one Unicode scalar value, every other character is itself. The only error is that memory ran out.
+///
+/// It takes up to 8 bytes of memory for each character of the pattern and 36 for each of the text, and a few thousand besides.
+/// Its time is that of the bytes of both, and for each letter of the pattern that is no `_` that of the characters which the
+/// text has more than the pattern has letters other than `%`, 64 of them at once; twice to four times that where a character of
+/// the text has a number of 128 or more. Where no place of the text is left, it ends at once.
 pub fn fits_by_places(alloc: Global, pattern: &str, text: &str) -> Result<bool, AllocError>
     ensures { IfOk result (λ found. found ≡ fits (chars pattern.now) (chars text.now)) }
 {

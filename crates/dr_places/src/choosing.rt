@@ -5,12 +5,17 @@ ghost use Rattle.dr_like.specs.Like.{fits as fits_of};
 use crate::by_places::fits_by_places;
 use std::alloc::{AllocError, Global};
 
-// From how many pairs of a letter of the pattern and a character of the text on these are told of all places at once.
-const MANY_PAIRS: usize = 1 << 20;
+// From how many pairs of a letter of such pieces and a character of the text on these are told of all places at once.
+const MANY_PAIRS: usize = 1 << 24;
 
-/// Whether the whole text fits a pattern, as `fits` of `dr_like` finds it, or, where the pattern has a `_` and both are long, as
-/// [`fits_by_places`]. The only error is that memory ran out. It takes no memory, and time by the bytes of both and at most 2^20
-/// comparisons, or what [`fits_by_places`] takes.
+// How many times as many bytes as such pieces a pattern may have that is asked so: it takes the text for each of its letters then.
+const SHARE: usize = 16;
+
+/// Whether the whole text fits a pattern, as `fits` of `dr_like` finds it, or as [`fits_by_places`], where that is sooner. The only
+/// error is that memory ran out. What `fits` of `dr_like` may take the product of both for are pieces between two `%` that have a `_`
+/// behind their first other character. Where these have a sixteenth of the bytes of the pattern at least, and more than 2^24 bytes,
+/// times those of the text, it takes the time and memory of [`fits_by_places`]; else no memory, and time by the bytes of both and by
+/// that product.
 pub fn fits(alloc: Global, pattern: &str, text: &str) -> Result<bool, AllocError>
     ensures { IfOk result (λ found. found ≡ fits_of (chars pattern.now) (chars text.now)) }
 {
@@ -20,7 +25,32 @@ pub fn fits(alloc: Global, pattern: &str, text: &str) -> Result<bool, AllocError
     Ok(dr_like::fits(pattern, text))
 }
 
-// Whether a pattern with a `_` and a text are so long that going from place to place might take long.
+// Whether going from place to place might take long.
 fn is_long_for(pattern: &str, text: &str) -> bool {
-    pattern.len().saturating_mul(text.len()) > MANY_PAIRS && pattern.contains('_')
+    if pattern.len().saturating_mul(text.len()) <= MANY_PAIRS {
+        return false;
+    }
+    let bytes = gapped_bytes(pattern);
+    bytes >= pattern.len() / SHARE && bytes.saturating_mul(text.len()) > MANY_PAIRS
+}
+
+// The bytes of the pieces between two `%` that have a `_` behind their first other character.
+fn gapped_bytes(pattern: &str) -> usize {
+    let mut bytes = 0usize;
+    let mut last = 0usize;
+    let mut is_first = true;
+    for piece in pattern.split('%') {
+        bytes = bytes.saturating_add(last);
+        last = if is_first { 0 } else { bytes_if_gapped(piece) };
+        is_first = false;
+    }
+    bytes
+}
+
+fn bytes_if_gapped(piece: &str) -> usize {
+    if piece.trim_start_matches('_').contains('_') {
+        piece.len()
+    } else {
+        0
+    }
 }

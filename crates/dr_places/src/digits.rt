@@ -7,8 +7,8 @@ use crate::place_set::PlaceSet;
 use crate::words::{keep_bits, put_words};
 use std::alloc::{AllocError, Global};
 
-/// One digit of each character of a text, which is written as a number with a digit of its own for each power: the set of the
-/// places where the digit is 0, that of those where it is 1, and so on; none where each character is below the divisor.
+/// One digit of the number of each character of a text, the one of this divisor, which counts so many: the set of the places
+/// where it is 0, that of those where it is 1, and so on; no sets where each number is below the divisor.
 #[derive(Drop)]
 pub struct Digits {
     pub divisor: usize,

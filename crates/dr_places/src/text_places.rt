@@ -7,8 +7,9 @@ use crate::letters::letters_of;
 use std::alloc::{AllocError, Global};
 use std::marker::Model;
 
-/// The characters of a text, and the sets of the places where each digit of theirs is this or that. A contract sees the
-/// characters.
+/// The characters of a text, and the sets of the places where each digit of their numbers is this or that: the lowest digit
+/// counts 128, the next two 32 each, the highest 16. The places of a letter are those that have each of its digits. A contract
+/// sees the characters.
 #[derive(Drop)]
 pub struct TextPlaces {
     letters: Vec<char>,
