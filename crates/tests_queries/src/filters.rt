@@ -1,5 +1,5 @@
 use crate::indexes::filled;
-use crate::rows::{are_kept, is_kept, lent, row_at, rows};
+use crate::rows::{are_kept, is_kept, lent, row_at, rows_of_table};
 use dr_base::Row;
 use dr_filter::Filter;
 use dr_rollup::{Arrived, OpenIndex};
@@ -268,7 +268,7 @@ fn keeps(
 // Which place in the list keeps other rows, the length of the list where none does.
 fn first_other(alloc: Global) -> Result<usize, Fail> {
     let spec = IngestSpec::parse(alloc, SPEC)?;
-    let rows = rows(alloc)?;
+    let rows = rows_of_table(alloc)?;
     let index = filled(alloc, &spec)?;
     for (place, (filter, kept)) in KEPT.iter().enumerate() {
         if !keeps(alloc, spec.schema(), rows.as_slice(), &index, filter, *kept)? {

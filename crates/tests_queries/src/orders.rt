@@ -1,3 +1,5 @@
+ghost use Rattle.std.specs.Prelude.{◌≡◌, length};
+
 use dr_base::Text;
 use dr_dict::TextSet;
 use dr_rowindex::{NumberOrder, RowSet, TextOrder};
@@ -118,15 +120,25 @@ const TEXTS: [&str; 7] = ["b", "", "Äb", "a", "b", "ab", "B"];
 
 // The rows that have one of some texts.
 fn having(alloc: Global, texts: Vec<&str>, wanted: &[&str]) -> Result<RowSet, AllocError> {
-    let count = texts.len();
+    let mut set = RowSet::none(alloc, texts.len())?;
     let order = TextOrder::of(alloc, texts)?;
-    let mut set = RowSet::none(alloc, count)?;
-    if let [text] = wanted {
-        order.insert_equal(alloc, text, &mut set)?;
-        return Ok(set);
-    }
-    order.insert_among(alloc, &set_of(alloc, wanted)?, &mut set)?;
+    put_having(alloc, &order, wanted, &mut set)?;
     Ok(set)
+}
+
+fn put_having(
+    alloc: Global,
+    order: &TextOrder<'_>,
+    wanted: &[&str],
+    set: &mut RowSet,
+) -> Result<(), AllocError>
+    requires { length set.old ≡ length order.now }
+{
+    if let [text] = wanted {
+        return order.insert_equal(alloc, text, set);
+    }
+    let texts = set_of(alloc, wanted)?;
+    order.insert_among(alloc, &texts, set)
 }
 
 fn set_of(alloc: Global, texts: &[&str]) -> Result<TextSet, AllocError> {

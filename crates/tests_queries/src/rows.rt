@@ -39,7 +39,7 @@ pub fn are_kept(set: &RowSet, from: usize, count: usize, kept: u8) -> bool {
 }
 
 /// The rows of the table of filters, again and again.
-pub fn rows(alloc: Global) -> Result<Vec<Row>, AllocError> {
+pub fn rows_of_table(alloc: Global) -> Result<Vec<Row>, AllocError> {
     let mut rows = Vec::new(alloc);
     for place in 0..COUNT {
         let (time, page, lang) = ROWS[row_at(place) % 8];

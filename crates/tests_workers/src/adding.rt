@@ -32,6 +32,7 @@ const SUMS_OF_PAIRS: &str =
 ]},"dimensions":["page"],"aggregations":[{"type":"longSum","name":"added","fieldName":"added"},{"type":"count","name":"cnt"}]}"#;
 
 /// The rows from a place on, up to another.
+#[tactic(auto, using(crate::proofs::Pushing::one_pushed))]
 fn rows_between(alloc: Global, from: u32, to: u32) -> Result<Vec<Row>, AllocError>
     ensures { IfOk result (λ rows. AllByRecursion (λ row. IsInstant row.key.time) rows.items) }
 {
