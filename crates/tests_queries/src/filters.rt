@@ -1,7 +1,7 @@
 use crate::indexes::filled;
 use crate::rows::{are_kept, is_kept, lent, row_at, rows_of_table};
 use dr_base::Row;
-use dr_filter::Filter;
+use dr_filter::{Filter, FilterError};
 use dr_rollup::{Arrived, OpenIndex};
 use dr_schema::Schema;
 use dr_select::{select, select_arrived, select_rows};
@@ -13,12 +13,22 @@ use std::test::Fail;
 const SPEC: &[u8] =
     br#"{"dataSchema":{"dataSource":"w","timestampSpec":{"column":"t","format":"iso"},"dimensionsSpec":{"dimensions":["page","lang"]},"metricsSpec":[{"type":"count","name":"n"}],"granularitySpec":{"queryGranularity":"none","rollup":false}}}"#;
 
+// The filter of a value, in a block of its own.
+fn filter_of(alloc: Global, schema: &Schema, filter: &Value) -> Result<Box<Filter>, FilterError> {
+    let filter = Filter::parse(alloc, filter, schema)?;
+    Ok(Box::new(alloc, filter)?)
+}
+
 // The number of the refusal of a filter, 0 where it is none.
 fn refusal(alloc: Global, schema: &Schema, filter: &str) -> Result<u16, Fail> {
     let value = Value::from_str(alloc, filter)?;
-    match Filter::parse(alloc, &value, schema) {
-        Ok(_) => Ok(0),
-        Err(error) => Ok(error.number()),
+    Ok(refusal_of(alloc, schema, &value))
+}
+
+fn refusal_of(alloc: Global, schema: &Schema, filter: &Value) -> u16 {
+    match filter_of(alloc, schema, filter) {
+        Ok(_) => 0,
+        Err(error) => error.number(),
     }
 }
 
@@ -212,9 +222,9 @@ const KEPT: [(&str, u8); 29] = [
     (TIMES, 0b1001_1111),
 ];
 
-fn filter_of(alloc: Global, schema: &Schema, filter: &str) -> Result<Filter, Fail> {
+fn read(alloc: Global, schema: &Schema, filter: &str) -> Result<Box<Filter>, Fail> {
     let value = Value::from_str(alloc, filter)?;
-    Ok(Filter::parse(alloc, &value, schema)?)
+    Ok(filter_of(alloc, schema, &value)?)
 }
 
 // Whether a filter keeps these rows, each asked by itself.
@@ -249,37 +259,63 @@ fn keeps_arrived(
     Ok(are_kept(&set, from, to - from, kept))
 }
 
+// Whether it keeps them in each of these ways.
 fn keeps(
+    alloc: Global,
+    filter: &Filter,
+    rows: &[Row],
+    index: &OpenIndex,
+    kept: u8,
+) -> Result<bool, AllocError> {
+    if !keeps_each(filter, rows, kept) {
+        return Ok(false);
+    }
+    if !keeps_rows(alloc, filter, rows, kept)? {
+        return Ok(false);
+    }
+    keeps_arrived(alloc, filter, &index.arrived(), kept)
+}
+
+fn keeps_by(
+    alloc: Global,
+    schema: &Schema,
+    filter: &str,
+    rows: &[Row],
+    index: &OpenIndex,
+    kept: u8,
+) -> Result<bool, Fail> {
+    let filter = read(alloc, schema, filter)?;
+    Ok(keeps(alloc, &filter, rows, index, kept)?)
+}
+
+// Which place in the list keeps other rows, the length of the list where none does.
+fn first_other(
     alloc: Global,
     schema: &Schema,
     rows: &[Row],
     index: &OpenIndex,
-    filter: &str,
-    kept: u8,
-) -> Result<bool, Fail> {
-    let filter = filter_of(alloc, schema, filter)?;
-    Ok(
-        keeps_each(&filter, rows, kept)
-            && keeps_rows(alloc, &filter, rows, kept)?
-            && keeps_arrived(alloc, &filter, &index.arrived(), kept)?,
-    )
-}
-
-// Which place in the list keeps other rows, the length of the list where none does.
-fn first_other(alloc: Global) -> Result<usize, Fail> {
-    let spec = IngestSpec::parse(alloc, SPEC)?;
-    let rows = rows_of_table(alloc)?;
-    let index = filled(alloc, &spec)?;
+) -> Result<usize, Fail> {
     for (place, (filter, kept)) in KEPT.iter().enumerate() {
-        if !keeps(alloc, spec.schema(), rows.as_slice(), &index, filter, *kept)? {
+        if !keeps_by(alloc, schema, filter, rows, index, *kept)? {
             return Ok(place);
         }
     }
     Ok(KEPT.len())
 }
 
+fn first_other_of(alloc: Global, spec: &IngestSpec, rows: &[Row]) -> Result<usize, Fail> {
+    let index = filled(alloc, spec)?;
+    first_other(alloc, spec.schema(), rows, &index)
+}
+
+fn first_other_of_table(alloc: Global) -> Result<usize, Fail> {
+    let spec = IngestSpec::parse(alloc, SPEC)?;
+    let rows = rows_of_table(alloc)?;
+    first_other_of(alloc, &spec, rows.as_slice())
+}
+
 #[test]
 fn filters_keep_rows_by_their_table(rt: HostRuntime) -> Result<(), Fail> {
-    assert!(rt; first_other(rt.alloc())? == 29);
+    assert!(rt; first_other_of_table(rt.alloc())? == 29);
     Ok(())
 }
