@@ -16,5 +16,6 @@ all_pushed (g ∷ fs) f so_far more =
     All-append (λ (r : Row). IsInstant r.key.time) g.rows (rows_of (fs ++ f ∷ [])) (All-left (λ (r : Row). IsInstant r.key.time) g.rows (rows_of fs) so_far)
     (all_pushed fs f (All-right (λ (r : Row). IsInstant r.key.time) g.rows (rows_of fs) so_far) more)
 
-pub one_pushed : (rows : List Row) (row : Row) → AtInstants rows → IsInstant row.key.time → AtInstants (rows ++ row ∷ [])
-one_pushed rows row so_far instant = All-append (λ (r : Row). IsInstant r.key.time) rows (row ∷ []) so_far (instant, tt)
+pub one_pushed : (rows : List Row) (row : Row) → AllByRecursion (λ r. IsInstant r.key.time) rows → IsInstant row.key.time → AllByRecursion (λ r. IsInstant r.key.time) (rows ++ row ∷ [])
+one_pushed [] row so_far instant = (instant, tt)
+one_pushed (r ∷ rows) row so_far instant = (so_far.0, one_pushed rows row so_far.1 instant)
