@@ -1,4 +1,4 @@
--- Ranges whose times are instants, with one more.
+-- Rows, and ranges of rows, whose times are instants, with one more.
 use Rattle.std.proofs.Common.{List, [], ◌∷◌, ◌++◌}
 use Rattle.std.specs.List.{AllByRecursion}
 use Rattle.dr_cuts.proofs.Each.{All-append, All-left, All-right}
@@ -15,3 +15,7 @@ all_pushed [] f so_far more = All-append (λ (r : Row). IsInstant r.key.time) f.
 all_pushed (g ∷ fs) f so_far more =
     All-append (λ (r : Row). IsInstant r.key.time) g.rows (rows_of (fs ++ f ∷ [])) (All-left (λ (r : Row). IsInstant r.key.time) g.rows (rows_of fs) so_far)
     (all_pushed fs f (All-right (λ (r : Row). IsInstant r.key.time) g.rows (rows_of fs) so_far) more)
+
+pub one_pushed : (rows : List Row) (row : Row) → AllByRecursion (λ r. IsInstant r.key.time) rows → IsInstant row.key.time → AllByRecursion (λ r. IsInstant r.key.time) (rows ++ row ∷ [])
+one_pushed [] row so_far instant = (instant, tt)
+one_pushed (r ∷ rows) row so_far instant = (so_far.0, one_pushed rows row so_far.1 instant)

@@ -1,7 +1,10 @@
 //! Tests of answers by several workers, over `dr_scatter` and `dr_timeline`: that they are those of one worker, that workers run at
-//! once, and that each enters the gate once for each range. Each test ends by itself, and tells the same whatever threads do.
+//! once, and that each enters the gate once for each range; and of rows that are added to groups. Each test ends by itself, and tells
+//! the same whatever threads do.
 #![tactic(auto)]
 
+#[cfg(test)]
+mod adding;
 #[cfg(test)]
 mod answers;
 #[cfg(test)]

@@ -12,7 +12,7 @@ use std::marker::Model;
 use std::test::Fail;
 
 /// The start of the day of the rows.
-const DAY: i64 = 1_704_067_200_000;
+pub const DAY: i64 = 1_704_067_200_000;
 
 /// The pages of the rows.
 const PAGES: [&str; 3] = ["A", "B", "C"];
@@ -88,7 +88,8 @@ fn range_of(alloc: Global, place: u32) -> Result<SharedFragment, Fail>
     Ok(SharedFragment::new(alloc, fragment)?)
 }
 
-fn row(alloc: Global, time: i64, place: u32) -> Result<Row, AllocError>
+/// The row of that place, at a time.
+pub fn row(alloc: Global, time: i64, place: u32) -> Result<Row, AllocError>
     ensures { IfOk result (λ row. row.key.time ≡ time) }
 {
     let mut dims = Texts::new(alloc);

@@ -15,12 +15,13 @@ const SPEC: &str =
     r#"{"dataSchema":{"dataSource":"w","timestampSpec":{"column":"t","format":"iso"},"dimensionsSpec":{"dimensions":["page"]},"metricsSpec":[{"type":"longSum","name":"added","fieldName":"a"}],"granularitySpec":{"segmentGranularity":"day","queryGranularity":"none"}}}"#;
 
 /// What was added, and how many rows, by page.
-const SUMS: &str =
+pub const SUMS: &str =
     r#"{"queryType":"groupBy","dataSource":"w","intervals":["2024-01-01/2024-01-02"],"granularity":"all","dimensions":["page"],"aggregations":[{"type":"longSum","name":"added","fieldName":"added"},{"type":"count","name":"cnt"}]}"#;
 
-fn sums(alloc: Global) -> Result<Box<Query>, Fail> {
+/// The query of a text.
+pub fn query(alloc: Global, text: &str) -> Result<Box<Query>, Fail> {
     let spec = IngestSpec::parse(alloc, SPEC.as_bytes())?;
-    query_of(alloc, spec.schema(), SUMS)
+    query_of(alloc, spec.schema(), text)
 }
 
 /// What is found over so many ranges, by so many workers who enter a gate; by this thread alone where there are none.
@@ -32,7 +33,7 @@ fn groups_by<R: Threads + Wait + Sync, G: Gate + Sync>(
     gate: &G,
 ) -> Result<Partial, Fail> {
     let ranges = Ranges::new(alloc, count)?;
-    let query = sums(alloc)?;
+    let query = query(alloc, SUMS)?;
     if workers == 0 {
         return Ok(scatter_one(alloc, &query, ranges.as_slice())?);
     }
@@ -40,7 +41,7 @@ fn groups_by<R: Threads + Wait + Sync, G: Gate + Sync>(
 }
 
 /// The sums of the groups in the order of the pages, each with the count of its rows.
-fn values_of(alloc: Global, groups: Partial) -> Result<Vec<i64>, Fail> {
+pub fn values_of(alloc: Global, groups: Partial) -> Result<Vec<i64>, Fail> {
     let groups = groups.into_rows()?;
     let mut values = Vec::new(alloc);
     for group in groups.iter() {
@@ -84,7 +85,7 @@ fn workers_leave_out_no_range(rt: HostRuntime) -> Result<(), Fail> {
 #[test]
 fn each_range_alone_has_its_groups(rt: HostRuntime) -> Result<(), Fail> {
     let alloc = rt.alloc();
-    let query = sums(alloc)?;
+    let query = query(alloc, SUMS)?;
     let ranges = Ranges::new(alloc, 3)?;
     let mut values = Vec::new(alloc);
     for groups in each(alloc, &query, ranges.as_slice())? {

@@ -1,0 +1,198 @@
+ghost use Rattle.std.specs.Prelude.{◌≡◌, length};
+
+use dr_base::Text;
+use dr_dict::TextSet;
+use dr_rowindex::{NumberOrder, RowSet, TextOrder};
+use std::alloc::{AllocError, Global};
+use std::test::Fail;
+
+// Whether these rows are in a set, and no others.
+fn are_rows(set: &RowSet, rows: &[usize]) -> bool {
+    for row in 0..set.row_count() {
+        if set.contains(row) != rows.contains(&row) {
+            return false;
+        }
+    }
+    true
+}
+
+// Puts rows of a set into it.
+fn put(set: &mut RowSet, rows: &[usize]) {
+    for row in rows {
+        if *row < set.row_count() {
+            set.insert(*row);
+        }
+    }
+}
+
+// Keeps the rows that are in another set of as many rows too.
+fn keep(set: &mut RowSet, other: &RowSet) {
+    if set.row_count() == other.row_count() {
+        set.and(other);
+    }
+}
+
+#[test]
+fn sets_have_the_rows_that_were_put_in(rt: HostRuntime) -> Result<(), Fail> {
+    let mut set = RowSet::none(rt.alloc(), 130)?;
+    assert!(rt; are_rows(&set, &[]));
+    put(&mut set, &[129, 63, 64, 63]);
+    assert!(rt; are_rows(&set, &[63, 64, 129]));
+    let mut all = RowSet::all(rt.alloc(), 130)?;
+    assert!(rt; all.contains(0) && all.contains(64) && all.contains(129) && !all.contains(130));
+    keep(&mut all, &set);
+    assert!(rt; are_rows(&all, &[63, 64, 129]));
+    Ok(())
+}
+
+const NUMBERS: [i64; 7] = [5, -3, 7, 5, 0, i64::MAX, i64::MIN];
+
+// The rows whose number lies from one to before another.
+fn between(
+    alloc: Global,
+    numbers: Vec<i64>,
+    from: Option<i128>,
+    to: Option<i128>,
+) -> Result<RowSet, AllocError> {
+    let count = numbers.len();
+    let order = NumberOrder::of(alloc, numbers)?;
+    let mut set = RowSet::none(alloc, count)?;
+    order.insert_between(from, to, &mut set);
+    Ok(set)
+}
+
+const BETWEEN: [(Option<i128>, Option<i128>, &[usize]); 7] = [
+    (Some(0), Some(7), &[0, 3, 4]),
+    (Some(5), Some(8), &[0, 2, 3]),
+    (None, Some(0), &[1, 6]),
+    (Some(6), None, &[2, 5]),
+    (None, None, &[0, 1, 2, 3, 4, 5, 6]),
+    (Some(7), Some(5), &[]),
+    (Some(9_223_372_036_854_775_808), None, &[]),
+];
+
+// Which place in the table has other rows, the length of the table where none has.
+fn first_other_between(alloc: Global) -> Result<usize, Fail> {
+    for (place, (from, to, rows)) in BETWEEN.iter().enumerate() {
+        let numbers = Vec::from_array(alloc, NUMBERS)?;
+        let set = between(alloc, numbers, *from, *to)?;
+        if set.row_count() != 7 || !are_rows(&set, rows) {
+            return Ok(place);
+        }
+    }
+    Ok(BETWEEN.len())
+}
+
+#[test]
+fn rows_are_found_between_two_numbers(rt: HostRuntime) -> Result<(), Fail> {
+    assert!(rt; first_other_between(rt.alloc())? == 7);
+    Ok(())
+}
+
+// The number of a row: of 5000 rows each has another one, below 5000.
+fn number_of(row: usize) -> u16 {
+    (row.wrapping_mul(7919) % 5000) as u16
+}
+
+// Whether of 5000 rows those are found whose number lies from 1000 to before 4200.
+fn are_between(alloc: Global) -> Result<bool, Fail> {
+    let mut numbers = Vec::new(alloc);
+    for row in 0..5000 {
+        numbers.push(i64::from(number_of(row)))?;
+    }
+    let set = between(alloc, numbers, Some(1000), Some(4200))?;
+    for row in 0..5000 {
+        let number = number_of(row);
+        if set.contains(row) != (1000 <= number && number < 4200) {
+            return Ok(false);
+        }
+    }
+    Ok(true)
+}
+
+#[test]
+fn many_rows_are_found_between_two_numbers(rt: HostRuntime) -> Result<(), Fail> {
+    assert!(rt; are_between(rt.alloc())?);
+    Ok(())
+}
+
+const TEXTS: [&str; 7] = ["b", "", "Äb", "a", "b", "ab", "B"];
+
+// The rows that have one of some texts.
+fn having(alloc: Global, texts: Vec<&str>, wanted: &[&str]) -> Result<RowSet, AllocError> {
+    let mut set = RowSet::none(alloc, texts.len())?;
+    let order = TextOrder::of(alloc, texts)?;
+    put_having(alloc, &order, wanted, &mut set)?;
+    Ok(set)
+}
+
+fn put_having(
+    alloc: Global,
+    order: &TextOrder<'_>,
+    wanted: &[&str],
+    set: &mut RowSet,
+) -> Result<(), AllocError>
+    requires { length set.old ≡ length order.now }
+{
+    if let [text] = wanted {
+        return order.insert_equal(alloc, text, set);
+    }
+    let texts = set_of(alloc, wanted)?;
+    order.insert_among(alloc, &texts, set)
+}
+
+fn set_of(alloc: Global, texts: &[&str]) -> Result<TextSet, AllocError> {
+    let mut set = TextSet::new(alloc);
+    for text in texts {
+        set.add(&Text::from_str(alloc, text)?)?;
+    }
+    Ok(set)
+}
+
+const HAVING: [(&[&str], &[usize]); 7] = [
+    (&["b"], &[0, 4]),
+    (&[""], &[1]),
+    (&["Äb"], &[2]),
+    (&["Ä"], &[]),
+    (&["b", "B", "zz"], &[0, 4, 6]),
+    (&["ab", "a", ""], &[1, 3, 5]),
+    (&[], &[]),
+];
+
+// Which place in the table has other rows, the length of the table where none has.
+fn first_other_having(alloc: Global) -> Result<usize, Fail> {
+    for (place, (texts, rows)) in HAVING.iter().enumerate() {
+        let set = having(alloc, Vec::from_array(alloc, TEXTS)?, texts)?;
+        if set.row_count() != 7 || !are_rows(&set, rows) {
+            return Ok(place);
+        }
+    }
+    Ok(HAVING.len())
+}
+
+#[test]
+fn rows_are_found_by_their_texts(rt: HostRuntime) -> Result<(), Fail> {
+    assert!(rt; first_other_having(rt.alloc())? == 7);
+    Ok(())
+}
+
+// Whether of 9000 rows, of which each third has the same text, those of the second are found.
+fn are_of_second(alloc: Global) -> Result<bool, Fail> {
+    let mut texts = Vec::new(alloc);
+    for row in 0..9000 {
+        texts.push(["a", "b", "c"][row % 3])?;
+    }
+    let set = having(alloc, texts, &["b"])?;
+    for row in 0..9000 {
+        if set.contains(row) != (row % 3 == 1) {
+            return Ok(false);
+        }
+    }
+    Ok(true)
+}
+
+#[test]
+fn many_rows_are_found_by_their_texts(rt: HostRuntime) -> Result<(), Fail> {
+    assert!(rt; are_of_second(rt.alloc())?);
+    Ok(())
+}
