@@ -121,6 +121,15 @@ def like_long(n):
     yield groups(filter={"type": "like", "dimension": "page", "pattern": "%a_" + "a" * (n // 2) + "b%"})
 
 
+def like_gapped(n):
+    """A text of so many characters, and pieces of half as many that fail at their end alone, or not at all."""
+    yield spec()
+    yield event(BEGIN, "a" * n)
+    yield event(BEGIN, "aabc" * (n // 4))
+    for piece in "a_" * (n // 4) + "b", "a_" * (n // 4), "_aabc_" * (n // 12):
+        yield groups(filter={"type": "like", "dimension": "page", "pattern": "%" + piece + "%"})
+
+
 def long_or(n):
     yield spec()
     for it in range(n):
@@ -281,6 +290,19 @@ LEVELS_OF_ONE_DIMENSION = series(filter=levels(one_of({"type": "in", "dimension"
 
 def likes(pattern):
     return asked_of_texts(groups(filter=one_of(*({"type": "like", "dimension": "page", "pattern": pattern.replace("x", f"x{it}")} for it in range(15000)))))
+
+
+def likes_of_gaps(begin, end):
+    """A pattern for each of 12,000, of letters that each value has or not, which all values fail by their last letter alone."""
+    def lines(n):
+        random = Random(3)
+        yield spec()
+        for it in range(n):
+            yield event(BEGIN + it % DAY, f"{it:017b}")
+        fields = [{"type": "like", "dimension": "page", "pattern": begin + "".join(random.choice("01____") for _ in range(8)) + "2" + end} for _ in range(12000)]
+        asked = series(filter=one_of(*fields))
+        yield from (asked, f"seal {instant(1)}", f"publish {instant(1)} 0 1", asked)
+    return lines
 
 
 def pairs(n):
@@ -498,6 +520,7 @@ INPUTS = {
     "pins of 100,000 chunks, none changed": (pins_of_many_chunks, 300),
     "pairs of an event and a query, 100,000 open rows": (query_after_event, 3000),
     "a query of open rows in one chunk": (query_of_open_rows, 1000000),
+    "like, of so many characters, with a gap behind each second letter of the pattern": (like_gapped, 1000000),
     "like, of so many characters and half as many in the pattern": (like_long, 100000),
     "rows under an or of 17,000 selectors": (long_or, 100000),
     "rows under an or of 15,000 ins of one value": (asked_of_texts(LONG_OR_OF_INS), 100000),
@@ -529,6 +552,10 @@ INPUTS = {
     "rows under an or of 4,500 ands of two selectors of 67 each and an interval": (ranked(4500, 2, 67), 100000),
     "rows under an or of 2,000 ands of seven selectors of three each and an interval": (ranked(2000, 7, 3), 100000),
     "rows under an or of 320 ands of 60 selectors, all the same, and an interval": (ranked(320, 60, 1), 20000),
+    "rows under an or of 12,000 likes of nine letters and gaps": (likes_of_gaps("________", ""), 100000),
+    "rows under an or of 12,000 likes of a beginning with gaps": (likes_of_gaps("", "%"), 100000),
+    "rows under an or of 12,000 likes of an end with gaps": (likes_of_gaps("%", ""), 100000),
+    "rows under an or of 12,000 likes of a part with gaps": (likes_of_gaps("%", "%"), 100000),
     "rows under an and of 15,000 likes of six kinds": (likes_of_each, 100000),
     "rows of 800 bytes under an and of 2,000 likes of growing texts": (likes_of_growing, 20000),
     "groups under a having that is an and of 7,500 ors of two comparisons": (asked_of_texts(ANDS_OF_A_HAVING), 100000),

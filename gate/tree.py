@@ -18,13 +18,14 @@ MUST_FAIL, FURTHER = "must-fail", "further-edits"
 CITED = re.compile(r"Rattle\.(\w+)\.specs\.([\w.+-]+)")
 
 
-# A line that imports names, for code or for contracts; one by which a root shows names; an item that is a function, a type, or what a
-# type has.
+# A line that imports names, for code or for contracts; one by which a root shows names; an item that is a function, a type, what a type
+# has, or a constant that its module alone sees.
 IMPORT = re.compile(r"( *(?:ghost )?use (?:[\w.]+\.|(?:\w+::)+))(\{[^{}]*\}|\w+);$", re.M)
 FUNCTION = re.compile(r"(?: *#.*\n)* *(pub(?:\(\w+\))? |)(?:const )?fn (\w+)")
 SHOWN = re.compile(r"(pub use (?:\w+::)+)(\{[^{}]*\}|\w+);$")
 TYPE = re.compile(r"(?:#.*\n)*pub (?:struct|enum|trait|type) (\w+)")
 IMPL = re.compile(r"impl(?:<[^{]*?>)? (.* for )?(\w+)")
+CONSTANT = re.compile(r"(?:#.*\n)*const (\w+)")
 
 
 class Tree:
@@ -97,8 +98,10 @@ class Tree:
         of these names."""
         shown, types = self.shown(crate), self.types(crate)
         for file in self.files(crate, "src"):
-            is_shown = shown is None or file.split("/")[1].removesuffix(".rt") in shown
-            yield file, said_of(self.interface(crate, file), words, known, None if is_shown else types)
+            module = file.split("/")[1].removesuffix(".rt")
+            is_whole = shown is None or module == "lib" or shown.get(module) == "mod"
+            functions = words if is_whole else words & types
+            yield file, said_of(self.interface(crate, file), words, known, None if is_whole or module in shown else types, functions)
         for file in sorted({self.file_of(crate, name) for of, name in names if of == crate}):
             text = self.interface(crate, file)
             yield file, said_of(text, words, known) if file.endswith(".rt") else text
@@ -137,12 +140,12 @@ class Tree:
         return "src/lib.rt" if folder == "src" else "specs/Lib.antt"
 
     def shown(self, crate):
-        """The root and the modules that it shows, `pub mod` and `pub use`; nothing for a program, where all are taken."""
+        """The modules that a crate's root shows, by `mod` whole or by `use` a name of it; nothing for a program, where all are taken."""
         try:
             root = self.text(crate, "src/lib.rt")
         except FileNotFoundError:
             return None
-        return {"lib", *re.findall(r"^pub mod (\w+);", root, re.M), *re.findall(r"^pub use (?:crate::)?(\w+)::", root, re.M)}
+        return {module: how for how, module in re.findall(r"^pub (use) (?:crate::)?(\w+)::", root, re.M) + re.findall(r"^pub (mod) (\w+);", root, re.M)}
 
 
 def digest_of(named):
@@ -189,15 +192,16 @@ def items_of(lines, indent=""):
     return ["\n".join(it).rstrip() for it in items]
 
 
-def said_of(text, words, known, types=None):
-    """What code without bodies says by functions of these words and of types that are known. Where it stands in a module that a root
-    doesn't show, it speaks of the types alone that the root does. A function of a trait counts with the trait."""
+def said_of(text, words, known, types=None, functions=None):
+    """What code without bodies says by methods of these words, by these functions (or those of the words), and of types that are known.
+    Where it stands in a module that a root doesn't show, it speaks of the types alone that the root does. A function of a trait counts
+    with the trait, and a constant of the module's own where what counts has its name."""
 
-    def is_said(item):
+    def is_said(item, names=words if functions is None else functions):
         if named := TYPE.match(item):
             return named[1] in known
         function = FUNCTION.match(item)
-        return not function or function[1] == "pub " and function[2] in words
+        return not function or function[1] == "pub " and function[2] in names
 
     kept = []
     for item in items_of(text.split("\n")):
@@ -209,11 +213,11 @@ def said_of(text, words, known, types=None):
             continue
         if head and not head[1]:
             first, *inside = item.split("\n")
-            inside = [it for it in items_of(inside, "    ") if is_said(it)]
+            inside = [it for it in items_of(inside, "    ") if is_said(it, words)]
             item = "\n".join([first, *inside]) if inside else ""
         if types is not None and not IMPORT.match(item) and not (head and head[2] in types):
             continue
-        if item and is_said(item) and not re.match(r"mod \w+;", item):
+        if item and is_said(item) and not re.match(r"mod \w+;|#!", item):
             kept.append(item)
     return without_unused(kept)
 
@@ -221,6 +225,10 @@ def said_of(text, words, known, types=None):
 def without_unused(items):
     """Items without the names that they import and don't use, as those that bodies alone use."""
     code = [it for it in items if not IMPORT.match(it)]
+    for own in [it for it in code if CONSTANT.match(it)]:
+        if not any(re.search(rf"\b{CONSTANT.match(own)[1]}\b", it) for it in code if it is not own):
+            code.remove(own)
+    items = [it for it in items if IMPORT.match(it) or it in code]
     # what a block imports itself is no use of what the file imports
     words = {word for it in code for word in set(re.findall(r"\w+", it)) - {name for _, names in IMPORT.findall(it) for name in names_in(names)}}
     text = "\n".join(code)

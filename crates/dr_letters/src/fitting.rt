@@ -15,7 +15,7 @@ impl<'a> LetterRows<'a> {
     /// The texts that fit a pattern of `like` (Apache Druid documentation, query filters: like). The only error is that memory ran out.
     /// A letter of the pattern before its first `%` takes time by the texts, 64 at once, times the bits of a character; each other one
     /// takes that for each place, and memory by a bit for each text and place. A text that has more characters than places are known is
-    /// asked by itself, as by [`fits`](dr_places::fits).
+    /// asked by itself, as by [`fits_soonest`](dr_places::fits_soonest).
     pub fn fitting(&self, alloc: Global, pattern: &str) -> Result<RowSet, AllocError>
         ensures { IfOk result (λ s. Tell (λ t. fits (chars pattern.now) (chars t)) self.now.0 s) }
     {

@@ -8,7 +8,7 @@ ghost use Rattle.dr_letters.specs.States.{AreCodes, AreLong, is_short};
 
 use crate::place_letters::PlaceLetters;
 use dr_like::split_first;
-use dr_places::fits;
+use dr_places::fits_soonest;
 use dr_rowindex::RowSet;
 use std::alloc::{AllocError, Global};
 use std::marker::Model;
@@ -110,7 +110,7 @@ impl<'a> LetterRows<'a> {
         ensures { OnOk result (Tell (λ t. fits_of (chars pattern.now) (chars t)) self.now.0 set.new) }
     {
         for row in &self.long {
-            if fits(alloc, pattern, self.texts[*row])? {
+            if fits_soonest(alloc, pattern, self.texts[*row])? {
                 set.insert(*row);
             }
         }

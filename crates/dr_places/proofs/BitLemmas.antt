@@ -1,33 +1,12 @@
 -- The bits of a word.
-use Rattle.std.proofs.Common.{inl, inr, ◌≡◌, ◌∙◌, sym, refl, ap, ap₂, ℕ, zero, suc, ◌+◌, ◌/◌, ◌%◌, ◌^◌, ◌*◌, ◌-◌, ◌<◌, ◌≤◌, ◌≢◌, ◌&&◌, Bool, min, max, true, false, eqb, nat_lt, arith, if◌then◌else◌}
-use Rattle.std.specs.Int.{bit_at, w64}
-use Rattle.std.specs.Int.RustNames.{bit_and, bit_or}
+use Rattle.std.proofs.Common.{inl, inr, ◌≡◌, ◌∙◌, sym, refl, ap, ap₂, ℕ, ◌+◌, ◌/◌, ◌%◌, ◌^◌, ◌*◌, ◌-◌, ◌<◌, ◌≤◌, Bool, max, true, false, eqb, nat_lt, arith, if◌then◌else◌}
+use Rattle.std.specs.Int.{bit_at}
+use Rattle.std.specs.Int.RustNames.{bit_or}
 use Rattle.std.proofs.lemmas.Bool.{cases_lt}
 use Rattle.std.proofs.lemmas.Nat.{div-add-mod', pow_pos, shr-shr}
-use Rattle.std.proofs.lemmas.Nat.Bits.{bit_at_and, bit_at_or, bit_at_set_same, bit_at_set_other, bit_at-lt, bit_at_ones, bit_at_ones_above, bit_at-zero, bit_at_above, bit_at_cat_low, bit_at_cat_high, ones_shr}
+use Rattle.std.proofs.lemmas.Nat.Bits.{bit_at_or, bit_at_ones, bit_at_ones_above, bit_at-zero, bit_at_above, bit_at_cat_low, bit_at_cat_high, ones_shr}
 use Rattle.std.proofs.lemmas.Bool.Decides.{nat_tests}
 use Rattle.dr_places.specs.Places.{has_bit, bit_from}
-
-both : (a b : ℕ) → a < 2 → b < 2 → eqb (min a b) 1 ≡ (eqb a 1 && eqb b 1)
-both zero zero p q = refl
-both zero (suc zero) p q = refl
-both (suc zero) zero p q = refl
-both (suc zero) (suc zero) p q = refl
-both (suc (suc a)) b p q = absurd (omega (arith, p))
-both zero (suc (suc b)) p q = absurd (omega (arith, q))
-both (suc zero) (suc (suc b)) p q = absurd (omega (arith, q))
-
-pub bit-and : (w v k : ℕ) → has_bit (bit_and w v) k ≡ (has_bit w k && has_bit v k)
-bit-and w v k = ap (λ n. eqb n 1) (bit_at_and w v k) ∙ both (bit_at w k) (bit_at v k) (bit_at-lt w k) (bit_at-lt v k)
-
-pub bit-zero : (k : ℕ) → has_bit 0 k ≡ false
-bit-zero k = ap (λ n. eqb n 1) (bit_at-zero k)
-
-pub bit-set : (w k : ℕ) → k < 64 → has_bit (bit_or w (1 * 2 ^ k % 2 ^ 64)) k ≡ true
-bit-set w k lt = ap (λ n. eqb n 1) (bit_at_set_same w64 w k lt)
-
-pub bit-other : (w k j : ℕ) → k < 64 → j ≢ k → has_bit (bit_or w (1 * 2 ^ k % 2 ^ 64)) j ≡ has_bit w j
-bit-other w k j lt apart = ap (λ n. eqb n 1) (bit_at_set_other w64 w k lt j apart)
 
 -- ---- the first bits of a word
 

@@ -6,7 +6,7 @@ use Rattle.std.proofs.lemmas.Nat.{div_below, mod_below, div-add-mod'}
 use Rattle.std.proofs.lemmas.List.{length-set, get_or-drop, get_or-set_same, get_or-set_other, get_or-replicate, length-replicate}
 use Rattle.dr_places.specs.Places.{has_bit, bit_from, truth_in, IsKept}
 use Rattle.dr_places.specs.Digits.{HasDigit, AreDigits, AreMarked}
-use Rattle.dr_places.proofs.BitLemmas.{bit-zero}
+use Rattle.dr_bits.proofs.BitLemmas.{bit-zero}
 
 -- ---- the places with a digit are kept
 

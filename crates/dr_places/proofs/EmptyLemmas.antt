@@ -3,7 +3,7 @@ use Rattle.std.proofs.Common.{inl, inr, ◌≡◌, ◌∙◌, sym, refl, ap, sub
 use Rattle.std.proofs.lemmas.Bool.{cases_eq}
 use Rattle.dr_like.specs.Like.{fits}
 use Rattle.dr_places.specs.Places.{has_bit, truth_in, fits_at, letters_in, AreRight, IsSearch, reach_at}
-use Rattle.dr_places.proofs.BitLemmas.{bit-zero}
+use Rattle.dr_bits.proofs.BitLemmas.{bit-zero}
 use Rattle.dr_places.proofs.RunLemmas.{spread-none}
 use Rattle.dr_places.proofs.StepLemmas.{gap-back, letter-back, letter-told, letter-within, lo-letter, lo-run, run-asked, run-told, all}
 

@@ -4,7 +4,7 @@ use Rattle.std.proofs.lemmas.Bool.{cases_eq, cases_lt}
 use Rattle.std.proofs.lemmas.Nat.{div-add-mod'}
 use Rattle.std.proofs.lemmas.List.{get_or-set_same, get_or-set_other}
 use Rattle.dr_places.specs.Places.{has_bit, truth_in, fits_at, letters_in, AreRight}
-use Rattle.dr_places.proofs.BitLemmas.{bit-zero, bit-ones}
+use Rattle.dr_bits.proofs.BitLemmas.{bit-zero, bit-ones}
 use Rattle.dr_places.proofs.FitLemmas.{run-before, run-nowhere, too-short}
 
 pub filled : (first second : List ℕ) (from last end w : ℕ) → last / 64 < length first

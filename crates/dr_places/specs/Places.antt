@@ -1,16 +1,8 @@
 -- The places of a text from which on it fits a part of a pattern, and sets of places, kept as the bits of words. No public
 -- contract cites this file.
-use Rattle.std.specs.Prelude.{◌≡◌, ℕ, suc, zero, ◌+◌, ◌-◌, ◌<◌, ◌≤◌, ◌/◌, ◌%◌, ◌==◌, ◌&&◌, Bool, false, if◌then◌else◌, List, [], ◌∷◌, length, get_or, eqb, nat_lt}
-use Rattle.std.specs.Int.{bit_at}
+use Rattle.std.specs.Prelude.{◌≡◌, ℕ, suc, zero, ◌+◌, ◌-◌, ◌<◌, ◌≤◌, ◌==◌, ◌&&◌, Bool, false, if◌then◌else◌, List, [], ◌∷◌, length, get_or, nat_lt}
 use Rattle.dr_like.specs.Like.{fits}
-
--- the bit at a place of a word, counted from the lowest
-abbrev pub has_bit : ℕ → ℕ → Bool
-has_bit word k = eqb (bit_at word k) 1
-
--- the bit at a place of words of 64 bits, one behind the other; what lies behind them is 0
-abbrev pub truth_in : List ℕ → ℕ → Bool
-truth_in words k = has_bit (get_or words (k / 64) 0) (k % 64)
+pub use Rattle.dr_bits.specs.Bits.{has_bit, truth_in}
 
 -- the bit at a place of a word, counted from another place on, and on into the next word
 abbrev pub bit_from : (word next bits : ℕ) → ℕ → Bool

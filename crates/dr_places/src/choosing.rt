@@ -1,6 +1,6 @@
 ghost use Rattle.std.specs.Prelude.{◌≡◌, IfOk};
 ghost use Rattle.std.specs.Str.{chars};
-ghost use Rattle.dr_like.specs.Like.{fits as fits_of};
+ghost use Rattle.dr_like.specs.Like.{fits};
 
 use crate::by_places::fits_by_places;
 use std::alloc::{AllocError, Global};
@@ -16,8 +16,8 @@ const SHARE: usize = 16;
 /// behind their first other character. Where these have a sixteenth of the bytes of the pattern at least, and more than 2^24 bytes,
 /// times those of the text, it takes the time and memory of [`fits_by_places`]; else no memory, and time by the bytes of both and by
 /// that product.
-pub fn fits(alloc: Global, pattern: &str, text: &str) -> Result<bool, AllocError>
-    ensures { IfOk result (λ found. found ≡ fits_of (chars pattern.now) (chars text.now)) }
+pub fn fits_soonest(alloc: Global, pattern: &str, text: &str) -> Result<bool, AllocError>
+    ensures { IfOk result (λ found. found ≡ fits (chars pattern.now) (chars text.now)) }
 {
     if is_long_for(pattern, text) {
         return fits_by_places(alloc, pattern, text);

@@ -13,4 +13,4 @@ mod text_places;
 mod words;
 
 pub use by_places::fits_by_places;
-pub use choosing::fits;
+pub use choosing::fits_soonest;

@@ -1,7 +1,7 @@
 ghost use Rattle.std.specs.Prelude.{◌≡◌, ◌≢◌, ◌<◌, ◌+◌, ◌/◌, ℕ, true, length, replicate, IfOk};
 ghost use Rattle.dr_places.specs.Places.{truth_in};
 
-use crate::words::with_bit;
+use dr_bits::with_bit;
 use std::alloc::{AllocError, Global};
 use std::marker::Model;
 

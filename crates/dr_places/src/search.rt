@@ -5,7 +5,8 @@ ghost use Rattle.dr_places.specs.Places.{AreRight, IsSearch, letters_in, reach_a
 use crate::letters::is_run;
 use crate::runs::spread;
 use crate::text_places::TextPlaces;
-use crate::words::{is_empty, is_set};
+use crate::words::is_empty;
+use dr_bits::is_set;
 
 /// A pattern that is gone through from its end, and the text whose places are told of: where the first run of the pattern is, and
 /// how many characters the text has more than the pattern has letters that each stand for one.

@@ -1,5 +1,7 @@
-ghost use Rattle.std.specs.Prelude.{◌≡◌, ◌<◌, ◌≤◌, ◌≢◌, ◌+◌, ◌⊎◌, ℕ, true, false, length, get_or, set, MatchOption};
+ghost use Rattle.std.specs.Prelude.{◌≡◌, ◌<◌, ◌≤◌, ◌+◌, ◌⊎◌, ℕ, true, false, length, get_or, set, MatchOption};
 ghost use Rattle.dr_places.specs.Places.{has_bit, bit_from, IsKept};
+
+use dr_bits::is_set;
 
 // Keeps of each word, from a place up to another, the bits that other words have, from a place in the first of these on.
 pub fn keep_bits(words: &mut [u64], others: &[u64], bits: usize, from: usize, end: usize)
@@ -47,23 +49,6 @@ pub fn is_empty(words: &[u64]) -> bool
         }
     }
     true
-}
-
-// Whether a word has the bit at a place, counted from the lowest.
-pub fn is_set(word: u64, k: usize) -> bool
-    requires { k < 64 }
-    ensures { result ≡ has_bit word k }
-{
-    (word >> k) & 1 == 1
-}
-
-// A word with the bit at a place.
-pub fn with_bit(word: u64, k: usize) -> u64
-    requires { k < 64 }
-    ensures same { has_bit result k ≡ true }
-    ensures others { (j : ℕ) → j ≢ k → has_bit result j ≡ has_bit word j }
-{
-    word | (1 << k)
 }
 
 // A word with the bits up to a place.

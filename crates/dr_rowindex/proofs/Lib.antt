@@ -1,5 +1,4 @@
 pub mod WordLemmas
-pub mod BitLemmas
 pub mod TruthLemmas
 pub mod RowLemmas
 pub mod PutLemmas

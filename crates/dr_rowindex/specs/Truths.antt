@@ -1,15 +1,7 @@
 -- Truths that are kept as the bits of words.
-use Rattle.std.specs.Prelude.{◌≡◌, ℕ, ◌<◌, ◌/◌, ◌%◌, Bool, false, List, length, map, get_or, eqb}
-use Rattle.std.specs.Int.{bit_at}
+use Rattle.std.specs.Prelude.{◌≡◌, ℕ, ◌<◌, Bool, false, List, length, map, get_or}
 use Rattle.std.specs.List.{range_with_len}
-
--- the bit at a place of a word, counted from the lowest
-abbrev pub has_bit : ℕ → ℕ → Bool
-has_bit word k = eqb (bit_at word k) 1
-
--- the bit at a place of words of 64 bits, one behind the other; what lies behind them is 0
-abbrev pub truth_in : List ℕ → ℕ → Bool
-truth_in words i = has_bit (get_or words (i / 64) 0) (i % 64)
+pub use Rattle.dr_bits.specs.Bits.{has_bit, truth_in}
 
 -- the first so many bits of words
 unfoldable pub truths : List ℕ → ℕ → List Bool

@@ -1,7 +1,8 @@
 ghost use Rattle.std.specs.Prelude.{◌≡◌, ◌<◌, ◌&&◌, ◌||◌, Bool, true, false, not, length, get_or, set, replicate, IfOk};
 ghost use Rattle.dr_rowindex.specs.Truths.{Joined};
 
-use crate::words::{add_bits, drop_bits, is_set, keep_bits, with_bit};
+use crate::words::{add_bits, drop_bits, keep_bits};
+use dr_bits::{is_set, with_bit};
 use std::alloc::{AllocError, Global};
 use std::marker::Model;
 

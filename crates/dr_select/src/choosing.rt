@@ -9,7 +9,7 @@ ghost use Rattle.dr_select.specs.Rows.{meets, value_of};
 use crate::lot::Lot;
 use crate::passing::insert_passing;
 use dr_filter::{Filter, FilterTree};
-use dr_places::fits;
+use dr_places::fits_soonest;
 use dr_predicate::{DimensionTest, ValueTest, value_at};
 use dr_rollup::KeyOf;
 use dr_rowindex::{NumberOrder, RowSet, asks_for_many};
@@ -113,7 +113,7 @@ fn fitting_by_rows(
 {
     let mut set = RowSet::none(alloc, rows.len())?;
     for i in 0..rows.len() {
-        if fits(alloc, pattern, value_at(rows[i].dims, place))? {
+        if fits_soonest(alloc, pattern, value_at(rows[i].dims, place))? {
             set.insert(i);
         }
     }

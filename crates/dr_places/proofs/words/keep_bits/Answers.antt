@@ -1,6 +1,6 @@
 use Rattle.std.proofs.Common.{inr, ◌∙◌, ap, ap₂, ◌<◌, ◌&&◌, length, get_or, arith}
 use Rattle.dr_places.specs.Places.{has_bit}
-use Rattle.dr_places.proofs.BitLemmas.{bit-and}
+use Rattle.dr_bits.proofs.BitLemmas.{bit-and}
 use Rattle.dr_places.proofs.WordLemmas.{to-more}
 use Rattle.dr_places.proofs.words.keep_bits.Goals as goal
 

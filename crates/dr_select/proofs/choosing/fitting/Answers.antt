@@ -1,4 +1,4 @@
-use Rattle.std.proofs.Common.{subst, refl, map}
+use Rattle.std.proofs.Common.{subst, refl}
 use Rattle.dr_predicate.specs.declared.value_test.ValueTest.TheVariants.{Like}
 use Rattle.dr_predicate.specs.Match.{passes}
 use Rattle.dr_rowindex.specs.Orders.{Tell}

@@ -1,5 +1,5 @@
 use Rattle.std.proofs.Common.{rules, true, ◌^◌, ◌-◌}
-use Rattle.dr_rowindex.proofs.BitLemmas.{bit-ones}
+use Rattle.dr_bits.proofs.BitLemmas.{bit-ones}
 use Rattle.dr_rowindex.proofs.TruthLemmas.{alike}
 use Rattle.dr_rowindex.proofs.row_set.RowSet.all.Goals as goal
 

@@ -2,7 +2,7 @@ use Rattle.std.proofs.Common.{◌∙◌, sym, subst, ◌&&◌}
 use Rattle.std.specs.Int.RustNames.{bit_and}
 use Rattle.std.proofs.lemmas.List.{with_items_is}
 use Rattle.dr_rowindex.specs.Truths.{truths, Joined}
-use Rattle.dr_rowindex.proofs.BitLemmas.{bit-and}
+use Rattle.dr_bits.proofs.BitLemmas.{bit-and}
 use Rattle.dr_rowindex.proofs.TruthLemmas.{same-words, joined-sets}
 use Rattle.dr_rowindex.proofs.row_set.RowSet.and.Goals as goal
 

@@ -2,7 +2,7 @@ use Rattle.std.proofs.Common.{◌∙◌, sym, subst, ◌&&◌, not}
 use Rattle.std.specs.Int.RustNames.{bit_and, bit_xor}
 use Rattle.std.proofs.lemmas.List.{with_items_is}
 use Rattle.dr_rowindex.specs.Truths.{truths, Joined}
-use Rattle.dr_rowindex.proofs.BitLemmas.{bit-first}
+use Rattle.dr_bits.proofs.BitLemmas.{bit-first}
 use Rattle.dr_rowindex.proofs.TruthLemmas.{same-words, joined-sets}
 use Rattle.dr_rowindex.proofs.row_set.RowSet.and_not.Goals as goal
 

@@ -1,5 +1,5 @@
 use Rattle.std.proofs.Common.{rules, false}
-use Rattle.dr_rowindex.proofs.BitLemmas.{bit-zero}
+use Rattle.dr_bits.proofs.BitLemmas.{bit-zero}
 use Rattle.dr_rowindex.proofs.TruthLemmas.{alike}
 use Rattle.dr_rowindex.proofs.row_set.RowSet.none.Goals as goal
 

@@ -1,5 +1,5 @@
-use Rattle.dr_rowindex.proofs.BitLemmas.{bit-set, bit-other}
-use Rattle.dr_rowindex.proofs.words.with_bit.Goals as goal
+use Rattle.dr_bits.proofs.BitLemmas.{bit-set, bit-other}
+use Rattle.dr_bits.proofs.bits.with_bit.Goals as goal
 
 pub returns-clause-same : goal.returns-clause-same
 returns-clause-same c = bit-set c.args.word c.args.k c.requires

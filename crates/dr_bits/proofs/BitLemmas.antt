@@ -3,7 +3,7 @@ use Rattle.std.proofs.Common.{◌≡◌, ◌∙◌, refl, ap, ℕ, zero, suc, �
 use Rattle.std.specs.Int.{bit_at, w64}
 use Rattle.std.specs.Int.RustNames.{bit_and, bit_or, bit_xor}
 use Rattle.std.proofs.lemmas.Nat.Bits.{bit_at_and, bit_at_or, bit_at_xor, bit_at_set_same, bit_at_set_other, bit_at-lt, bit_at_ones, bit_at-zero}
-use Rattle.dr_rowindex.specs.Truths.{has_bit}
+use Rattle.dr_bits.specs.Bits.{has_bit}
 
 -- ---- of numbers below two
 
