@@ -1,5 +1,5 @@
 -- Laws of `and` and `or` of truth values.
-use Rattle.std.proofs.Common.{◌≡◌, refl, Bool, true, false, not, ◌||◌, ◌&&◌, arith}
+use Rattle.std.proofs.Common.{◌≡◌, refl, Bool, true, false, not, ◌||◌, ◌&&◌}
 
 pub or_regroups : (a b c : Bool) → (a || (b || c)) ≡ ((a || b) || c)
 or_regroups true b c = refl
@@ -70,18 +70,3 @@ pub or_moves_out : (a b c : Bool) → ((a || b) || c) ≡ (b || (a || c))
 or_moves_out true true c = refl
 or_moves_out true false c = refl
 or_moves_out false b c = refl
-
-pub and_turns : (a b c : Bool) → ((a && b) && c) ≡ (a && (c && b))
-and_turns a b c = grind (arith)
-
--- what two deny of those of whom one of two things holds
-pub denies_of_either : (a b x y : Bool) → not ((a || b) && not (not (a && x) && not (b && y))) ≡ (not (a && x) && not (b && y))
-denies_of_either a b x y = grind (arith)
-
--- what is denied besides, of those of whom the same holds
-pub denies_besides : (a none x : Bool) → not (a && not (none && not x)) ≡ (not (a && not none) && not (a && x))
-denies_besides a none x = grind (arith)
-
--- and where it is the first
-pub denies_first : (a x : Bool) → not (a && not (true && not x)) ≡ not (a && x)
-denies_first a x = grind (arith)

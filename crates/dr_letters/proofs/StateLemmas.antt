@@ -1,16 +1,17 @@
 -- Which of some texts a pattern fits from a place on, place by place.
-use Rattle.std.proofs.Common.{inl, inr, ◌≡◌, ◌∙◌, sym, refl, ap, subst, ℕ, ◌+◌, ◌<◌, ◌≤◌, ◌==◌, ◌&&◌, ◌||◌, if◌then◌else◌, Bool, true, false, List, [], ◌∷◌, ◌++◌, length, get_or, set, drop, drop-drop, replicate, arith}
+use Rattle.std.proofs.Common.{inl, inr, ◌≡◌, ◌∙◌, sym, refl, ap, subst, ℕ, ◌+◌, ◌<◌, ◌≤◌, ◌≢◌, ◌==◌, nat_lt, ◌&&◌, ◌||◌, if◌then◌else◌, Bool, true, false, List, [], ◌∷◌, ◌++◌, length, get_or, set, drop, drop-drop, replicate, arith}
 use Rattle.std.specs.Str.{chars}
 use Rattle.std.proofs.lemmas.Bool.{cases_eq}
-use Rattle.std.proofs.lemmas.List.{length-set, get_or-set_same, get_or-set_other, get_or-replicate, length-replicate, length-append, get_or_append_left, get_or_at, length-drop, get_or-drop, drop_at, append_assoc}
+use Rattle.std.proofs.lemmas.Bool.Decides.{nat_tests}
+use Rattle.std.proofs.lemmas.List.{length-set, get_or-set_same, get_or-set_other, get_or-replicate, length-replicate, length-append, get_or_append_left, get_or_at, length-drop, drop_at, append_assoc}
 use Rattle.dr_like.specs.Like.{fits, is_empty, letter_fits, first_and_rest, behind_some_run}
 use Rattle.dr_like.specs.Letters.{Lacks}
-use Rattle.dr_like.proofs.Patterns.{lacks-left, lacks-right, too_short}
+use Rattle.dr_like.proofs.Patterns.{lacks-left, lacks-right}
 use Rattle.dr_rowindex.specs.Orders.{Tell}
 use Rattle.dr_rowindex.specs.Truths.{Joined}
 use Rattle.dr_rowindex.specs.declared.row_set.RowSet.{RowSet}
 use Rattle.dr_letters.specs.Codes.{Keeps}
-use Rattle.dr_letters.specs.States.{is_short, left_fits, AreSets, AreStates}
+use Rattle.dr_letters.specs.States.{is_short, left_fits, letters, AreSets, AreStates}
 
 -- ---- one text
 
@@ -48,9 +49,76 @@ run_here rest [] = twice (rest [])
     twice false = refl
 run_here rest (c ∷ cs) = refl
 
-empty_is : (cs : List ℕ) → is_empty cs ≡ true → cs ≡ []
+pub empty_is : (cs : List ℕ) → is_empty cs ≡ true → cs ≡ []
 empty_is [] e = refl
 empty_is (c ∷ cs) e = absurd (cc e)
+
+-- ---- how many letters
+
+pub letters-append : (ps qs : List ℕ) → letters (ps ++ qs) ≡ letters ps + letters qs
+letters-append [] qs = omega arith
+letters-append (p ∷ ps) qs = at (letters-append ps qs) (p == 37)
+  where
+    at : letters (ps ++ qs) ≡ letters ps + letters qs → (b : Bool) → (if b then letters (ps ++ qs) else letters (ps ++ qs) + 1) ≡ (if b then letters ps else letters ps + 1) + letters qs
+    at same true = same
+    at same false = omega (arith, same)
+
+pub letters-lacks : (ps : List ℕ) → Lacks 37 ps → letters ps ≡ length ps
+letters-lacks [] lacks = refl
+letters-lacks (p ∷ ps) lacks = ap (λ b. if b then letters ps else letters ps + 1) lacks.0 ∙ omega (arith, letters-lacks ps lacks.1)
+
+pub letters-run : (ps : List ℕ) → letters (37 ∷ ps) ≡ letters ps
+letters-run ps = refl
+
+pub letters-one : (letter : ℕ) (ps : List ℕ) → (letter == 37) ≡ false → letters (letter ∷ ps) ≡ letters ps + 1
+letters-one letter ps one = ap (λ b. if b then letters ps else letters ps + 1) one
+
+-- a pattern whose last letter is a run, or is not
+pub letters-before-run : (more left : List ℕ) (letter : ℕ) → left ≡ more ++ letter ∷ [] → letter ≡ 37 → letters left ≡ letters more
+letters-before-run more left letter last is = ap letters last ∙ letters-append more (letter ∷ []) ∙ ap (λ l. letters more + letters (l ∷ [])) is ∙ omega arith
+
+pub is_one : (letter : ℕ) → letter ≢ 37 → (letter == 37) ≡ false
+is_one letter differs = grind (arith, nat_tests, differs)
+
+pub letters-before-one : (more left : List ℕ) (letter : ℕ) → left ≡ more ++ letter ∷ [] → letter ≢ 37 → letters left ≡ letters more + 1
+letters-before-one more left letter last differs = ap letters last ∙ letters-append more (letter ∷ []) ∙ omega (arith, letters-one letter [] (is_one letter differs))
+
+none_behind : (rest : List ℕ → Bool) (cs : List ℕ) → ((ds : List ℕ) → length ds ≤ length cs → rest ds ≡ false) → behind_some_run rest cs ≡ false
+none_behind rest [] fails = fails [] (omega arith)
+none_behind rest (c ∷ cs) fails = ap (λ b. b || behind_some_run rest cs) (fails (c ∷ cs) (omega arith)) ∙ none_behind rest cs (λ ds le. fails ds (omega (arith, le)))
+
+-- a text of fewer characters than a pattern has letters doesn't fit it
+pub too_few : (ps cs : List ℕ) → length cs < letters ps → fits ps cs ≡ false
+unfolding fits
+too_few [] cs lt = absurd (omega (arith, lt))
+too_few (p ∷ ps) cs lt = at (λ ds less. too_few ps ds less) (p == 37) refl
+  where
+    Fewer : Type 0
+    Fewer = (ds : List ℕ) → length ds < letters ps → fits ps ds ≡ false
+
+    first : Fewer → (ds : List ℕ) → length ds < letters ps + 1 → first_and_rest (letter_fits p) (fits ps) ds ≡ false
+    first fewer [] less = refl
+    first fewer (d ∷ ds) less = ap (λ b. letter_fits p d && b) (fewer ds (omega (arith, less))) ∙ never (letter_fits p d)
+      where
+        never : (a : Bool) → (a && false) ≡ false
+        never true = refl
+        never false = refl
+
+    at : Fewer → (b : Bool) → (p == 37) ≡ b → (if b then behind_some_run (fits ps) cs else first_and_rest (letter_fits p) (fits ps) cs) ≡ false
+    at fewer true is =
+        let less : length cs < letters ps = subst (λ b. length cs < (if b then letters ps else letters ps + 1)) is lt in
+        none_behind (fits ps) cs (λ ds le. fewer ds (omega (arith, le, less)))
+    at fewer false is = first fewer cs (subst (λ b. length cs < (if b then letters ps else letters ps + 1)) is lt)
+
+short_length : (n : ℕ) (cs : List ℕ) → is_empty (drop n cs) ≡ true → length cs ≤ n
+short_length n cs short = omega (arith, length-drop n cs, ap length (empty_is (drop n cs) short))
+
+pub left_too_few : (places : ℕ) (pattern : List ℕ) (place : ℕ) (text : List ℕ) → 0 < letters pattern → places < place + letters pattern → left_fits places pattern place text ≡ false
+left_too_few places pattern place text some lt = at (is_empty (drop places (chars text))) refl
+  where
+    at : (b : Bool) → is_empty (drop places (chars text)) ≡ b → (b && fits pattern (drop place (chars text))) ≡ false
+    at false is = refl
+    at true is = too_few pattern (drop place (chars text)) (omega (arith, some, lt, length-drop place (chars text), short_length places (chars text) is))
 
 module _ (places : ℕ) (behind : List ℕ) (text : List ℕ) where
   -- a letter before the pattern, at a place before the one from which on the pattern is told
@@ -65,20 +133,6 @@ module _ (places : ℕ) (behind : List ℕ) (text : List ℕ) where
       regroups : (a b c : Bool) → ((a && b) && c) ≡ (a && (b && c))
       regroups true b c = refl
       regroups false b c = refl
-
-  -- a letter before the pattern, where there is no character left
-  pub letter_last : (letter : ℕ) → (letter == 37) ≡ false → false ≡ left_fits places (letter ∷ behind) places text
-  letter_last letter one = at (is_empty (drop places (chars text))) refl
-    where
-      never : (b : Bool) → false ≡ (b && false)
-      never true = refl
-      never false = refl
-
-      at : (b : Bool) → is_empty (drop places (chars text)) ≡ b → false ≡ (b && fits (letter ∷ behind) (drop places (chars text)))
-      at false is = refl
-      at true is = never (fits behind (drop 1 []))
-          ∙ sym (one_letter letter behind [] one)
-          ∙ ap (fits (letter ∷ behind)) (sym (empty_is (drop places (chars text)) is))
 
   -- a run before the pattern, where there is no character left
   pub run_last : left_fits places behind places text ≡ left_fits places (37 ∷ behind) places text
@@ -103,10 +157,39 @@ module _ (places : ℕ) (behind : List ℕ) (text : List ℕ) where
       gathered true b c = refl
       gathered false b c = refl
 
+  -- a run before the pattern, at the last place where it may stand
+  pub run_at_end : (place : ℕ) → place + letters behind ≡ places → left_fits places behind place text ≡ left_fits places (37 ∷ behind) place text
+  run_at_end place is = elim (cases_eq (letters behind) 0) [
+    | inl none ↦ (let same : places ≡ place = omega (arith, is, none) in
+        subst (λ k. left_fits places behind k text ≡ left_fits places (37 ∷ behind) k text) same run_last)
+    | inr some ↦ (let later : left_fits places (37 ∷ behind) (place + 1) text ≡ false = left_too_few places (37 ∷ behind) (place + 1) text (omega (arith, some, letters-run behind)) (omega (arith, is, letters-run behind)) in
+        alone (left_fits places behind place text) ∙ ap (λ b. left_fits places behind place text || b) (sym later) ∙ run_before place)
+  ]
+    where
+      alone : (b : Bool) → b ≡ (b || false)
+      alone true = refl
+      alone false = refl
+
+  -- a run and nothing behind it
+  pub run_alone : (place : ℕ) → is_short places text ≡ left_fits places (37 ∷ []) place text
+  unfolding fits
+  run_alone place = alone (is_short places text) ∙ ap (λ b. is_short places text && b) (sym (one_run [] (drop place (chars text)) ∙ all (drop place (chars text))))
+    where
+      alone : (b : Bool) → b ≡ (b && true)
+      alone true = refl
+      alone false = refl
+
+      all : (cs : List ℕ) → behind_some_run (fits []) cs ≡ true
+      all [] = refl
+      all (c ∷ cs) = all cs
+
 -- ---- all texts
 
-pub states-sets : (pattern : List ℕ) (texts : List (List ℕ)) (places : ℕ) (states : List RowSet) → AreStates pattern texts places states → AreSets (length texts) (places + 1) states
-states-sets pattern texts places states was = (was.count, λ k told lt. (was.each k told (omega (arith, lt, was.count))).count)
+pub tell-alike : (f g : List ℕ → Bool) (texts : List (List ℕ)) (told : List Bool) → ((t : List ℕ) → f t ≡ g t) → Tell f texts told → Tell g texts told
+tell-alike f g texts told same was = record { count = was.count; each = λ i t lt. was.each i t lt ∙ same (get_or texts i t) }
+
+pub states-sets : (pattern : List ℕ) (place : ℕ) (texts : List (List ℕ)) (places : ℕ) (states : List RowSet) → AreStates pattern place texts places states → AreSets (length texts) states
+states-sets pattern place texts places states was = λ k told lt. (was.each k told lt).count
 
 module _ (pattern : List ℕ) (texts : List (List ℕ)) (places : ℕ) where
   pub tell-kept : (letter place : ℕ) (told after : List Bool) → (letter == 37) ≡ false → Tell (left_fits places pattern (place + 1)) texts told
@@ -118,112 +201,83 @@ module _ (pattern : List ℕ) (texts : List (List ℕ)) (places : ℕ) where
         ∙ letter_before places pattern (get_or texts i t) letter place one;
   }
 
-  tell-none : (letter : ℕ) (told : List Bool) → (letter == 37) ≡ false → told ≡ replicate (length texts) false → Tell (left_fits places (letter ∷ pattern) places) texts told
-  tell-none letter told one is = record {
-    count = ap length is ∙ length-replicate (length texts) false;
-    each = λ i t lt. ap (λ l. get_or l i false) is ∙ get_or-replicate (length texts) i false false lt ∙ letter_last places pattern (get_or texts i t) letter one;
-  }
+  -- a letter was put before the pattern in the first so many sets
+  pub record IsPut (letter place k : ℕ) (states : List RowSet) : Type 0 where
+    pub count : place + 1 + letters pattern + length states ≡ places + 1
+    pub done : (j : ℕ) (told : List Bool) → j < k → j < length states → Tell (left_fits places (letter ∷ pattern) (place + j)) texts (get_or states j told)
+    pub left : (j : ℕ) (told : List Bool) → k ≤ j → j < length states → Tell (left_fits places pattern (place + j + 1)) texts (get_or states j told)
 
-  -- a letter was put before the pattern at the places before one
-  pub record IsPut (letter k : ℕ) (states : List RowSet) : Type 0 where
-    pub count : length states ≡ places + 1
-    pub done : (j : ℕ) (told : List Bool) → j < k → j < places → Tell (left_fits places (letter ∷ pattern) j) texts (get_or states j told)
-    pub left : (j : ℕ) (told : List Bool) → k ≤ j → j < places → Tell (left_fits places pattern (j + 1)) texts (get_or states j told)
-    pub last : (told : List Bool) → Tell (left_fits places (letter ∷ pattern) places) texts (get_or states places told)
-
-  pub put-begun : (letter : ℕ) (before after : List RowSet) (none : RowSet) → (letter == 37) ≡ false → AreStates pattern texts places before
-      → none ≡ replicate (length texts) false → after ≡ drop 1 before ++ none ∷ [] → IsPut letter 0 after
-  put-begun letter before after none one was is moved = record {
-    count = ap length moved ∙ length-append (drop 1 before) (none ∷ []) ∙ omega (arith, length-drop 1 before, was.count);
+  pub put-begun : (letter place : ℕ) (states : List RowSet) → AreStates pattern (place + 1) texts places states → IsPut letter place 0 states
+  put-begun letter place states was = record {
+    count = was.count;
     done = λ j told lt lt'. absurd (omega (arith, lt));
     left = λ j told le lt.
-        let at : 1 + j ≡ j + 1 = omega arith in
-        subst (Tell (left_fits places pattern (j + 1)) texts)
-        (sym (ap (λ l. get_or l j told) moved ∙ get_or_append_left (drop 1 before) (none ∷ []) told j (omega (arith, lt, front)) ∙ get_or-drop 1 before j told ∙ ap (λ i. get_or before i told) at))
-        (was.each (j + 1) told (omega (arith, lt)));
-    last = λ told.
-        subst (Tell (left_fits places (letter ∷ pattern) places) texts)
-        (sym (ap (λ l. get_or l places told) moved ∙ get_or_at (drop 1 before) none [] told places front))
-        (tell-none letter none one is);
+        let at : place + 1 + j ≡ place + j + 1 = omega arith in
+        subst (λ n. Tell (left_fits places pattern n) texts (get_or states j told)) at (was.each j told lt);
   }
-    where
-      front : length (drop 1 before) ≡ places
-      front = omega (arith, length-drop 1 before, was.count)
 
-  pub put-more : (letter k : ℕ) (states : List RowSet) (set' : RowSet) (d : List Bool) → (letter == 37) ≡ false → k < places → IsPut letter k states
-      → Keeps (λ t. first_and_rest (letter_fits letter) (λ more. true) (drop k (chars t))) texts (get_or states k d) set' → IsPut letter (k + 1) (set states k set')
-  put-more letter k states set' d one lt was keeps = record {
-    count = length-set states k set' ∙ was.count;
+  pub put-more : (letter place k : ℕ) (states : List RowSet) (set' : RowSet) (d : List Bool) → (letter == 37) ≡ false → k < length states → IsPut letter place k states
+      → Keeps (λ t. first_and_rest (letter_fits letter) (λ more. true) (drop (place + k) (chars t))) texts (get_or states k d) set' → IsPut letter place (k + 1) (set states k set')
+  put-more letter place k states set' d one lt was keeps = record {
+    count = ap (λ n. place + 1 + letters pattern + n) (length-set states k set') ∙ was.count;
     done = λ j told below within. elim (cases_eq j k) [
-      | inl same ↦ (subst (λ i. Tell (left_fits places (letter ∷ pattern) i) texts (get_or (set states k set') i told)) (sym same)
-          (subst (Tell (left_fits places (letter ∷ pattern) k) texts) (sym (get_or-set_same states k set' told (omega (arith, lt, was.count))))
-          (tell-kept letter k (get_or states k d) set' one (was.left k d (omega arith) lt) keeps)))
-      | inr differs ↦ (subst (Tell (left_fits places (letter ∷ pattern) j) texts) (sym (get_or-set_other states k j set' told differs)) (was.done j told (omega (arith, below, differs)) within))
+      | inl same ↦ (subst (λ i. Tell (left_fits places (letter ∷ pattern) (place + i)) texts (get_or (set states k set') i told)) (sym same)
+          (subst (Tell (left_fits places (letter ∷ pattern) (place + k)) texts) (sym (get_or-set_same states k set' told lt))
+          (tell-kept letter (place + k) (get_or states k d) set' one (was.left k d (omega arith) lt) keeps)))
+      | inr differs ↦ (subst (Tell (left_fits places (letter ∷ pattern) (place + j)) texts) (sym (get_or-set_other states k j set' told differs)) (was.done j told (omega (arith, below, differs)) (omega (arith, within, length-set states k set'))))
     ];
-    left = λ j told le within. subst (Tell (left_fits places pattern (j + 1)) texts) (sym (get_or-set_other states k j set' told (λ e. absurd (omega (arith, e, le))))) (was.left j told (omega (arith, le)) within);
-    last = λ told. subst (Tell (left_fits places (letter ∷ pattern) places) texts) (sym (get_or-set_other states k places set' told (λ e. absurd (omega (arith, e, lt))))) (was.last told);
+    left = λ j told le within. subst (Tell (left_fits places pattern (place + j + 1)) texts) (sym (get_or-set_other states k j set' told (λ e. absurd (omega (arith, e, le))))) (was.left j told (omega (arith, le)) (omega (arith, within, length-set states k set')));
   }
 
-  pub put-all : (letter k : ℕ) (states : List RowSet) → places ≤ k → IsPut letter k states → AreStates (letter ∷ pattern) texts places states
-  put-all letter k states le was = record {
-    count = was.count;
-    each = λ j told within. elim (cases_eq j places) [
-      | inl same ↦ subst (λ i. Tell (left_fits places (letter ∷ pattern) i) texts (get_or states i told)) (sym same) (was.last told)
-      | inr differs ↦ was.done j told (omega (arith, within, differs, le)) (omega (arith, within, differs))
-    ];
+  pub put-all : (letter place k : ℕ) (states : List RowSet) → (letter == 37) ≡ false → length states ≤ k → IsPut letter place k states → AreStates (letter ∷ pattern) place texts places states
+  put-all letter place k states one le was = record {
+    count = omega (arith, was.count, letters-one letter pattern one);
+    each = λ j told within. was.done j told (omega (arith, within, le)) within;
   }
 
-  -- a run was put before the pattern at the places from one on; where it fits from there is told beside
-  pub record IsRunPut (k : ℕ) (later : List Bool) (states : List RowSet) : Type 0 where
-    pub count : length states ≡ places + 1
-    pub within : k ≤ places
-    pub here : Tell (left_fits places (37 ∷ pattern) k) texts later
-    pub done : (j : ℕ) (told : List Bool) → k ≤ j → j ≤ places → Tell (left_fits places (37 ∷ pattern) j) texts (get_or states j told)
-    pub left : (j : ℕ) (told : List Bool) → j < k → Tell (left_fits places pattern j) texts (get_or states j told)
+  -- a run was put before the pattern in the sets from one on; where it fits from there is told beside
+  pub record IsRunPut (place k : ℕ) (later : List Bool) (states : List RowSet) : Type 0 where
+    pub count : place + letters pattern + length states ≡ places + 1
+    pub within : k < length states
+    pub here : Tell (left_fits places (37 ∷ pattern) (place + k)) texts later
+    pub done : (j : ℕ) (told : List Bool) → k ≤ j → j < length states → Tell (left_fits places (37 ∷ pattern) (place + j)) texts (get_or states j told)
+    pub left : (j : ℕ) (told : List Bool) → j < k → Tell (left_fits places pattern (place + j)) texts (get_or states j told)
 
-  pub run-begun : (states : List RowSet) (none later : RowSet) (d : List Bool) → AreStates pattern texts places states → none ≡ replicate (length texts) false
-      → Joined (λ a b. a || b) (get_or states places d) none later → IsRunPut places later states
-  run-begun states none later d was is joined = record {
+  pub run-begun : (place k : ℕ) (states : List RowSet) (later : RowSet) (d : List Bool) → k + 1 ≡ length states → AreStates pattern place texts places states → later ≡ get_or states k d → IsRunPut place k later states
+  run-begun place k states later d last was is = record {
     count = was.count;
-    within = omega arith;
-    here = record {
-      count = joined.count ∙ ap length is ∙ length-replicate (length texts) false;
-      each = λ i t lt. joined.each i (omega (arith, lt, ap length is ∙ length-replicate (length texts) false))
-          ∙ ap (λ b. b || get_or (get_or states places d) i false) (ap (λ l. get_or l i false) is ∙ get_or-replicate (length texts) i false false lt)
-          ∙ (was.each places d (omega arith)).each i t lt ∙ run_last places pattern (get_or texts i t);
-    };
-    done = λ j told le le'.
-        let same : j ≡ places = omega (arith, le, le') in
-        subst (λ i. Tell (left_fits places (37 ∷ pattern) i) texts (get_or states i told)) (sym same) (at_end told);
-    left = λ j told lt. was.each j told (omega (arith, lt));
+    within = omega (arith, last);
+    here = subst (Tell (left_fits places (37 ∷ pattern) (place + k)) texts) (sym is) (at_end d);
+    done = λ j told le lt.
+        let same : j ≡ k = omega (arith, le, lt, last) in
+        subst (λ i. Tell (left_fits places (37 ∷ pattern) (place + i)) texts (get_or states i told)) (sym same) (at_end told);
+    left = λ j told lt. was.each j told (omega (arith, lt, last));
   }
     where
-      at_end : (told : List Bool) → Tell (left_fits places (37 ∷ pattern) places) texts (get_or states places told)
-      at_end told = record {
-        count = (was.each places told (omega arith)).count;
-        each = λ i t lt. (was.each places told (omega arith)).each i t lt ∙ run_last places pattern (get_or texts i t);
-      }
+      at_end : (told : List Bool) → Tell (left_fits places (37 ∷ pattern) (place + k)) texts (get_or states k told)
+      at_end told = tell-alike (left_fits places pattern (place + k)) (left_fits places (37 ∷ pattern) (place + k)) texts (get_or states k told)
+          (λ t. run_at_end places pattern t (place + k) (omega (arith, last, was.count))) (was.each k told (omega (arith, last)))
 
-  pub run-more : (k : ℕ) (states : List RowSet) (later set' later' : RowSet) (d : List Bool) → k + 1 ≤ places → IsRunPut (k + 1) later states
-      → Joined (λ a b. a || b) later (get_or states k d) set' → Joined (λ a b. a || b) set' later later' → IsRunPut k later' (set states k set')
-  run-more k states later set' later' d le was joined joined' = record {
-    count = length-set states k set' ∙ was.count;
-    within = omega (arith, le);
+  pub run-more : (place k : ℕ) (states : List RowSet) (later set' later' : RowSet) (d : List Bool) → IsRunPut place (k + 1) later states
+      → Joined (λ a b. a || b) later (get_or states k d) set' → Joined (λ a b. a || b) set' later later' → IsRunPut place k later' (set states k set')
+  run-more place k states later set' later' d was joined joined' = record {
+    count = ap (λ n. place + letters pattern + n) (length-set states k set') ∙ was.count;
+    within = omega (arith, was.within, length-set states k set');
     here = record {
       count = joined'.count ∙ was.here.count;
       each = λ i t lt. joined'.each i (omega (arith, lt, was.here.count))
           ∙ ap (λ b. b || get_or set' i false) (was.here.each i t lt)
-          ∙ ap (λ b. left_fits places (37 ∷ pattern) (k + 1) (get_or texts i t) || b) (told_here.each i t lt)
-          ∙ ap (λ b. left_fits places (37 ∷ pattern) (k + 1) (get_or texts i t) || b) (sym (run_before places pattern (get_or texts i t) k))
-          ∙ again (left_fits places (37 ∷ pattern) (k + 1) (get_or texts i t)) (left_fits places pattern k (get_or texts i t))
-          ∙ run_before places pattern (get_or texts i t) k;
+          ∙ ap (λ b. left_fits places (37 ∷ pattern) (place + (k + 1)) (get_or texts i t) || b) (told_here.each i t lt)
+          ∙ ap (λ b. left_fits places (37 ∷ pattern) (place + (k + 1)) (get_or texts i t) || b) (sym (before_one (get_or texts i t)))
+          ∙ again (left_fits places (37 ∷ pattern) (place + (k + 1)) (get_or texts i t)) (left_fits places pattern (place + k) (get_or texts i t))
+          ∙ before_one (get_or texts i t);
     };
     done = λ j told from upto. elim (cases_eq j k) [
-      | inl same ↦ (subst (λ i. Tell (left_fits places (37 ∷ pattern) i) texts (get_or (set states k set') i told)) (sym same)
-          (subst (Tell (left_fits places (37 ∷ pattern) k) texts) (sym (get_or-set_same states k set' told (omega (arith, le, was.count)))) told_here))
-      | inr differs ↦ (subst (Tell (left_fits places (37 ∷ pattern) j) texts) (sym (get_or-set_other states k j set' told differs)) (was.done j told (omega (arith, from, differs)) upto))
+      | inl same ↦ (subst (λ i. Tell (left_fits places (37 ∷ pattern) (place + i)) texts (get_or (set states k set') i told)) (sym same)
+          (subst (Tell (left_fits places (37 ∷ pattern) (place + k)) texts) (sym (get_or-set_same states k set' told (omega (arith, was.within)))) told_here))
+      | inr differs ↦ (subst (Tell (left_fits places (37 ∷ pattern) (place + j)) texts) (sym (get_or-set_other states k j set' told differs)) (was.done j told (omega (arith, from, differs)) (omega (arith, upto, length-set states k set'))))
     ];
-    left = λ j told lt. subst (Tell (left_fits places pattern j) texts) (sym (get_or-set_other states k j set' told (λ e. absurd (omega (arith, e, lt))))) (was.left j told (omega (arith, lt)));
+    left = λ j told lt. subst (Tell (left_fits places pattern (place + j)) texts) (sym (get_or-set_other states k j set' told (λ e. absurd (omega (arith, e, lt))))) (was.left j told (omega (arith, lt)));
   }
     where
       again : (a b : Bool) → (a || (b || a)) ≡ (b || a)
@@ -231,48 +285,34 @@ module _ (pattern : List ℕ) (texts : List (List ℕ)) (places : ℕ) where
       again true false = refl
       again false b = refl
 
-      before : Tell (left_fits places pattern k) texts (get_or states k d)
+      before_one : (t : List ℕ) → (left_fits places pattern (place + k) t || left_fits places (37 ∷ pattern) (place + (k + 1)) t) ≡ left_fits places (37 ∷ pattern) (place + k) t
+      before_one t =
+          let next : place + (k + 1) ≡ place + k + 1 = omega arith in
+          ap (λ n. left_fits places pattern (place + k) t || left_fits places (37 ∷ pattern) n t) next ∙ run_before places pattern t (place + k)
+
+      before : Tell (left_fits places pattern (place + k)) texts (get_or states k d)
       before = was.left k d (omega arith)
 
-      told_here : Tell (left_fits places (37 ∷ pattern) k) texts set'
+      told_here : Tell (left_fits places (37 ∷ pattern) (place + k)) texts set'
       told_here = record {
         count = joined.count ∙ before.count;
         each = λ i t lt. joined.each i (omega (arith, lt, before.count))
             ∙ ap (λ b. b || get_or later i false) (before.each i t lt)
-            ∙ ap (λ b. left_fits places pattern k (get_or texts i t) || b) (was.here.each i t lt)
-            ∙ run_before places pattern (get_or texts i t) k;
+            ∙ ap (λ b. left_fits places pattern (place + k) (get_or texts i t) || b) (was.here.each i t lt)
+            ∙ before_one (get_or texts i t);
       }
 
-  pub run-all : (k : ℕ) (later : List Bool) (states : List RowSet) → k ≤ 0 → IsRunPut k later states → AreStates (37 ∷ pattern) texts places states
-  run-all k later states le was = record { count = was.count; each = λ j told within. was.done j told (omega (arith, le)) within }
+  pub run-all : (place k : ℕ) (later : List Bool) (states : List RowSet) → k ≤ 0 → IsRunPut place k later states → AreStates (37 ∷ pattern) place texts places states
+  run-all place k later states le was = record { count = was.count; each = λ j told within. was.done j told (omega (arith, le)) within }
 
 -- ---- sets of rows
 
-pub sets-set : (rows count k : ℕ) (sets : List RowSet) (after : RowSet) (d : List Bool) → AreSets rows count sets → k < count → length after ≡ length (get_or sets k d) → AreSets rows count (set sets k after)
-sets-set rows count k sets after d was lt same = (
-  length-set sets k after ∙ was.0,
-  λ j told within. elim (cases_eq j k) [
-    | inl at ↦ (subst (λ i. length (get_or (set sets k after) i told) ≡ rows) (sym at)
-        (ap length (get_or-set_same sets k after told here) ∙ same ∙ was.1 k d here))
-    | inr differs ↦ (ap length (get_or-set_other sets k j after told differs) ∙ was.1 j told (omega (arith, within, length-set sets k after)))
-  ],
-)
-  where
-    here : k < length sets
-    here = omega (arith, lt, was.0)
-
-pub sets-moved : (rows places : ℕ) (before after : List RowSet) (none : RowSet) → AreSets rows (places + 1) before → length none ≡ rows → after ≡ drop 1 before ++ none ∷ [] → AreSets rows (places + 1) after
-sets-moved rows places before after none was long moved = (
-  ap length moved ∙ length-append (drop 1 before) (none ∷ []) ∙ omega (arith, length-drop 1 before, was.0),
-  λ j told within. elim (cases_eq j places) [
-    | inl at ↦ (ap length (ap (λ l. get_or l j told) moved ∙ get_or_at (drop 1 before) none [] told j (front ∙ sym at)) ∙ long)
-    | inr differs ↦ (let less : j < places = omega (arith, within, differs, ap length moved, length-append (drop 1 before) (none ∷ []), front) in
-        ap length (ap (λ l. get_or l j told) moved ∙ get_or_append_left (drop 1 before) (none ∷ []) told j (omega (arith, less, front)) ∙ get_or-drop 1 before j told) ∙ was.1 (1 + j) told (omega (arith, less, was.0)))
-  ],
-)
-  where
-    front : length (drop 1 before) ≡ places
-    front = omega (arith, length-drop 1 before, was.0)
+pub sets-set : (rows k : ℕ) (sets : List RowSet) (after : RowSet) (d : List Bool) → AreSets rows sets → k < length sets → length after ≡ length (get_or sets k d) → AreSets rows (set sets k after)
+sets-set rows k sets after d was lt same = λ j told within. elim (cases_eq j k) [
+  | inl at ↦ (subst (λ i. length (get_or (set sets k after) i told) ≡ rows) (sym at)
+      (ap length (get_or-set_same sets k after told lt) ∙ same ∙ was k d lt))
+  | inr differs ↦ (ap length (get_or-set_other sets k j after told differs) ∙ was j told (omega (arith, within, length-set sets k after)))
+]
 
 -- ---- a pattern without letters
 
@@ -280,23 +320,29 @@ pub ended-state : (texts : List (List ℕ)) (places k : ℕ) (told : List Bool) 
 unfolding fits
 ended-state texts places k told tells = tells
 
-abbrev pub AreSome : (texts : List (List ℕ)) (places k : ℕ) → List RowSet → Type 0
-AreSome texts places k states = (length states ≡ k) × ((j : ℕ) (told : List Bool) → j < k → Tell (left_fits places [] j) texts (get_or states j told))
+-- the sets of texts that end before a place are copied
+pub ended-copied : (texts : List (List ℕ)) (places k : ℕ) (ended copy : List Bool) → Tell (λ t. is_short places t && is_empty (drop k (chars t))) texts ended → copy ≡ ended → Tell (left_fits places [] k) texts copy
+ended-copied texts places k ended copy tells same =
+    ended-state texts places k copy (subst (λ s. Tell (λ t. is_short places t && is_empty (drop k (chars t))) texts s) (sym same) tells)
 
-pub one-state : (texts : List (List ℕ)) (places k : ℕ) (before after : List RowSet) (last : RowSet) → AreSome texts places k before → after ≡ before ++ last ∷ []
-    → Tell (left_fits places [] k) texts last → AreSome texts places (k + 1) after
-one-state texts places k before after last was more tells = (
-  ap length more ∙ length-append before (last ∷ []) ∙ ap (λ n. n + 1) was.0,
-  λ j told lt. elim (cases_eq j k) [
-    | inl same ↦ (subst (λ i. Tell (left_fits places [] i) texts (get_or after i told)) (sym same)
-        (subst (Tell (left_fits places [] k) texts) (sym (ap (λ l. get_or l k told) more ∙ get_or_at before last [] told k was.0)) tells))
-    | inr differs ↦ (let less : j < k = omega (arith, lt, differs) in
-        subst (Tell (left_fits places [] j) texts) (sym (ap (λ l. get_or l j told) more ∙ get_or_append_left before (last ∷ []) told j (omega (arith, less, was.0)))) (was.1 j told less))
+abbrev pub AreSome : (texts : List (List ℕ)) (places from k : ℕ) → List RowSet → Type 0
+AreSome texts places from k states = (from + length states ≡ k) × ((j : ℕ) (told : List Bool) → j < length states → Tell (left_fits places [] (from + j)) texts (get_or states j told))
+
+pub one-state : (texts : List (List ℕ)) (places from k : ℕ) (before after : List RowSet) (last : RowSet) → AreSome texts places from k before → after ≡ before ++ last ∷ []
+    → Tell (left_fits places [] k) texts last → AreSome texts places from (k + 1) after
+one-state texts places from k before after last was more tells = (
+  omega (arith, ap length more, length-append before (last ∷ []), was.0),
+  λ j told lt. elim (cases_eq j (length before)) [
+    | inl same ↦ (subst (λ i. Tell (left_fits places [] (from + i)) texts (get_or after i told)) (sym same)
+        (subst (Tell (left_fits places [] (from + length before)) texts) (sym (ap (λ l. get_or l (length before) told) more ∙ get_or_at before last [] told (length before) refl))
+        (subst (λ i. Tell (left_fits places [] i) texts last) (sym was.0) tells)))
+    | inr differs ↦ (let less : j < length before = omega (arith, lt, differs, ap length more, length-append before (last ∷ [])) in
+        subst (Tell (left_fits places [] (from + j)) texts) (sym (ap (λ l. get_or l j told) more ∙ get_or_append_left before (last ∷ []) told j less)) (was.1 j told less))
   ],
 )
 
-pub all-states : (texts : List (List ℕ)) (places : ℕ) (states : List RowSet) (k : ℕ) → k ≡ places → AreSome texts places (k + 1) states → AreStates [] texts places states
-all-states texts places states k same was = record { count = was.0 ∙ ap (λ n. n + 1) same; each = λ j told le. was.1 j told (omega (arith, le, same)) }
+pub all-states : (texts : List (List ℕ)) (places from k : ℕ) (states : List RowSet) → k ≡ places → AreSome texts places from (k + 1) states → AreStates [] from texts places states
+all-states texts places from k states same was = record { count = omega (arith, was.0, same); each = was.1 }
 
 -- ---- a pattern from its last letter on
 
@@ -313,21 +359,17 @@ last_letter_is_one more letter left last lacks = (lacks-right 37 more (letter �
 pub letters_before : (more : List ℕ) (letter : ℕ) (left : List ℕ) → left ≡ more ++ letter ∷ [] → Lacks 37 left → Lacks 37 more
 letters_before more letter left last lacks = lacks-left 37 more (letter ∷ []) (subst (Lacks 37) last lacks)
 
--- ---- a start that is longer than the texts
+-- ---- a pattern that is longer than the texts
 
-short_length : (n : ℕ) (cs : List ℕ) → is_empty (drop n cs) ≡ true → length cs ≤ n
-short_length n cs short = omega (arith, length-drop n cs, ap length (empty_is (drop n cs) short))
-
-pub none-so-long : (texts : List (List ℕ)) (places : ℕ) (start more : List ℕ) (told : List Bool) (n : ℕ) → Lacks 37 start → places < length start → n ≡ length texts → told ≡ replicate n false
-    → Tell (left_fits places (start ++ more) 0) texts told
-none-so-long texts places start more told n lacks lt rows is = record {
+pub none-so-long : (texts : List (List ℕ)) (places : ℕ) (pattern : List ℕ) (told : List Bool) (n : ℕ) → places < letters pattern → n ≡ length texts → told ≡ replicate n false
+    → Tell (left_fits places pattern 0) texts told
+none-so-long texts places pattern told n lt rows is = record {
   count = ap length is ∙ length-replicate n false ∙ rows;
-  each = λ i t within. ap (λ l. get_or l i false) is ∙ get_or-replicate n i false false (omega (arith, within, rows)) ∙ misses (chars (get_or texts i t));
+  each = λ i t within. ap (λ l. get_or l i false) is ∙ get_or-replicate n i false false (omega (arith, within, rows)) ∙ sym (left_too_few places pattern 0 (get_or texts i t) (omega (arith, lt)) (omega (arith, lt)));
 }
-  where
-    misses : (cs : List ℕ) → false ≡ (is_empty (drop places cs) && fits (start ++ more) (drop 0 cs))
-    misses cs = at (is_empty (drop places cs)) refl
-      where
-        at : (b : Bool) → is_empty (drop places cs) ≡ b → false ≡ (b && fits (start ++ more) (drop 0 cs))
-        at false is = refl
-        at true is = sym (too_short start more cs lacks (omega (arith, lt, short_length places cs is)))
+
+pub more_are : (some most : ℕ) → nat_lt most some ≡ true → most < some
+more_are some most is = grind (arith, nat_tests, is)
+
+pub no_more_are : (some most : ℕ) → nat_lt most some ≡ false → some ≤ most
+no_more_are some most is = grind (arith, nat_tests, is)

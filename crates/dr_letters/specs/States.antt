@@ -1,5 +1,5 @@
 -- Which of some texts a pattern fits from a place on, place by place. No public contract cites this file.
-use Rattle.std.specs.Prelude.{◌≡◌, ℕ, ◌+◌, ◌<◌, ◌≤◌, ◌==◌, Bool, ◌&&◌, not, List, length, get_or, drop, map}
+use Rattle.std.specs.Prelude.{◌≡◌, ℕ, ◌+◌, ◌<◌, ◌==◌, Bool, if◌then◌else◌, ◌&&◌, not, List, [], ◌∷◌, length, get_or, drop, map}
 use Rattle.std.specs.List.{list_any, AllByRecursion}
 use Rattle.std.specs.Str.{chars}
 use Rattle.dr_like.specs.Like.{fits, is_empty}
@@ -25,11 +25,17 @@ pub record AreLong (texts : List (List ℕ)) (places : ℕ) (long : List ℕ) : 
   pub within : AllByRecursion (λ r. r < length texts) long
   pub each : (i : ℕ) (t : List ℕ) → i < length texts → list_any (λ r. r == i) long ≡ not (is_short places (get_or texts i t))
 
--- so many sets of so many rows
-abbrev pub AreSets : (rows count : ℕ) → List RowSet → Type 0
-AreSets rows count sets = (length sets ≡ count) × ((k : ℕ) (told : List Bool) → k < length sets → length (get_or sets k told) ≡ rows)
+-- how many letters of a pattern are one character each: all but `%`
+abbrev pub letters : List ℕ → ℕ
+letters [] = 0
+letters (p ∷ ps) = if p == 37 then letters ps else letters ps + 1
 
--- for each place, and the one behind them, it is told which of the texts fit the pattern from there on
-pub record AreStates (pattern : List ℕ) (texts : List (List ℕ)) (places : ℕ) (states : List RowSet) : Type 0 where
-  pub count : length states ≡ places + 1
-  pub each : (k : ℕ) (told : List Bool) → k ≤ places → Tell (left_fits places pattern k) texts (get_or states k told)
+-- sets of so many rows
+abbrev pub AreSets : (rows : ℕ) → List RowSet → Type 0
+AreSets rows sets = (k : ℕ) (told : List Bool) → k < length sets → length (get_or sets k told) ≡ rows
+
+-- it is told which of the texts fit the pattern from a place on, from the next one on, and so on, as far as there are places left for
+-- the letters of the pattern
+pub record AreStates (pattern : List ℕ) (place : ℕ) (texts : List (List ℕ)) (places : ℕ) (states : List RowSet) : Type 0 where
+  pub count : place + letters pattern + length states ≡ places + 1
+  pub each : (k : ℕ) (told : List Bool) → k < length states → Tell (left_fits places pattern (place + k)) texts (get_or states k told)

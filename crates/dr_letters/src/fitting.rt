@@ -1,12 +1,12 @@
-ghost use Rattle.std.specs.Prelude.{◌≡◌, ◌≤◌, ◌++◌, ◌∷◌, ℕ, List, length, IfOk};
+ghost use Rattle.std.specs.Prelude.{◌≡◌, ◌≤◌, ◌+◌, ◌++◌, ◌∷◌, nat_lt, ℕ, List, length, IfOk};
 ghost use Rattle.std.specs.Str.{chars};
 ghost use Rattle.dr_like.specs.Like.{fits};
 ghost use Rattle.dr_like.specs.Letters.{Lacks};
 ghost use Rattle.dr_rowindex.specs.Orders.{Tell};
-ghost use Rattle.dr_letters.specs.States.{left_fits};
+ghost use Rattle.dr_letters.specs.States.{left_fits, letters};
 
-use crate::letter_rows::LetterRows;
-use crate::states::{put_run, states_of};
+use crate::letter_rows::{LetterRows, is_ended};
+use crate::states::{letter_count, put_run, states_of};
 use dr_like::{split_at_letter, split_last};
 use dr_rowindex::RowSet;
 use std::alloc::{AllocError, Global};
@@ -14,8 +14,9 @@ use std::alloc::{AllocError, Global};
 impl<'a> LetterRows<'a> {
     /// The texts that fit a pattern of `like` (Apache Druid documentation, query filters: like). The only error is that memory ran out.
     /// A letter of the pattern before its first `%` takes time by the texts, 64 at once, times the bits of a character; each other one
-    /// takes that for each place, and memory by a bit for each text and place. A text that has more characters than places are known is
-    /// asked by itself, as by [`fits_soonest`](dr_places::fits_soonest).
+    /// takes that as often as there are places where it may stand: one more than the places are that the pattern has no letter for. The
+    /// sets of texts for these take memory by a bit for each text. Where a letter leaves no text, the next ones take no time. A text that
+    /// has more characters than places are known is asked by itself, as by [`fits_soonest`](dr_places::fits_soonest).
     pub fn fitting(&self, alloc: Global, pattern: &str) -> Result<RowSet, AllocError>
         ensures { IfOk result (λ s. Tell (λ t. fits (chars pattern.now) (chars t)) self.now.0 s) }
     {
@@ -43,7 +44,7 @@ impl<'a> LetterRows<'a> {
         if count > self.place_count() {
             return Ok(RowSet::none(alloc, self.text_count())?);
         }
-        let mut set = self.ended(alloc, count)?;
+        let mut set = self.ended(count).copy(alloc)?;
         self.keep_start(pattern, count, &mut set);
         Ok(set)
     }
@@ -54,14 +55,25 @@ impl<'a> LetterRows<'a> {
         ensures { IfOk result (λ s. Tell (left_fits self.now.1 (chars start.now ++ 37 ∷ chars more.now) 0) self.now.0 s) }
     {
         let count = letter_count(start);
-        if count > self.place_count() {
+        if are_more(count, letter_count(more), self.place_count()) {
             return Ok(RowSet::none(alloc, self.text_count())?);
         }
-        let mut states = states_of(alloc, self, more)?;
-        put_run(alloc, self, &mut states)?;
-        let mut set = states.swap_remove(count);
+        let mut set = self.fitting_run(alloc, count, more)?;
         self.keep_start(start, count, &mut set);
         Ok(set)
+    }
+
+    // Those that fit a run from a place on, and what follows it.
+    fn fitting_run(&self, alloc: Global, place: usize, more: &str) -> Result<RowSet, AllocError>
+        requires { place + letters (chars more.now) ≤ self.now.1 }
+        ensures { IfOk result (λ s. Tell (left_fits self.now.1 (37 ∷ chars more.now) place) self.now.0 s) }
+    {
+        if is_ended(more) {
+            return Ok(self.ended(self.place_count()).copy(alloc)?);
+        }
+        let mut states = states_of(alloc, self, place, more)?;
+        put_run(alloc, self, &mut states)?;
+        Ok(states.swap_remove(0))
     }
 
     // Keeps of the texts that fit something behind a start those that fit the start too.
@@ -82,9 +94,9 @@ impl<'a> LetterRows<'a> {
     }
 }
 
-// How many characters a text has.
-fn letter_count(text: &str) -> usize
-    ensures { result ≡ length (chars text.now) }
+// Whether two numbers together are more than a third.
+fn are_more(some: usize, others: usize, most: usize) -> bool
+    ensures { result ≡ nat_lt most (some + others) }
 {
-    text.chars().count()
+    some > most || others > most - some
 }

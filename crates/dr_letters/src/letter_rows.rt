@@ -89,14 +89,14 @@ impl<'a> LetterRows<'a> {
     }
 
     // The texts that have no more characters than there are places, and none from a place on.
-    pub(crate) fn ended(&self, alloc: Global, place: usize) -> Result<RowSet, AllocError>
+    pub(crate) fn ended(&self, place: usize) -> &RowSet
         requires { place ≤ self.now.1 }
-        ensures { IfOk result (λ s. Tell (λ t. is_short self.now.1 t && is_empty (drop place (chars t))) self.now.0 s) }
+        ensures { Tell (λ t. is_short self.now.1 t && is_empty (drop place (chars t))) self.now.0 result.now }
     {
         if place < self.places.len() {
-            return Ok(copy_of(alloc, self.places[place].ended())?);
+            return self.places[place].ended();
         }
-        Ok(copy_of(alloc, &self.short)?)
+        &self.short
     }
 
     // Adds those of the other texts that fit a pattern, each of which is asked by itself.
@@ -133,15 +133,6 @@ fn places_of<'a>(
         rests = tails_of(alloc, rests.as_slice())?;
     }
     Ok((places, rests))
-}
-
-// The same rows.
-fn copy_of(alloc: Global, set: &RowSet) -> Result<RowSet, AllocError>
-    ensures { IfOk result (λ copy. copy ≡ set.now) }
-{
-    let mut copy = RowSet::none(alloc, set.row_count())?;
-    copy.or(set);
-    Ok(copy)
 }
 
 // Whether more than a few of the texts have a character left.
@@ -220,7 +211,8 @@ fn ended_of(alloc: Global, texts: &[&str]) -> Result<RowSet, AllocError>
     Ok(set)
 }
 
-fn is_ended(text: &str) -> bool
+// Whether a text has no character.
+pub(crate) fn is_ended(text: &str) -> bool
     ensures { result ≡ is_empty (chars text.now) }
 {
     split_first(text).is_none()

@@ -7,3 +7,4 @@ pub mod AddLemmas
 pub mod NumberLemmas
 pub mod TextLemmas
 pub mod TellLemmas
+pub mod ZeroLemmas

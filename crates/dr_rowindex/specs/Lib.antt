@@ -1,2 +1,3 @@
 pub mod Truths
 pub mod Orders
+pub mod Zeros

@@ -11,17 +11,20 @@ use std::marker::Model;
 pub struct RowSet {
     words: Vec<u64>,
     count: usize,
+    // Whether a row may be in the set, so that nothing is done for one of which it is known that it has none.
+    may_have: bool,
 }
 
 impl Model for RowSet {
-    ghost use Rattle.std.specs.Prelude.{◌≡◌, ◌+◌, ◌/◌, List, Bool, length};
+    ghost use Rattle.std.specs.Prelude.{◌≡◌, ◌+◌, ◌/◌, List, Bool, false, length};
     ghost use Rattle.dr_rowindex.specs.Truths.{truths};
+    ghost use Rattle.dr_rowindex.specs.Zeros.{AreZero};
 
     ghost Value = { List Bool };
 
     ghost view = { λ s. truths s.words.items s.count };
 
-    ghost invariant = { λ s. length s.words.items ≡ s.count / 64 + 1 };
+    ghost invariant = { λ s. (length s.words.items ≡ s.count / 64 + 1) × (s.may_have ≡ false → AreZero s.words.items) };
 }
 
 impl RowSet {
@@ -30,7 +33,11 @@ impl RowSet {
         ensures { IfOk result (λ s. s ≡ replicate count false) }
     {
         let words = vec![in alloc; 0; count / 64 + 1]?;
-        Ok(RowSet { words, count })
+        Ok(RowSet {
+            words,
+            count,
+            may_have: false,
+        })
     }
 
     /// All of so many rows. The only error is that memory ran out. It takes time and memory by the rows, a bit for each.
@@ -38,7 +45,24 @@ impl RowSet {
         ensures { IfOk result (λ s. s ≡ replicate count true) }
     {
         let words = vec![in alloc; u64::MAX; count / 64 + 1]?;
-        Ok(RowSet { words, count })
+        Ok(RowSet {
+            words,
+            count,
+            may_have: true,
+        })
+    }
+
+    /// The same rows. The only error is that memory ran out. It takes time and memory by the rows, a bit for each.
+    pub fn copy(&self, alloc: Global) -> Result<RowSet, AllocError>
+        ensures { IfOk result (λ s. s ≡ self.now) }
+    {
+        let mut words = Vec::with_capacity(alloc, self.words.len())?;
+        words.extend_from_slice(self.words.as_slice())?;
+        Ok(RowSet {
+            words,
+            count: self.count,
+            may_have: self.may_have,
+        })
     }
 
     /// Puts a row into the set. It takes constant time.
@@ -48,30 +72,41 @@ impl RowSet {
     {
         let place = row / 64;
         self.words[place] = with_bit(self.words[place], row % 64);
+        self.may_have = true;
     }
 
-    /// Keeps the rows that are in another set too. It takes time by the rows, 64 at once.
+    /// Keeps the rows that are in another set too. It takes time by the rows, 64 at once, and constant time where `and` or `and_not` left
+    /// none before.
     pub fn and(&mut self, other: &RowSet)
         requires { length other.now ≡ length self.old }
         ensures { Joined (λ a b. a && b) other.now self.old self.new }
     {
-        keep_bits(self.words.as_mut_slice(), other.words.as_slice());
+        if self.may_have {
+            self.may_have = keep_bits(self.words.as_mut_slice(), other.words.as_slice());
+        }
     }
 
-    /// Adds the rows of another set. It takes time by the rows, 64 at once.
+    /// Adds the rows of another set. It takes time by the rows, 64 at once, and constant time where `and` or `and_not` left none in the
+    /// other one.
     pub fn or(&mut self, other: &RowSet)
         requires { length other.now ≡ length self.old }
         ensures { Joined (λ a b. a || b) other.now self.old self.new }
     {
-        add_bits(self.words.as_mut_slice(), other.words.as_slice());
+        if other.may_have {
+            add_bits(self.words.as_mut_slice(), other.words.as_slice());
+            self.may_have = true;
+        }
     }
 
-    /// Takes out the rows that are in another set. It takes time by the rows, 64 at once.
+    /// Takes out the rows that are in another set. It takes time by the rows, 64 at once, and constant time where `and` or `and_not` left
+    /// none in one of the two.
     pub fn and_not(&mut self, other: &RowSet)
         requires { length other.now ≡ length self.old }
         ensures { Joined (λ a b. a && not b) other.now self.old self.new }
     {
-        drop_bits(self.words.as_mut_slice(), other.words.as_slice());
+        if self.may_have && other.may_have {
+            self.may_have = drop_bits(self.words.as_mut_slice(), other.words.as_slice());
+        }
     }
 
     /// Whether a row is in the set; one that isn't among the rows is not. It takes constant time.

@@ -1,15 +1,20 @@
-ghost use Rattle.std.specs.Prelude.{◌≡◌, ◌<◌, ℕ, length, get_or};
+ghost use Rattle.std.specs.Prelude.{◌≡◌, ◌<◌, false, ℕ, length, get_or};
 ghost use Rattle.std.specs.Int.RustNames.{bit_and, bit_or, bit_xor};
+ghost use Rattle.dr_rowindex.specs.Zeros.{AreZero};
 
-// Keeps of each word the bits that the word at the same place among others has.
-pub fn keep_bits(words: &mut [u64], others: &[u64])
+// Keeps of each word the bits that the word at the same place among others has. Answers whether there may be any left.
+pub fn keep_bits(words: &mut [u64], others: &[u64]) -> bool
     requires { length others.now ≡ length words.old }
     ensures count { length words.new ≡ length words.old }
     ensures each { (k : ℕ) → k < length words.old → get_or words.new k 0 ≡ bit_and (get_or words.old k 0) (get_or others.now k 0) }
+    ensures left { result ≡ false → AreZero words.new }
 {
+    let mut left = 0;
     for k in 0..words.len() {
         words[k] &= others[k];
+        left |= words[k];
     }
+    left != 0
 }
 
 // Adds to each word the bits that the word at the same place among others has.
@@ -23,13 +28,17 @@ pub fn add_bits(words: &mut [u64], others: &[u64])
     }
 }
 
-// Takes from each word the bits that the word at the same place among others has.
-pub fn drop_bits(words: &mut [u64], others: &[u64])
+// Takes from each word the bits that the word at the same place among others has. Answers whether there may be any left.
+pub fn drop_bits(words: &mut [u64], others: &[u64]) -> bool
     requires { length others.now ≡ length words.old }
     ensures count { length words.new ≡ length words.old }
     ensures each { (k : ℕ) → k < length words.old → get_or words.new k 0 ≡ bit_xor (get_or words.old k 0) (bit_and (get_or words.old k 0) (get_or others.now k 0)) }
+    ensures left { result ≡ false → AreZero words.new }
 {
+    let mut left = 0;
     for k in 0..words.len() {
         words[k] ^= words[k] & others[k];
+        left |= words[k];
     }
+    left != 0
 }

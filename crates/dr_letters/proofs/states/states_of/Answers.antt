@@ -1,17 +1,54 @@
-use Rattle.std.proofs.Common.{sym, subst, length, drop}
+use Rattle.std.proofs.Common.{◌≡◌, ◌∙◌, ap, sym, subst, ◌+◌, ◌-◌, ◌∷◌, length, drop, arith}
 use Rattle.std.specs.Str.{chars}
-use Rattle.dr_letters.specs.States.{AreStates}
-use Rattle.dr_letters.proofs.StateLemmas.{behind_more}
+use Rattle.dr_letters.specs.States.{letters, AreStates}
+use Rattle.dr_letters.proofs.StateLemmas.{behind_more, letters-append, letters-before-run, letters-before-one}
 use Rattle.dr_letters.proofs.states.states_of.Goals as goal
+
+pub overflow_add-at : goal.overflow_add-at
+overflow_add-at c = omega (arith, c.requires, c.letter_count.ensures, c.place_count.ensures, c.place_count.type_inv)
+
+pub put_run-requires-clause-some : goal.put_run-requires-clause-some
+put_run-requires-clause-some c =
+    let left = chars c.loop-more.left.now in
+    let behind = drop (length left) (chars c.args.pattern.now) in
+    let whole : letters (chars c.args.pattern.now) ≡ letters left + letters behind = ap letters c.loop-more.invariant.parts ∙ letters-append left behind in
+    omega (arith, whole, c.loop-more.invariant.at, c.loop-more.invariant.states.count, c.requires)
+
+pub overflow_sub-at : goal.overflow_sub-at
+overflow_sub-at c = omega (arith, c.loop-more.invariant.at, letters-before-one (chars c.in-Some.more.now) (chars c.loop-more.left.now) c.in-Some.letter c.in-Some.ensures.parts c.if-letter-eq37.false)
+
+pub put_one-requires-clause-within : goal.put_one-requires-clause-within
+put_one-requires-clause-within c =
+    omega (arith, c.loop-more.invariant.states.count, c.loop-more.invariant.at, letters-before-one (chars c.in-Some.more.now) (chars c.loop-more.left.now) c.in-Some.letter c.in-Some.ensures.parts c.if-letter-eq37.false)
+
+pub loop-more-preserved-in_ok-put_run : goal.loop-more-preserved-in_ok-put_run
+loop-more-preserved-in_ok-put_run c =
+    let at = c.loop-more in
+    let pattern = chars c.args.pattern.now in
+    let left = chars at.left.now in
+    let more = chars c.in-Some.more.now in
+    let next = behind_more pattern left more c.in-Some.letter at.invariant.parts c.in-Some.ensures.parts in
+    record {
+      parts = next.0;
+      at = at.invariant.at ∙ ap (λ n. c.args.place + n) (letters-before-run more left c.in-Some.letter c.in-Some.ensures.parts c.if-letter-eq37.true);
+      states = subst (λ p. AreStates p at.at c.args.rows.now.0 c.args.rows.now.1 c.put_run.new.states.items)
+          (ap (λ l. l ∷ drop (length left) pattern) (sym c.if-letter-eq37.true) ∙ sym next.1) (c.in_ok-put_run.ensures (drop (length left) pattern) at.at at.invariant.states);
+      left_utf8 = c.in-Some.ensures.utf8;
+    }
 
 pub loop-more-preserved : goal.loop-more-preserved
 loop-more-preserved c =
+    let at = c.loop-more in
     let pattern = chars c.args.pattern.now in
-    let left = chars c.loop-more.left.now in
+    let left = chars at.left.now in
     let more = chars c.in-Some.more.now in
-    let next = behind_more pattern left more c.in-Some.letter c.loop-more.invariant.parts c.in-Some.ensures.parts in
+    let next = behind_more pattern left more c.in-Some.letter at.invariant.parts c.in-Some.ensures.parts in
+    let one = letters-before-one more left c.in-Some.letter c.in-Some.ensures.parts c.if-letter-eq37.false in
+    let back : at.at ≡ at.at - 1 + 1 = omega (arith, at.invariant.at, one) in
     record {
       parts = next.0;
-      states = subst (λ p. AreStates p c.args.rows.now.0 c.args.rows.now.1 c.put_letter.new.states.items) (sym next.1) (c.in_ok-put_letter.ensures (drop (length left) pattern) c.loop-more.invariant.states);
+      at = omega (arith, at.invariant.at, one);
+      states = subst (λ p. AreStates p (at.at - 1) c.args.rows.now.0 c.args.rows.now.1 c.put_one.new.states.items) (sym next.1)
+          (c.put_one.ensures (drop (length left) pattern) (subst (λ k. AreStates (drop (length left) pattern) k c.args.rows.now.0 c.args.rows.now.1 at.states.items) back at.invariant.states));
       left_utf8 = c.in-Some.ensures.utf8;
     }

@@ -15,9 +15,8 @@ returns-then-place-len c =
     let k = c.args.place in
     let lt : k < n = omega (arith, c.if-place-len.true, c.len.ensures) in
     let codes = c.index.ensures ∙ c.self.invariant.0 k c.index.result.now lt in
-    let told = subst (λ s. Tell (λ m. m == 0) c.index.result.now s) (sym c.in_ok-copy_of.ensures) c.ended.ensures in
-    let tells = tell-mapped (λ m. m == 0) (λ t. code_at k (chars t)) (λ t. is_short n t && is_empty (drop k (chars t))) texts c.in_ok-copy_of.field-0
-    (λ t. no_code (drop k (chars t)) ∙ short_where_ended k n (chars t) (omega (arith, lt))) (subst (λ l. Tell (λ m. m == 0) l c.in_ok-copy_of.field-0) codes told) in
+    let tells = tell-mapped (λ m. m == 0) (λ t. code_at k (chars t)) (λ t. is_short n t && is_empty (drop k (chars t))) texts c.ended.result.now
+    (λ t. no_code (drop k (chars t)) ∙ short_where_ended k n (chars t) (omega (arith, lt))) (subst (λ l. Tell (λ m. m == 0) l c.ended.result.now) codes c.ended.ensures) in
     rw (sym c.self.view_is) tells
 
 pub returns : goal.returns
@@ -25,7 +24,6 @@ returns c =
     let texts = map (λ t. t.now) c.self.inside.texts.items in
     let n = length c.self.inside.places.items in
     let same : c.args.place ≡ n = omega (arith, c.if-place-len.false, c.len.ensures, c.requires, ap (λ v. v.1) c.self.view_is) in
-    let told = subst (λ s. Tell (is_short n) texts s) (sym c.in_ok-copy_of-2.ensures) c.self.invariant.1.0 in
-    let tells = tell-same (is_short n) (λ t. is_short n t && is_empty (drop c.args.place (chars t))) texts c.in_ok-copy_of-2.field-0
-    (λ t. ended_twice n (chars t) ∙ ap (λ k. is_short n t && is_empty (drop k (chars t))) (sym same)) told in
+    let tells = tell-same (is_short n) (λ t. is_short n t && is_empty (drop c.args.place (chars t))) texts c.self.inside.short
+    (λ t. ended_twice n (chars t) ∙ ap (λ k. is_short n t && is_empty (drop k (chars t))) (sym same)) c.self.invariant.1.0 in
     rw (sym c.self.view_is) tells

@@ -10,7 +10,7 @@ returns-then-row-self c = truth-behind c.self.inside.words.items c.self.inside.c
 pub returns : goal.returns
 returns c =
     let lt = c.if-row-self.false in
-    let long = c.self.invariant in
+    let long = c.self.invariant.0 in
     c.is_set.ensures
     ∙ ap (λ w. has_bit w (c.args.row % 64)) (c.index.ensures ∙ get_or_default c.self.inside.words.items (c.args.row / 64) c.index.result.now 0 (word-within c.self.inside.count c.args.row (length c.self.inside.words.items) lt long))
     ∙ sym (truth-at c.self.inside.words.items c.self.inside.count c.args.row lt) ∙ ap (λ l. get_or l c.args.row false) c.self.view_is

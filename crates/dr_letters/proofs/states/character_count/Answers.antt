@@ -1,6 +1,6 @@
 use Rattle.std.proofs.Common.{rules}
 use Rattle.std.proofs.lemmas.Str.{chars_from_encodes}
-use Rattle.dr_letters.proofs.fitting.letter_count.Goals as goal
+use Rattle.dr_letters.proofs.states.character_count.Goals as goal
 
 pub returns : goal.returns
 returns c = search (rules, chars_from_encodes)
