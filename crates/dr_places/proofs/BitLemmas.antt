@@ -4,20 +4,9 @@ use Rattle.std.specs.Int.{bit_at}
 use Rattle.std.specs.Int.RustNames.{bit_or}
 use Rattle.std.proofs.lemmas.Bool.{cases_lt}
 use Rattle.std.proofs.lemmas.Nat.{div-add-mod', pow_pos, shr-shr}
-use Rattle.std.proofs.lemmas.Nat.Bits.{bit_at_or, bit_at_ones, bit_at_ones_above, bit_at-zero, bit_at_above, bit_at_cat_low, bit_at_cat_high, ones_shr}
+use Rattle.std.proofs.lemmas.Nat.Bits.{bit_at_or, bit_at_ones, bit_at-zero, bit_at_above, bit_at_cat_low, bit_at_cat_high}
 use Rattle.std.proofs.lemmas.Bool.Decides.{nat_tests}
 use Rattle.dr_places.specs.Places.{has_bit, bit_from}
-
--- ---- the first bits of a word
-
-ones : (k : ℕ) → k < 64 → (2 ^ 64 - 1) / 2 ^ (63 - k) ≡ 2 ^ (k + 1) - 1
-ones k lt = let same : 64 - (63 - k) ≡ k + 1 = omega (arith, lt) in ones_shr 64 (63 - k) (omega (arith, lt)) ∙ ap (λ n. 2 ^ n - 1) same
-
-pub ones-within : (k j : ℕ) → k < 64 → j ≤ k → has_bit ((2 ^ 64 - 1) / 2 ^ (63 - k)) j ≡ true
-ones-within k j lt le = ap (λ w. has_bit w j) (ones k lt) ∙ ap (λ n. eqb n 1) (bit_at_ones (k + 1) j (omega (arith, le)))
-
-pub ones-behind : (k j : ℕ) → k < 64 → k < j → has_bit ((2 ^ 64 - 1) / 2 ^ (63 - k)) j ≡ false
-ones-behind k j lt less = ap (λ w. has_bit w j) (ones k lt) ∙ ap (λ n. eqb n 1) (bit_at_ones_above (k + 1) j (omega (arith, less)))
 
 -- ---- the bits of a word from a place on
 

@@ -1,8 +1,6 @@
 pub mod WordLemmas
 pub mod BitLemmas
-pub mod FitLemmas
+pub mod BeginLemmas
 pub mod DigitLemmas
 pub mod LetterLemmas
-pub mod RunLemmas
-pub mod StepLemmas
-pub mod EmptyLemmas
+pub mod StandingLemmas

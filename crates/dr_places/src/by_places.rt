@@ -1,56 +1,77 @@
-ghost use Rattle.std.specs.Prelude.{◌≡◌, ◌≢◌, ◌+◌, ◌<◌, ◌/◌, ℕ, true, false, length, IfOk};
+ghost use Rattle.std.specs.Prelude.{◌≡◌, ◌≤◌, ◌+◌, ◌/◌, ◌++◌, ◌∷◌, length, drop, IfOk};
 ghost use Rattle.std.specs.Str.{chars};
-ghost use Rattle.dr_like.specs.Like.{fits};
-ghost use Rattle.dr_places.specs.Places.{truth_in};
+ghost use Rattle.dr_like.specs.Like.{fits, behind_some_run};
+ghost use Rattle.dr_like.specs.Letters.{Lacks};
 
-use crate::letters::{count_letters, first_run, letters_of};
-use crate::place_set::PlaceSet;
-use crate::search::Search;
+use crate::letters::character_count;
+use crate::search::{behind_piece, stands};
 use crate::text_places::TextPlaces;
+use dr_like::split_at_letter;
 use std::alloc::{AllocError, Global};
 
 /// Whether the whole text fits a pattern (Apache Druid documentation, query filters: like): `%` is any run of characters,
 /// `_` is one Unicode scalar value, every other character is itself. The only error is that memory ran out.
 ///
-/// It takes up to 8 bytes of memory for each character of the pattern and 36 for each of the text, and a few thousand besides.
-/// Its time is that of the bytes of both, and for each letter of the pattern that is no `_` that of the characters which the
-/// text has more than the pattern has letters other than `%`, 64 of them at once; twice to four times that where a character of
-/// the text has a number of 128 or more. Where no place of the text is left, it ends at once.
+/// It takes up to 36 bytes of memory for each character of the text, and a few thousand besides; none where the pattern has no `%`.
+/// Its time is that of the bytes of both, and for each letter of a piece between two `%` that is no `_` that of the characters
+/// among which the piece is looked for, 64 of them at once: 1,024 at first, then twice as many, until it is found; twice to four
+/// times that where a character of the text has a number of 128 or more.
 pub fn fits_by_places(alloc: Global, pattern: &str, text: &str) -> Result<bool, AllocError>
     ensures { IfOk result (λ found. found ≡ fits (chars pattern.now) (chars text.now)) }
 {
-    let letters = letters_of(alloc, pattern)?;
-    let places = TextPlaces::of(alloc, text)?;
-    is_fitting(alloc, letters.as_slice(), &places)
-}
-
-// Whether the whole text fits a pattern.
-fn is_fitting(alloc: Global, pattern: &[char], places: &TextPlaces) -> Result<bool, AllocError>
-    ensures { IfOk result (λ found. found ≡ fits pattern.now places.now) }
-{
-    let count = places.count();
-    let taken = count_letters(pattern);
-    if taken > count {
-        return Ok(false);
-    }
-    let spare = count - taken;
-    let mut words = only(alloc, spare)?;
-    let search = Search {
-        pattern,
-        places,
-        first_run: first_run(pattern),
-        spare,
+    let Some((start, more)) = split_at_letter(pattern, '%') else {
+        return Ok(dr_like::fits(pattern, text));
     };
-    Ok(search.walk(words.as_mut_slice()))
+    let places = TextPlaces::of(alloc, text)?;
+    let mut words = vec![in alloc; 0; places.count() / 64 + 1]?;
+    Ok(fits_with_run(&places, words.as_mut_slice(), start, more))
 }
 
-// The set of one place.
-fn only(alloc: Global, place: usize) -> Result<Vec<u64>, AllocError>
-    ensures long { IfOk result (λ w. place / 64 < length w.items) }
-    ensures same { IfOk result (λ w. truth_in w.items place ≡ true) }
-    ensures others { IfOk result (λ w. (k : ℕ) → k ≢ place → truth_in w.items k ≡ false) }
+// Whether the whole text fits a start without a run, a run, and what follows it.
+fn fits_with_run(places: &TextPlaces, words: &mut [u64], start: &str, more: &str) -> bool
+    requires lacks { Lacks 37 (chars start.now) }
+    requires words { length words.old ≡ length places.now / 64 + 1 }
+    ensures { result ≡ fits (chars start.now ++ 37 ∷ chars more.now) places.now }
 {
-    let mut set = PlaceSet::none(alloc, place)?;
-    set.insert(place);
-    Ok(set.into_words())
+    let count = character_count(start);
+    if count > places.count() {
+        return false;
+    }
+    if !stands(places, words, start, 0) {
+        return false;
+    }
+    fits_behind_run(places, words, more, count)
+}
+
+// Whether what is left of the text behind some run, from a place on, fits the pattern: each of its pieces is looked for behind the
+// one before, and the last, which no run follows, at the end of the text.
+fn fits_behind_run(places: &TextPlaces, words: &mut [u64], pattern: &str, from: usize) -> bool
+    requires from { from ≤ length places.now }
+    requires words { length words.old ≡ length places.now / 64 + 1 }
+    ensures { result ≡ behind_some_run (fits (chars pattern.now)) (drop from places.now) }
+{
+    let mut left = pattern;
+    let mut at = from;
+    while let Some((piece, more)) = split_at_letter(left, '%') {
+        let Some(behind) = behind_piece(places, words, piece, at) else {
+            return false;
+        };
+        left = more;
+        at = behind;
+    }
+    fits_end(places, words, left, at)
+}
+
+// Whether the end of the text, from a place on, fits a pattern without a run.
+fn fits_end(places: &TextPlaces, words: &mut [u64], pattern: &str, from: usize) -> bool
+    requires lacks { Lacks 37 (chars pattern.now) }
+    requires from { from ≤ length places.now }
+    requires words { length words.old ≡ length places.now / 64 + 1 }
+    ensures { result ≡ behind_some_run (fits (chars pattern.now)) (drop from places.now) }
+{
+    let count = character_count(pattern);
+    if count > places.count() - from {
+        return false;
+    }
+    stands(places, words, pattern, places.count() - count)
 }

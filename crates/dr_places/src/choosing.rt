@@ -5,17 +5,13 @@ ghost use Rattle.dr_like.specs.Like.{fits};
 use crate::by_places::fits_by_places;
 use std::alloc::{AllocError, Global};
 
-// From how many pairs of a letter of such pieces and a character of the text on these are told of all places at once.
+// From how many pairs of a letter of such pieces and a character of the text on these are told of many places at once.
 const MANY_PAIRS: usize = 1 << 24;
-
-// How many times as many bytes as such pieces a pattern may have that is asked so: it takes the text for each of its letters then.
-const SHARE: usize = 16;
 
 /// Whether the whole text fits a pattern, as `fits` of `dr_like` finds it, or as [`fits_by_places`], where that is sooner. The only
 /// error is that memory ran out. What `fits` of `dr_like` may take the product of both for are pieces between two `%` that have a `_`
-/// behind their first other character. Where these have a sixteenth of the bytes of the pattern at least, and more than 2^24 bytes,
-/// times those of the text, it takes the time and memory of [`fits_by_places`]; else no memory, and time by the bytes of both and by
-/// that product.
+/// behind their first other character. Where these have more than 2^24 bytes, times those of the text, it takes the time and memory of
+/// [`fits_by_places`]; else no memory, and time by the bytes of both and by that product.
 pub fn fits_soonest(alloc: Global, pattern: &str, text: &str) -> Result<bool, AllocError>
     ensures { IfOk result (λ found. found ≡ fits (chars pattern.now) (chars text.now)) }
 {
@@ -30,8 +26,7 @@ fn is_long_for(pattern: &str, text: &str) -> bool {
     if pattern.len().saturating_mul(text.len()) <= MANY_PAIRS {
         return false;
     }
-    let bytes = gapped_bytes(pattern);
-    bytes >= pattern.len() / SHARE && bytes.saturating_mul(text.len()) > MANY_PAIRS
+    gapped_bytes(pattern).saturating_mul(text.len()) > MANY_PAIRS
 }
 
 // The bytes of the pieces between two `%` that have a `_` behind their first other character.

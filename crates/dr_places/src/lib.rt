@@ -1,5 +1,5 @@
-//! Whether a text fits a pattern of `like`, told of all its places at once, a bit for each place, 64 to a word. It takes memory, and
-//! for a long text with a long pattern far less time than going from place to place.
+//! Whether a text fits a pattern of `like`, where a piece of the pattern is looked for at many places of the text at once, a bit for
+//! each place, 64 to a word. It takes memory, and for a long text with a long pattern far less time than going from place to place.
 #![tactic(auto)]
 
 mod by_places;
@@ -7,8 +7,8 @@ mod choosing;
 mod digits;
 mod letters;
 mod place_set;
-mod runs;
 mod search;
+mod standing;
 mod text_places;
 mod words;
 

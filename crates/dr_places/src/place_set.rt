@@ -42,10 +42,4 @@ impl PlaceSet {
     {
         self.0.as_slice()
     }
-
-    pub fn into_words(self) -> Vec<u64>
-        ensures { result.items ≡ self }
-    {
-        self.0
-    }
 }

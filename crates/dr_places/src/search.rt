@@ -1,86 +1,94 @@
-ghost use Rattle.std.specs.Prelude.{◌≡◌, ◌==◌, ◌≤◌, ◌<◌, ◌+◌, ◌/◌, ℕ, List, [], ◌∷◌, false, length, take, drop};
-ghost use Rattle.dr_like.specs.Like.{fits};
-ghost use Rattle.dr_places.specs.Places.{AreRight, IsSearch, letters_in, reach_at};
+ghost use Rattle.std.specs.Prelude.{◌≡◌, ◌≤◌, ◌<◌, ◌+◌, ◌/◌, ℕ, true, false, length, drop, MatchOption};
+ghost use Rattle.std.specs.Str.{chars};
+ghost use Rattle.dr_like.specs.Letters.{Lacks};
+ghost use Rattle.dr_like.specs.Pieces.{IsNowhere, IsBehindFirst};
+ghost use Rattle.dr_places.specs.Places.{begins, truth_in, HoldJust};
 
-use crate::letters::is_run;
-use crate::runs::spread;
+use crate::letters::character_count;
+use crate::standing::put_standing;
 use crate::text_places::TextPlaces;
-use crate::words::is_empty;
 use dr_bits::is_set;
 
-/// A pattern that is gone through from its end, and the text whose places are told of: where the first run of the pattern is, and
-/// how many characters the text has more than the pattern has letters that each stand for one.
-#[derive(Clone, Copy)]
-pub struct Search<'t> {
-    pub pattern: &'t [char],
-    pub places: &'t TextPlaces,
-    pub first_run: usize,
-    pub spare: usize,
-}
+// Of how many places at once it is told first whether a piece stands there, and at most, so that the set stays in a processor's cache.
+const FIRST_COUNT: usize = 1024;
 
-impl<'t> Search<'t> {
-    // Whether the whole text fits the pattern, from the set of its end. Where no place is left, none will be.
-    pub fn walk(&self, words: &mut [u64]) -> bool
-        requires search { IsSearch self.now.pattern.now self.now.places.now self.now.first_run self.now.spare }
-        requires words { self.now.spare / 64 < length words.old }
-        requires right { AreRight words.old self.now.spare (letters_in self.now.pattern.now) [] self.now.places.now }
-        ensures { result ≡ fits self.now.pattern.now self.now.places.now }
-    {
-        let mut at = self.pattern.len();
-        let mut lo = self.places.count() - self.spare;
-        while at > 0 {
-            if at % 64 == 0 && is_empty(words) {
-                return false;
-            }
-            at -= 1;
-            lo = self.step(words, at, lo);
-        }
-        is_set(words[0], 0)
-    }
+const MOST_COUNT: usize = 1 << 15;
 
-    // Goes one letter further to the front of the pattern: from the places where what follows the letter fits to those where it
-    // fits with the letter. The first place that is asked for is as far in the text as the pattern has letters before.
-    fn step(&self, words: &mut [u64], at: usize, lo: usize) -> usize
-        requires search { IsSearch self.now.pattern.now self.now.places.now self.now.first_run self.now.spare }
-        requires within { at < length self.now.pattern.now }
-        requires words { self.now.spare / 64 < length words.old }
-        requires before { lo ≡ letters_in (take (at + 1) self.now.pattern.now) }
-        requires right { AreRight words.old (reach_at self.now.first_run self.now.spare (at + 1)) lo (drop (at + 1) self.now.pattern.now) self.now.places.now }
-        ensures count { length words.new ≡ length words.old }
-        ensures before { result ≡ letters_in (take at self.now.pattern.now) }
-        ensures right { AreRight words.new (reach_at self.now.first_run self.now.spare at) result (drop at self.now.pattern.now) self.now.places.now }
-    {
-        let letter = self.pattern[at];
-        if letter != '%' {
-            let before = lo - 1;
-            step_back(self.places, words, letter, before, self.reach(at));
-            return before;
-        }
-        if is_run(self.pattern, at + 1) {
-            return lo;
-        }
-        spread(words, self.spare);
-        lo
-    }
-
-    // How many places more than the first are asked for before a letter.
-    fn reach(&self, at: usize) -> usize
-        ensures { result ≡ reach_at self.now.first_run self.now.spare at }
-    {
-        if self.first_run < at { self.spare } else { 0 }
-    }
-}
-
-// What a letter that is no run, before some places, makes of them: the places before these where the letter fits.
-fn step_back(places: &TextPlaces, words: &mut [u64], letter: char, lo: usize, reach: usize)
-    requires itself { (letter == 37) ≡ false }
-    requires within { lo + reach < length places.now }
-    requires words { reach / 64 < length words.old }
+// Whether a piece of a pattern stands at a place of a text, where so many characters are left.
+pub fn stands(places: &TextPlaces, words: &mut [u64], piece: &str, place: usize) -> bool
+    requires within { place + length (chars piece.now) ≤ length places.now }
+    requires words { length words.old ≡ length places.now / 64 + 1 }
     ensures count { length words.new ≡ length words.old }
-    ensures right { (pattern : List ℕ) → AreRight words.old reach (lo + 1) pattern places.now → AreRight words.new reach lo (letter ∷ pattern) places.now }
+    ensures same { result ≡ begins (chars piece.now) (drop place places.now) }
 {
-    if letter == '_' {
-        return;
+    let words = &mut words[..1];
+    put_standing(places, words, piece, place, 1);
+    is_set(words[0], 0)
+}
+
+// What follows the first place of a text, from one on, at which a piece of a pattern stands that a run follows; none where it
+// stands nowhere. No later place is better.
+pub fn behind_piece(
+    places: &TextPlaces,
+    words: &mut [u64],
+    piece: &str,
+    from: usize,
+) -> Option<usize>
+    requires lacks { Lacks 37 (chars piece.now) }
+    requires from { from ≤ length places.now }
+    requires words { length words.old ≡ length places.now / 64 + 1 }
+    ensures count { length words.new ≡ length words.old }
+    ensures found { MatchOption result (IsNowhere (chars piece.now) (drop from places.now)) (λ e. (e ≤ length places.now) × IsBehindFirst (chars piece.now) (drop from places.now) (drop e places.now)) }
+{
+    let count = character_count(piece);
+    if count > places.count() - from {
+        return None;
     }
-    places.keep(words, letter, lo, 0, reach / 64 + 1);
+    if count == 0 {
+        return Some(from);
+    }
+    let end = places.count() - count + 1;
+    let mut at = from;
+    let mut most = FIRST_COUNT;
+    while at < end {
+        let some = most.min(end - at);
+        if let Some(k) = first_standing(places, words, piece, at, some) {
+            return Some(at + k + count);
+        }
+        at += some;
+        most = MOST_COUNT.min(most * 2);
+    }
+    None
+}
+
+// The first of so many places, from one on, at which a piece of a pattern stands, counted from that one.
+fn first_standing(
+    places: &TextPlaces,
+    words: &mut [u64],
+    piece: &str,
+    place: usize,
+    count: usize,
+) -> Option<usize>
+    requires some { 0 < count }
+    requires within { place + count + length (chars piece.now) ≤ length places.now + 1 }
+    requires words { length words.old ≡ length places.now / 64 + 1 }
+    ensures count { length words.new ≡ length words.old }
+    ensures first { MatchOption result ((k : ℕ) → k < count → begins (chars piece.now) (drop (place + k) places.now) ≡ false) (λ b. (b < count) × (begins (chars piece.now) (drop (place + b) places.now) ≡ true) × ((k : ℕ) → k < b → begins (chars piece.now) (drop (place + k) places.now) ≡ false)) }
+{
+    let words = &mut words[..(count - 1) / 64 + 1];
+    put_standing(places, words, piece, place, count);
+    first_of(words, count)
+}
+
+// The first of so many places that is in a set.
+fn first_of(words: &[u64], count: usize) -> Option<usize>
+    requires { HoldJust count words.now }
+    ensures { MatchOption result ((k : ℕ) → k < count → truth_in words.now k ≡ false) (λ b. (b < count) × (truth_in words.now b ≡ true) × ((k : ℕ) → k < b → truth_in words.now k ≡ false)) }
+{
+    for k in 0..count {
+        if is_set(words[k / 64], k % 64) {
+            return Some(k);
+        }
+    }
+    None
 }

@@ -1,7 +1,5 @@
-ghost use Rattle.std.specs.Prelude.{◌≡◌, ◌<◌, ◌≤◌, ◌+◌, ◌⊎◌, ℕ, true, false, length, get_or, set, MatchOption};
+ghost use Rattle.std.specs.Prelude.{◌≡◌, ◌<◌, ◌≤◌, ◌+◌, ◌⊎◌, ℕ, true, length, get_or};
 ghost use Rattle.dr_places.specs.Places.{has_bit, bit_from, IsKept};
-
-use dr_bits::is_set;
 
 // Keeps of each word, from a place up to another, the bits that other words have, from a place in the first of these on.
 pub fn keep_bits(words: &mut [u64], others: &[u64], bits: usize, from: usize, end: usize)
@@ -49,31 +47,4 @@ pub fn is_empty(words: &[u64]) -> bool
         }
     }
     true
-}
-
-// A word with the bits up to a place.
-pub fn ones_to(k: usize) -> u64
-    requires { k < 64 }
-    ensures within { (j : ℕ) → j ≤ k → has_bit result j ≡ true }
-    ensures behind { (j : ℕ) → k < j → has_bit result j ≡ false }
-{
-    u64::MAX >> (63 - k)
-}
-
-// The last bit of a word before a place.
-pub fn last_bit(word: u64, end: usize) -> Option<usize>
-    requires { end ≤ 64 }
-    ensures { MatchOption result ((j : ℕ) → j < end → has_bit word j ≡ false) (λ b. (b < end) × (has_bit word b ≡ true) × ((j : ℕ) → b < j → j < end → has_bit word j ≡ false)) }
-{
-    if word == 0 {
-        return None;
-    }
-    let mut k = end;
-    while k > 0 {
-        k -= 1;
-        if is_set(word, k) {
-            return Some(k);
-        }
-    }
-    None
 }
