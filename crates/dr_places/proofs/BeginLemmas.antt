@@ -1,5 +1,5 @@
 -- Pieces of a pattern that stand at a place of a text.
-use Rattle.std.proofs.Common.{◌≡◌, ◌≢◌, ◌∙◌, sym, refl, ap, ℕ, zero, suc, ◌+◌, ◌-◌, ◌<◌, ◌≤◌, ◌==◌, ◌&&◌, ◌||◌, Bool, true, false, List, [], ◌∷◌, ◌++◌, length, get_or, drop, drop-drop, append-nil, arith}
+use Rattle.std.proofs.Common.{◌≡◌, ◌≢◌, ◌∙◌, sym, refl, ap, ℕ, zero, suc, ◌+◌, ◌-◌, ◌<◌, ◌≤◌, ◌==◌, ◌&&◌, ◌||◌, Bool, true, false, List, [], ◌∷◌, ◌++◌, length, drop, drop-drop, append-nil, arith}
 use Rattle.std.proofs.lemmas.Bool.{and_parts, and_right}
 use Rattle.std.proofs.lemmas.Bool.Decides.{nat_tests}
 use Rattle.std.proofs.lemmas.List.{length-drop}
@@ -21,26 +21,6 @@ begins-short (c ∷ cs) (d ∷ ds) less = and_right (letter_fits c d) _ (begins-
 pub begins-empty : (p t : List ℕ) → length p ≡ 0 → begins p t ≡ true
 begins-empty [] t none = refl
 begins-empty (c ∷ cs) t none = absurd (omega (arith, none))
-
--- what begins with two pieces has the second behind the first
-pub begins-behind : (p q t : List ℕ) → begins (p ++ q) t ≡ true → begins q (drop (length p) t) ≡ true
-begins-behind [] q t is = is
-begins-behind (c ∷ cs) q [] is = absurd (cc is)
-begins-behind (c ∷ cs) q (d ∷ ds) is = begins-behind cs q ds (and_parts (letter_fits c d) (begins (cs ++ q) ds) is).1
-
--- one letter more, at a place where there is a character
-pub begins-first : (letter : ℕ) (p t : List ℕ) (x : ℕ) → x < length t → begins (letter ∷ p) (drop x t) ≡ (begins p (drop (x + 1) t) && letter_fits letter (get_or t x 0))
-begins-first letter p [] x lt = absurd (omega (arith, lt))
-begins-first letter p (c ∷ cs) zero lt = turned (letter_fits letter c) (begins p cs)
-  where
-    turned : (a b : Bool) → (a && b) ≡ (b && a)
-    turned true true = refl
-    turned true false = refl
-    turned false true = refl
-    turned false false = refl
-begins-first letter p (c ∷ cs) (suc x) lt =
-    let next : suc x + 1 ≡ suc (x + 1) = omega arith in
-    begins-first letter p cs x (omega (arith, lt)) ∙ ap (λ n. begins p (drop n (c ∷ cs)) && letter_fits letter (get_or cs x 0)) (sym next)
 
 pub any_letter : (letter c : ℕ) → letter ≡ 95 → letter_fits letter c ≡ true
 any_letter letter c any = grind (arith, nat_tests, any)

@@ -56,3 +56,14 @@ word-from w v b word within j lt = at (nat_lt (j + b) 64) refl
 
 pub bit-ones : (k : ℕ) → k < 64 → has_bit (2 ^ 64 - 1) k ≡ true
 bit-ones k lt = ap (λ n. eqb n 1) (bit_at_ones 64 k lt)
+
+-- from the first bit on
+pub word-whole : (w v j : ℕ) → j < 64 → has_bit w j ≡ bit_from w v 0 j
+word-whole w v j lt = at (nat_lt (j + 0) 64) refl
+  where
+    same : j ≡ j + 0
+    same = omega arith
+
+    at : (t : Bool) → nat_lt (j + 0) 64 ≡ t → has_bit w j ≡ (if t then has_bit w (j + 0) else has_bit v (j + 0 - 64))
+    at true is = ap (has_bit w) same
+    at false is = let more : 64 ≤ j + 0 = grind (arith, nat_tests) in absurd (omega (arith, lt, more))

@@ -17,22 +17,31 @@ digit-within cs d m x sets are some lt = at are.all
     at (inl all) = omega (arith, all, lt)
     at (inr none) = absurd (omega (arith, none.0, some))
 
--- a bit of a set, counted from a place on
-from-place : (places : List ℕ) (lo k : ℕ) → bit_from (get_or (drop (lo / 64) places) (k / 64) 0) (get_or (drop (lo / 64) places) (k / 64 + 1) 0) (lo % 64) (k % 64) ≡ truth_in places (lo + k)
-from-place places lo k = at (nat_lt (k % 64 + lo % 64) 64) refl
+-- a bit of words, counted from a place in the first of them on
+pub bits-from : (places : List ℕ) (b k : ℕ) → b < 64 → bit_from (get_or places (k / 64) 0) (get_or places (k / 64 + 1) 0) b (k % 64) ≡ truth_in places (b + k)
+bits-from places b k lt = at (nat_lt (k % 64 + b) 64) refl
   where
-    at : (b : Bool) → nat_lt (k % 64 + lo % 64) 64 ≡ b
-        → (if b then has_bit (get_or (drop (lo / 64) places) (k / 64) 0) (k % 64 + lo % 64) else has_bit (get_or (drop (lo / 64) places) (k / 64 + 1) 0) (k % 64 + lo % 64 - 64)) ≡ truth_in places (lo + k)
+    at : (t : Bool) → nat_lt (k % 64 + b) 64 ≡ t
+        → (if t then has_bit (get_or places (k / 64) 0) (k % 64 + b) else has_bit (get_or places (k / 64 + 1) 0) (k % 64 + b - 64)) ≡ truth_in places (b + k)
     at true is =
-        let less : k % 64 + lo % 64 < 64 = grind (arith, nat_tests) in
-        let word : lo / 64 + k / 64 ≡ (lo + k) / 64 = omega (arith, less) in
-        let bit : k % 64 + lo % 64 ≡ (lo + k) % 64 = omega (arith, less) in
-        ap (λ w. has_bit w (k % 64 + lo % 64)) (get_or-drop (lo / 64) places (k / 64) 0 ∙ ap (λ i. get_or places i 0) word) ∙ ap (has_bit (get_or places ((lo + k) / 64) 0)) bit
+        let less : k % 64 + b < 64 = grind (arith, nat_tests) in
+        let word : k / 64 ≡ (b + k) / 64 = omega (arith, less) in
+        let bit : k % 64 + b ≡ (b + k) % 64 = omega (arith, less) in
+        ap (λ i. has_bit (get_or places i 0) (k % 64 + b)) word ∙ ap (has_bit (get_or places ((b + k) / 64) 0)) bit
     at false is =
-        let more : 64 ≤ k % 64 + lo % 64 = grind (arith, nat_tests) in
-        let word : lo / 64 + (k / 64 + 1) ≡ (lo + k) / 64 = omega (arith, more) in
-        let bit : k % 64 + lo % 64 - 64 ≡ (lo + k) % 64 = omega (arith, more) in
-        ap (λ w. has_bit w (k % 64 + lo % 64 - 64)) (get_or-drop (lo / 64) places (k / 64 + 1) 0 ∙ ap (λ i. get_or places i 0) word) ∙ ap (has_bit (get_or places ((lo + k) / 64) 0)) bit
+        let more : 64 ≤ k % 64 + b = grind (arith, nat_tests) in
+        let word : k / 64 + 1 ≡ (b + k) / 64 = omega (arith, more, lt) in
+        let bit : k % 64 + b - 64 ≡ (b + k) % 64 = omega (arith, more, lt) in
+        ap (λ i. has_bit (get_or places i 0) (k % 64 + b - 64)) word ∙ ap (has_bit (get_or places ((b + k) / 64) 0)) bit
+
+-- the same of a set, counted from a place on
+from-place : (places : List ℕ) (lo k : ℕ) → bit_from (get_or (drop (lo / 64) places) (k / 64) 0) (get_or (drop (lo / 64) places) (k / 64 + 1) 0) (lo % 64) (k % 64) ≡ truth_in places (lo + k)
+from-place places lo k =
+    let i = lo % 64 + k in
+    let word : lo / 64 + i / 64 ≡ (lo + k) / 64 = omega arith in
+    let bit : i % 64 ≡ (lo + k) % 64 = omega arith in
+    bits-from (drop (lo / 64) places) (lo % 64) k (mod_below lo 64 (omega arith))
+    ∙ ap (λ w. has_bit w (i % 64)) (get_or-drop (lo / 64) places (i / 64) 0 ∙ ap (λ n. get_or places n 0) word) ∙ ap (has_bit (get_or places ((lo + k) / 64) 0)) bit
 
 pub kept : (cs words places after : List ℕ) (lo from end d m x : ℕ) → HasDigit cs d m x places
     → ((k : ℕ) → from ≤ k → k < end → IsKept (get_or (drop (lo / 64) places) k 0) (get_or (drop (lo / 64) places) (k + 1) 0) (lo % 64) (get_or words k 0) (get_or after k 0))

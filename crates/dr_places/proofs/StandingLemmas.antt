@@ -1,64 +1,86 @@
 -- Sets of the places at which a piece stands.
-use Rattle.std.proofs.Common.{◌≡◌, ◌≢◌, ◌∙◌, sym, refl, ap, ℕ, ◌+◌, ◌-◌, ◌/◌, ◌%◌, ◌^◌, ◌<◌, ◌≤◌, ◌==◌, ◌&&◌, Bool, true, false, List, [], ◌∷◌, ◌++◌, length, get_or, drop, drop-drop, true≢false, arith}
-use Rattle.std.proofs.lemmas.List.{drop_at, append_assoc}
-use Rattle.std.proofs.lemmas.Nat.{div_below, mod_below, div-add-mod'}
+use Rattle.std.proofs.Common.{◌≡◌, ◌≢◌, ◌∙◌, sym, refl, ap, subst, ℕ, suc, ◌+◌, ◌-◌, ◌*◌, ◌/◌, ◌%◌, ◌^◌, ◌<◌, ◌≤◌, ◌==◌, ◌&&◌, Bool, true, false, List, length, get_or, drop, drop-drop, arith}
+use Rattle.std.proofs.lemmas.List.{drop_all}
+use Rattle.std.proofs.lemmas.Nat.{mod_below}
+use Rattle.dr_like.specs.Like.{letter_fits}
 use Rattle.dr_bits.proofs.BitLemmas.{bit-zero, bit-ones}
-use Rattle.dr_places.specs.Places.{has_bit, truth_in, begins, AreStanding, HoldJust}
-use Rattle.dr_places.proofs.BeginLemmas.{begins-behind, begins-first, any_letter, one_fits}
+use Rattle.dr_places.specs.Places.{has_bit, truth_in, fits_comb, AreStanding, HoldJust, IsKept}
+use Rattle.dr_places.proofs.BeginLemmas.{any_letter, one_fits}
+use Rattle.dr_places.proofs.DigitLemmas.{bits-from}
+use Rattle.dr_places.proofs.CombLemmas.{all_combs, comb-skipped, letter-behind, each-comb, some-comb}
 
--- the word of a place
-pub word-within : (count k : ℕ) (words : List ℕ) → HoldJust count words → k < count → k / 64 < length words
-word-within count k words just lt = div_below k 64 (length words) (omega arith) (omega (arith, lt, just.1))
+-- the places at which the letters of so many combs fit
+abbrev pub AreCombed : (words : List ℕ) (count combs place : ℕ) (piece text : List ℕ) → Type 0
+AreCombed words count combs place piece text = (k : ℕ) → k < count → truth_in words k ≡ all_combs 63 combs piece (drop (place + k) text)
 
--- the words of places that are counted from another one lie within the text's
-pub words-within : (count place n : ℕ) (words : List ℕ) → HoldJust count words → place + count ≤ n → place / 64 + length words ≤ n / 64 + 1
-words-within count place n words just within = omega (arith, just.0, just.2, within, div-add-mod' place 64, mod_below place 64 (omega arith), div-add-mod' n 64, mod_below n 64 (omega arith))
+pub ones : (words : List ℕ) (k : ℕ) → get_or words (k / 64) 0 ≡ 2 ^ 64 - 1 → truth_in words k ≡ true
+ones words k is = ap (λ w. has_bit w (k % 64)) is ∙ bit-ones (k % 64) (mod_below k 64 (omega arith))
 
-pub all-ones : (count place : ℕ) (words text : List ℕ) → HoldJust count words → ((k : ℕ) → k < length words → get_or words k 0 ≡ 2 ^ 64 - 1) → AreStanding words count place [] text
-all-ones count place words text just ones k lt =
-    ap (λ w. has_bit w (k % 64)) (ones (k / 64) (word-within count k words just lt)) ∙ bit-ones (k % 64) (mod_below k 64 (omega arith))
+pub all-ones : (count place : ℕ) (words piece text : List ℕ) → HoldJust count words → ((k : ℕ) → k < length words → get_or words k 0 ≡ 2 ^ 64 - 1) → AreCombed words count 0 place piece text
+all-ones count place words piece text just full k lt = ones words k (full (k / 64) (omega (arith, lt, just.1)))
 
-pub letter-any : (count place : ℕ) (words : List ℕ) (letter : ℕ) (piece text : List ℕ) → letter ≡ 95 → place + count ≤ length text
-    → AreStanding words count (place + 1) piece text → AreStanding words count place (letter ∷ piece) text
-letter-any count place words letter piece text any within was k lt =
-    let next : place + 1 + k ≡ place + k + 1 = omega arith in
-    was k lt ∙ ap (λ n. begins piece (drop n text)) next ∙ and_true (begins piece (drop (place + k + 1) text))
-    ∙ ap (λ b. begins piece (drop (place + k + 1) text) && b) (sym (any_letter letter (get_or text (place + k) 0) any))
-    ∙ sym (begins-first letter piece text (place + k) (omega (arith, lt, within)))
+pub one-comb : (count combs place : ℕ) (before after piece text : List ℕ)
+    → ((k : ℕ) → k < count → truth_in after k ≡ (truth_in before k && fits_comb 63 combs piece (drop (place + k) text)))
+    → AreCombed before count combs place piece text → AreCombed after count (combs + 1) place piece text
+one-comb count combs place before after piece text kept was k lt =
+    let next : suc combs ≡ combs + 1 = omega arith in
+    subst (λ n. truth_in after k ≡ all_combs 63 n piece (drop (place + k) text)) next
+    (kept k lt ∙ ap (λ b. b && fits_comb 63 combs piece (drop (place + k) text)) (was k lt))
+
+pub none-combed : (count combs place : ℕ) (words piece text : List ℕ) → combs ≤ 64 → ((k : ℕ) → get_or words k 0 ≡ 0) → AreCombed words count combs place piece text → AreStanding words count place piece text
+none-combed count combs place words piece text le zeros was k lt =
+    let none : truth_in words k ≡ false = ap (λ w. has_bit w (k % 64)) (zeros (k / 64)) ∙ bit-zero (k % 64) in
+    none ∙ sym (some-comb combs piece (drop (place + k) text) le (sym (was k lt) ∙ none))
+
+pub all-combed : (count combs place : ℕ) (words piece text : List ℕ) → combs ≤ 64 → (combs < 64 → length piece ≤ combs) → AreCombed words count combs place piece text → AreStanding words count place piece text
+all-combed count combs place words piece text le long was k lt = was k lt ∙ each-comb combs piece (drop (place + k) text) le long
+
+-- ---- one letter
+
+pub letter-any : (letter c : ℕ) (b : Bool) → letter ≡ 95 → b ≡ (b && letter_fits letter c)
+letter-any letter c b any = kept b ∙ ap (λ x. b && x) (sym (any_letter letter c any))
   where
-    and_true : (b : Bool) → b ≡ (b && true)
-    and_true true = refl
-    and_true false = refl
+    kept : (b : Bool) → b ≡ (b && true)
+    kept true = refl
+    kept false = refl
 
-pub letter-one : (count place : ℕ) (before after : List ℕ) (letter : ℕ) (piece text : List ℕ) → letter ≢ 95 → place + count ≤ length text
-    → ((k : ℕ) → k < count → truth_in after k ≡ (truth_in before k && (get_or text (place + k) 0 == letter)))
-    → AreStanding before count (place + 1) piece text → AreStanding after count place (letter ∷ piece) text
-letter-one count place before after letter piece text one within kept was k lt =
-    let next : place + 1 + k ≡ place + k + 1 = omega arith in
-    kept k lt ∙ ap (λ b. b && (get_or text (place + k) 0 == letter)) (was k lt ∙ ap (λ n. begins piece (drop n text)) next)
-    ∙ ap (λ b. begins piece (drop (place + k + 1) text) && b) (sym (one_fits letter (get_or text (place + k) 0) one))
-    ∙ sym (begins-first letter piece text (place + k) (omega (arith, lt, within)))
+pub letter-one : (letter c : ℕ) (before after : Bool) → letter ≢ 95 → after ≡ (before && (c == letter)) → after ≡ (before && letter_fits letter c)
+letter-one letter c before after one is = is ∙ ap (λ x. before && x) (sym (one_fits letter c one))
 
--- what of a piece stands nowhere keeps the whole piece from standing
-pub none-standing : (count place at : ℕ) (words front piece text : List ℕ) → ((k : ℕ) → get_or words k 0 ≡ 0) → at ≡ place + length front
-    → AreStanding words count at piece text → AreStanding words count place (front ++ piece) text
-none-standing count place at words front piece text zeros is was k lt = by (begins (front ++ piece) (drop (place + k) text)) refl
+-- ---- the letters of a comb, from the last one on
+
+pub no-letters : (b : Bool) (j x : ℕ) (piece text : List ℕ) → length piece ≤ j → b ≡ (b && fits_comb 63 0 (drop j piece) (drop x text))
+no-letters b j x piece text le = kept b ∙ ap (λ l. b && fits_comb 63 0 l (drop x text)) (sym (drop_all j piece le))
   where
-    none : truth_in words k ≡ false
-    none = ap (λ w. has_bit w (k % 64)) (zeros (k / 64)) ∙ bit-zero (k % 64)
+    kept : (b : Bool) → b ≡ (b && true)
+    kept true = refl
+    kept false = refl
 
-    by : (b : Bool) → begins (front ++ piece) (drop (place + k) text) ≡ b → truth_in words k ≡ begins (front ++ piece) (drop (place + k) text)
-    by false misses = none ∙ sym misses
-    by true stands =
-        let behind = begins-behind front piece (drop (place + k) text) stands in
-        let far : place + k + length front ≡ at + k = omega (arith, is) in
-        let there : drop (length front) (drop (place + k) text) ≡ drop (at + k) text = drop-drop (length front) (place + k) text ∙ ap (λ n. drop n text) far in
-        absurd (true≢false (sym behind ∙ ap (begins piece) there ∙ sym (was k lt) ∙ none))
+pub one-letter : (first before after : Bool) (j x j' x' : ℕ) (piece text : List ℕ) → j < length piece → x < length text → j' ≡ j + 64 → x' ≡ x + 64
+    → before ≡ (first && fits_comb 63 0 (drop j' piece) (drop x' text)) → after ≡ (before && letter_fits (get_or piece j 0) (get_or text x 0))
+    → after ≡ (first && fits_comb 63 0 (drop j piece) (drop x text))
+one-letter first before after j x j' x' piece text lt within next there was is =
+    let far : j' ≡ j + 1 + 63 = omega (arith, next) in
+    let away : x' ≡ x + 1 + 63 = omega (arith, there) in
+    is ∙ ap (λ b. b && letter_fits (get_or piece j 0) (get_or text x 0)) (was ∙ ap (λ n. first && fits_comb 63 0 (drop n piece) (drop x' text)) far ∙ ap (λ n. first && fits_comb 63 0 (drop (j + 1 + 63) piece) (drop n text)) away)
+    ∙ turned first (fits_comb 63 0 (drop (j + 1 + 63) piece) (drop (x + 1 + 63) text)) (letter_fits (get_or piece j 0) (get_or text x 0))
+    ∙ ap (λ b. first && b) (sym (letter-behind 63 j x piece text lt within))
+  where
+    turned : (a b c : Bool) → ((a && b) && c) ≡ (a && (c && b))
+    turned true true true = refl
+    turned true true false = refl
+    turned true false true = refl
+    turned true false false = refl
+    turned false b c = refl
 
--- a piece from its last letter on
-pub behind_more : (pattern left more : List ℕ) (letter : ℕ) → pattern ≡ left ++ drop (length left) pattern → left ≡ more ++ letter ∷ []
-    → (pattern ≡ more ++ drop (length more) pattern) × (drop (length more) pattern ≡ letter ∷ drop (length left) pattern)
-behind_more pattern left more letter parts last =
-    let whole : pattern ≡ more ++ (letter ∷ drop (length left) pattern) = parts ∙ ap (λ l. l ++ drop (length left) pattern) last ∙ append_assoc more (letter ∷ []) (drop (length left) pattern) in
-    let behind : drop (length more) pattern ≡ letter ∷ drop (length left) pattern = ap (drop (length more)) whole ∙ drop_at more (letter ∷ drop (length left) pattern) (length more) refl in
-    (whole ∙ ap (λ l. more ++ l) (sym behind), behind)
+-- ---- a comb
+
+pub comb-kept : (words comb after piece text : List ℕ) (place first k : ℕ) → IsKept (get_or comb (k / 64) 0) (get_or comb (k / 64 + 1) 0) ((place + first) % 64) (get_or words (k / 64) 0) (get_or after (k / 64) 0)
+    → truth_in comb ((place + first) % 64 + k) ≡ fits_comb 63 0 (drop first piece) (drop (64 * ((place + first) / 64) + ((place + first) % 64 + k)) text)
+    → truth_in after k ≡ (truth_in words k && fits_comb 63 first piece (drop (place + k) text))
+comb-kept words comb after piece text place first k kept told =
+    let there : 64 * ((place + first) / 64) + ((place + first) % 64 + k) ≡ place + k + first = omega arith in
+    kept (k % 64) (mod_below k 64 (omega arith))
+    ∙ ap (λ b. truth_in words k && b) (bits-from comb ((place + first) % 64) k (mod_below (place + first) 64 (omega arith)) ∙ told
+    ∙ ap (λ n. fits_comb 63 0 (drop first piece) (drop n text)) there ∙ ap (fits_comb 63 0 (drop first piece)) (sym (drop-drop first (place + k) text))
+    ∙ sym (comb-skipped 63 first piece (drop (place + k) text)))

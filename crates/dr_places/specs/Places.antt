@@ -1,5 +1,5 @@
 -- The places of a text at which a piece of a pattern stands, kept as the bits of words. No public contract cites this file.
-use Rattle.std.specs.Prelude.{◌≡◌, ℕ, ◌+◌, ◌-◌, ◌*◌, ◌<◌, ◌≤◌, ◌&&◌, Bool, true, if◌then◌else◌, List, [], ◌∷◌, length, drop, nat_lt}
+use Rattle.std.specs.Prelude.{◌≡◌, ℕ, zero, suc, ◌+◌, ◌-◌, ◌*◌, ◌<◌, ◌≤◌, ◌&&◌, Bool, true, if◌then◌else◌, List, [], ◌∷◌, length, drop, nat_lt}
 use Rattle.dr_like.specs.Like.{letter_fits, first_and_rest}
 pub use Rattle.dr_bits.specs.Bits.{has_bit, truth_in}
 
@@ -15,6 +15,12 @@ IsKept word next bits before after = (k : ℕ) → k < 64 → has_bit after k �
 abbrev pub begins : (piece text : List ℕ) → Bool
 begins [] text = true
 begins (p ∷ ps) text = first_and_rest (letter_fits p) (begins ps) text
+
+-- of the letters of the piece those that stand so far apart, behind so many that are left out, fit the text
+abbrev pub fits_comb : (space left : ℕ) (piece text : List ℕ) → Bool
+fits_comb space left [] text = true
+fits_comb space zero (p ∷ ps) text = first_and_rest (letter_fits p) (fits_comb space space ps) text
+fits_comb space (suc left) (p ∷ ps) text = fits_comb space left ps (drop 1 text)
 
 -- of so many places, the first of which is this one, it is told at which of them the piece stands
 abbrev pub AreStanding : (words : List ℕ) (count place : ℕ) (piece text : List ℕ) → Type 0

@@ -12,13 +12,6 @@ pub fn letters_of(alloc: Global, text: &str) -> Result<Vec<char>, AllocError>
     text.chars().collect(alloc)
 }
 
-// How many characters a text has.
-pub fn character_count(text: &str) -> usize
-    ensures { result ≡ length (chars text.now) }
-{
-    text.chars().count()
-}
-
 // Whether every character is below a number.
 pub fn are_below(letters: &[char], bound: usize) -> bool
     ensures { result ≡ true → (k : ℕ) → k < length letters.now → get_or letters.now k 0 < bound }

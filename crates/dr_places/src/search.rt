@@ -1,10 +1,8 @@
 ghost use Rattle.std.specs.Prelude.{◌≡◌, ◌≤◌, ◌<◌, ◌+◌, ◌/◌, ℕ, true, false, length, drop, MatchOption};
-ghost use Rattle.std.specs.Str.{chars};
 ghost use Rattle.dr_like.specs.Letters.{Lacks};
 ghost use Rattle.dr_like.specs.Pieces.{IsNowhere, IsBehindFirst};
 ghost use Rattle.dr_places.specs.Places.{begins, truth_in, HoldJust};
 
-use crate::letters::character_count;
 use crate::standing::put_standing;
 use crate::text_places::TextPlaces;
 use dr_bits::is_set;
@@ -15,14 +13,22 @@ const FIRST_COUNT: usize = 1024;
 const MOST_COUNT: usize = 1 << 15;
 
 // Whether a piece of a pattern stands at a place of a text, where so many characters are left.
-pub fn stands(places: &TextPlaces, words: &mut [u64], piece: &str, place: usize) -> bool
-    requires within { place + length (chars piece.now) ≤ length places.now }
+pub fn stands(
+    places: &TextPlaces,
+    words: &mut [u64],
+    comb: &mut [u64],
+    piece: &[char],
+    place: usize,
+) -> bool
+    requires within { place + length piece.now ≤ length places.now }
     requires words { length words.old ≡ length places.now / 64 + 1 }
+    requires comb { length comb.old ≡ length places.now / 64 + 2 }
     ensures count { length words.new ≡ length words.old }
-    ensures same { result ≡ begins (chars piece.now) (drop place places.now) }
+    ensures comb { length comb.new ≡ length comb.old }
+    ensures same { result ≡ begins piece.now (drop place places.now) }
 {
     let words = &mut words[..1];
-    put_standing(places, words, piece, place, 1);
+    put_standing(places, words, &mut comb[..2], piece, place, 1);
     is_set(words[0], 0)
 }
 
@@ -31,16 +37,19 @@ pub fn stands(places: &TextPlaces, words: &mut [u64], piece: &str, place: usize)
 pub fn behind_piece(
     places: &TextPlaces,
     words: &mut [u64],
-    piece: &str,
+    comb: &mut [u64],
+    piece: &[char],
     from: usize,
 ) -> Option<usize>
-    requires lacks { Lacks 37 (chars piece.now) }
+    requires lacks { Lacks 37 piece.now }
     requires from { from ≤ length places.now }
     requires words { length words.old ≡ length places.now / 64 + 1 }
+    requires comb { length comb.old ≡ length places.now / 64 + 2 }
     ensures count { length words.new ≡ length words.old }
-    ensures found { MatchOption result (IsNowhere (chars piece.now) (drop from places.now)) (λ e. (e ≤ length places.now) × IsBehindFirst (chars piece.now) (drop from places.now) (drop e places.now)) }
+    ensures comb { length comb.new ≡ length comb.old }
+    ensures found { MatchOption result (IsNowhere piece.now (drop from places.now)) (λ e. (e ≤ length places.now) × IsBehindFirst piece.now (drop from places.now) (drop e places.now)) }
 {
-    let count = character_count(piece);
+    let count = piece.len();
     if count > places.count() - from {
         return None;
     }
@@ -52,7 +61,7 @@ pub fn behind_piece(
     let mut most = FIRST_COUNT;
     while at < end {
         let some = most.min(end - at);
-        if let Some(k) = first_standing(places, words, piece, at, some) {
+        if let Some(k) = first_standing(places, words, comb, piece, at, some) {
             return Some(at + k + count);
         }
         at += some;
@@ -65,18 +74,22 @@ pub fn behind_piece(
 fn first_standing(
     places: &TextPlaces,
     words: &mut [u64],
-    piece: &str,
+    comb: &mut [u64],
+    piece: &[char],
     place: usize,
     count: usize,
 ) -> Option<usize>
     requires some { 0 < count }
-    requires within { place + count + length (chars piece.now) ≤ length places.now + 1 }
+    requires within { place + count + length piece.now ≤ length places.now + 1 }
     requires words { length words.old ≡ length places.now / 64 + 1 }
+    requires comb { length comb.old ≡ length places.now / 64 + 2 }
     ensures count { length words.new ≡ length words.old }
-    ensures first { MatchOption result ((k : ℕ) → k < count → begins (chars piece.now) (drop (place + k) places.now) ≡ false) (λ b. (b < count) × (begins (chars piece.now) (drop (place + b) places.now) ≡ true) × ((k : ℕ) → k < b → begins (chars piece.now) (drop (place + k) places.now) ≡ false)) }
+    ensures comb { length comb.new ≡ length comb.old }
+    ensures first { MatchOption result ((k : ℕ) → k < count → begins piece.now (drop (place + k) places.now) ≡ false) (λ b. (b < count) × (begins piece.now (drop (place + b) places.now) ≡ true) × ((k : ℕ) → k < b → begins piece.now (drop (place + k) places.now) ≡ false)) }
 {
-    let words = &mut words[..(count - 1) / 64 + 1];
-    put_standing(places, words, piece, place, count);
+    let end = (count - 1) / 64 + 1;
+    let words = &mut words[..end];
+    put_standing(places, words, &mut comb[..end + 1], piece, place, count);
     first_of(words, count)
 }
 

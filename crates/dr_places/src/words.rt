@@ -11,8 +11,26 @@ pub fn keep_bits(words: &mut [u64], others: &[u64], bits: usize, from: usize, en
     ensures each { (k : ℕ) → from ≤ k → k < end → IsKept (get_or others.now k 0) (get_or others.now (k + 1) 0) bits (get_or words.old k 0) (get_or words.new k 0) }
     ensures others { (k : ℕ) → (k < from) ⊎ (end ≤ k) → get_or words.new k 0 ≡ get_or words.old k 0 }
 {
+    if bits == 0 {
+        keep_words(words, others, from, end);
+        return;
+    }
     for k in from..end {
         words[k] &= word_from(others[k], others[k + 1], bits);
+    }
+}
+
+// The same where the first bit is that of a word.
+fn keep_words(words: &mut [u64], others: &[u64], from: usize, end: usize)
+    requires order { from ≤ end }
+    requires words { end ≤ length words.old }
+    requires others { end < length others.now }
+    ensures count { length words.new ≡ length words.old }
+    ensures each { (k : ℕ) → from ≤ k → k < end → IsKept (get_or others.now k 0) (get_or others.now (k + 1) 0) 0 (get_or words.old k 0) (get_or words.new k 0) }
+    ensures others { (k : ℕ) → (k < from) ⊎ (end ≤ k) → get_or words.new k 0 ≡ get_or words.old k 0 }
+{
+    for k in from..end {
+        words[k] &= others[k];
     }
 }
 

@@ -10,6 +10,7 @@ invariant-loop-piece l = record {
   same : behind_some_run (fits (chars l.left)) (drop l.at l.places) ≡ behind_some_run (fits (chars l.pattern)) (drop l.from l.places);
   within : l.at ≤ length l.places;
   words : length l.words ≡ length l.fn.words;
+  comb : length l.comb ≡ length l.fn.comb;
   left_utf8 : shadow (Utf8 l.left);
 }
 

@@ -1,5 +1,4 @@
-use Rattle.std.proofs.Common.{inl, inr, ◌≡◌, ◌∙◌, ap, sym, subst, ◌+◌, ◌-◌, ◌≤◌, false, length, drop, arith}
-use Rattle.std.specs.Str.{chars}
+use Rattle.std.proofs.Common.{inl, inr, ◌≡◌, ◌∙◌, subst, ◌+◌, ◌-◌, ◌≤◌, false, length, drop, arith}
 use Rattle.std.proofs.lemmas.Bool.{cases_lt}
 use Rattle.std.proofs.lemmas.List.{length-drop}
 use Rattle.dr_like.specs.Pieces.{IsBehindFirst}
@@ -9,16 +8,16 @@ use Rattle.dr_places.proofs.search.behind_piece.Goals as goal
 
 pub returns-then-count-from-clause-found : goal.returns-then-count-from-clause-found
 returns-then-count-from-clause-found c =
-    let p = chars c.args.piece.now in
+    let p = c.args.piece.now in
     let text = c.args.places.now in
     stands-nowhere p text c.requires.lacks c.args.from (λ o le.
-    begins-short p (drop o text) (omega (arith, le, length-drop o text, c.if-count-from.true, c.character_count-count.ensures, c.count.ensures)))
+    begins-short p (drop o text) (omega (arith, le, length-drop o text, c.if-count-from.true, c.count.ensures)))
 
 pub returns-then-count-eq0-clause-found : goal.returns-then-count-eq0-clause-found
 returns-then-count-eq0-clause-found c =
-    let p = chars c.args.piece.now in
+    let p = c.args.piece.now in
     let text = c.args.places.now in
-    let none : length p ≡ 0 = omega (arith, c.if-count-eq0.true, c.character_count-count.ensures) in
+    let none : length p ≡ 0 = omega (arith, c.if-count-eq0.true) in
     let same : c.args.from + length p ≡ c.args.from = omega (arith, none) in (
       c.requires.from,
       subst (λ n. IsBehindFirst p (drop c.args.from text) (drop n text)) same
@@ -30,30 +29,29 @@ overflow_add-end c = omega (arith, c.count-2.type_inv, c.if-count-eq0.false, c.i
 
 pub returns-in-Some-clause-found : goal.returns-in-Some-clause-found
 returns-in-Some-clause-found c =
-    let p = chars c.args.piece.now in
+    let p = c.args.piece.now in
     let text = c.args.places.now in
     let at = c.loop-at in
     let first = c.in-Some.ensures.first in
     let o = at.at + c.in-Some.k in
-    let last : o + length p ≤ length text = omega (arith, first.0, c.min-some.ensures, c.loop-at-test.true, c.character_count-count.ensures, c.count-2.ensures, c.if-count-eq0.false, c.if-count-from.false, c.count.ensures) in
-    let end : o + length p ≡ o + c.character_count-count.result = ap (λ n. o + n) (sym c.character_count-count.ensures) in (
-      omega (arith, last, end),
-      subst (λ n. IsBehindFirst p (drop c.args.from text) (drop n text)) end
-          (stands-first p text c.requires.lacks c.args.from o (omega (arith, at.invariant.begun)) last first.1 (λ k le lt. elim (cases_lt k at.at) [
-            | inl less ↦ at.invariant.before k le less
-            | inr more ↦ (let same : at.at + (k - at.at) ≡ k = omega (arith, more) in subst (λ n. begins p (drop n text) ≡ false) same (first.2 (k - at.at) (omega (arith, lt, more))))
-          ])),
+    let last : o + length p ≤ length text = omega (arith, first.0, c.min-some.ensures, c.loop-at-test.true, c.count-2.ensures, c.if-count-eq0.false, c.if-count-from.false, c.count.ensures) in (
+      last,
+      stands-first p text c.requires.lacks c.args.from o (omega (arith, at.invariant.begun)) last first.1 (λ k le lt. elim (cases_lt k at.at) [
+        | inl less ↦ at.invariant.before k le less
+        | inr more ↦ (let same : at.at + (k - at.at) ≡ k = omega (arith, more) in subst (λ n. begins p (drop n text) ≡ false) same (first.2 (k - at.at) (omega (arith, lt, more))))
+      ]),
     )
 
 pub loop-at-preserved : goal.loop-at-preserved
 loop-at-preserved c =
-    let p = chars c.args.piece.now in
+    let p = c.args.piece.now in
     let text = c.args.places.now in
     let at = c.loop-at in
     record {
       begun = omega (arith, at.invariant.begun);
       most = (omega (arith, at.invariant.most.0, c.min-most.ensures), omega (arith, c.min-most.ensures));
       words = c.in_default.ensures.count ∙ at.invariant.words;
+      comb = c.in_default.ensures.comb ∙ at.invariant.comb;
       before = λ o le lt. elim (cases_lt o at.at) [
         | inl less ↦ at.invariant.before o le less
         | inr more ↦ (let same : at.at + (o - at.at) ≡ o = omega (arith, more) in subst (λ n. begins p (drop n text) ≡ false) same (c.in_default.ensures.first (o - at.at) (omega (arith, lt, more))))
@@ -62,10 +60,10 @@ loop-at-preserved c =
 
 pub returns-clause-found : goal.returns-clause-found
 returns-clause-found c =
-    let p = chars c.args.piece.now in
+    let p = c.args.piece.now in
     let text = c.args.places.now in
     let at = c.loop-at in
     stands-nowhere p text c.requires.lacks c.args.from (λ o le. elim (cases_lt o at.at) [
       | inl less ↦ at.invariant.before o le less
-      | inr more ↦ begins-short p (drop o text) (omega (arith, more, length-drop o text, c.loop-at-test.false, c.character_count-count.ensures, c.count-2.ensures, c.if-count-eq0.false))
+      | inr more ↦ begins-short p (drop o text) (omega (arith, more, length-drop o text, c.loop-at-test.false, c.count-2.ensures, c.if-count-eq0.false))
     ])

@@ -1,5 +1,4 @@
 use Rattle.std.proofs.Common.{◌≡◌, ◌≤◌, ◌<◌, ◌-◌, ℕ, false, length, drop}
-use Rattle.std.specs.Str.{chars}
 use Rattle.dr_places.specs.Places.{begins}
 use Rattle.dr_places.proofs.search.behind_piece.Given as goal
 
@@ -8,7 +7,8 @@ invariant-loop-at l = record {
   begun : l.from ≤ l.at;
   most : (0 < l.most) × (l.most ≤ 32768);
   words : length l.words ≡ length l.fn.words;
-  before : (o : ℕ) → l.from ≤ o → o < l.at → begins (chars l.piece) (drop o l.places) ≡ false;
+  comb : length l.comb ≡ length l.fn.comb;
+  before : (o : ℕ) → l.from ≤ o → o < l.at → begins l.piece (drop o l.places) ≡ false;
 }
 
 abbrev pub decreases-loop-at : goal.decreases-loop-at
