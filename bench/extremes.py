@@ -130,6 +130,22 @@ def like_gapped(n):
         yield groups(filter={"type": "like", "dimension": "page", "pattern": "%" + piece + "%"})
 
 
+def like_gapped_among(n):
+    """A text of so many characters, and a piece with gaps among many short ones, which fails by one of two letters in turn."""
+    yield spec()
+    yield event(BEGIN, "aax" * (n // 3))
+    first, last = n // 96 * 3 + 2, n // 48 * 3 - 2
+    piece = "a" + "_" * (first - 1) + "x" + "_" * (last - first - 1) + "x"
+    yield groups(filter={"type": "like", "dimension": "page", "pattern": "%" + piece + "%a" * (n * 468 // 1000) + "%"})
+
+
+def like_gapped_late(n):
+    """A text of so many characters, and a piece with a gap that fits each place but for one letter, which is asked last."""
+    yield spec()
+    yield event(BEGIN, "a" * n)
+    yield groups(filter={"type": "like", "dimension": "page", "pattern": "%a_" + "a" * 61 + "b" + "a" * (n // 2 - 64) + "%"})
+
+
 def long_or(n):
     yield spec()
     for it in range(n):
@@ -292,14 +308,15 @@ def likes(pattern):
     return asked_of_texts(groups(filter=one_of(*({"type": "like", "dimension": "page", "pattern": pattern.replace("x", f"x{it}")} for it in range(15000)))))
 
 
-def likes_of_gaps(begin, end):
-    """A pattern for each of 12,000, of letters that each value has or not, which all values fail by their last letter alone."""
+def likes_of_gaps(begin, end, first=""):
+    """A pattern for each of 12,000, of letters that each value has or not, which all values fail by one letter alone: the last, or the
+    first, which is asked last."""
     def lines(n):
         random = Random(3)
         yield spec()
         for it in range(n):
             yield event(BEGIN + it % DAY, f"{it:017b}")
-        fields = [{"type": "like", "dimension": "page", "pattern": begin + "".join(random.choice("01____") for _ in range(8)) + "2" + end} for _ in range(12000)]
+        fields = [{"type": "like", "dimension": "page", "pattern": begin + first + "".join(random.choice("01____") for _ in range(8)) + ("" if first else "2") + end} for _ in range(12000)]
         asked = series(filter=one_of(*fields))
         yield from (asked, f"seal {instant(1)}", f"publish {instant(1)} 0 1", asked)
     return lines
@@ -521,6 +538,8 @@ INPUTS = {
     "pairs of an event and a query, 100,000 open rows": (query_after_event, 3000),
     "a query of open rows in one chunk": (query_of_open_rows, 1000000),
     "like, of so many characters, with a gap behind each second letter of the pattern": (like_gapped, 1000000),
+    "like, of so many characters, with a piece with gaps among short pieces": (like_gapped_among, 999999),
+    "like, of so many characters, with a piece with a gap that fails by the letter that is asked last": (like_gapped_late, 1000000),
     "like, of so many characters and half as many in the pattern": (like_long, 100000),
     "rows under an or of 17,000 selectors": (long_or, 100000),
     "rows under an or of 15,000 ins of one value": (asked_of_texts(LONG_OR_OF_INS), 100000),
@@ -556,6 +575,7 @@ INPUTS = {
     "rows under an or of 12,000 likes of a beginning with gaps": (likes_of_gaps("", "%"), 100000),
     "rows under an or of 12,000 likes of an end with gaps": (likes_of_gaps("%", ""), 100000),
     "rows under an or of 12,000 likes of a part with gaps": (likes_of_gaps("%", "%"), 100000),
+    "rows under an or of 12,000 likes of a part with gaps whose first letter fails": (likes_of_gaps("%", "%", "2"), 100000),
     "rows under an and of 15,000 likes of six kinds": (likes_of_each, 100000),
     "rows of 800 bytes under an and of 2,000 likes of growing texts": (likes_of_growing, 20000),
     "groups under a having that is an and of 7,500 ors of two comparisons": (asked_of_texts(ANDS_OF_A_HAVING), 100000),

@@ -45,6 +45,19 @@ fn sets_have_the_rows_that_were_put_in(rt: HostRuntime) -> Result<(), Fail> {
     Ok(())
 }
 
+#[test]
+fn a_set_that_has_none_left_can_be_filled_again(rt: HostRuntime) -> Result<(), Fail> {
+    let mut set = RowSet::none(rt.alloc(), 130)?;
+    put(&mut set, &[129, 63, 64]);
+    let copy = set.copy(rt.alloc())?;
+    let none = RowSet::none(rt.alloc(), 130)?;
+    keep(&mut set, &none);
+    assert!(rt; are_rows(&set, &[]) && are_rows(&copy, &[63, 64, 129]));
+    put(&mut set, &[5]);
+    assert!(rt; are_rows(&set, &[5]));
+    Ok(())
+}
+
 const NUMBERS: [i64; 7] = [5, -3, 7, 5, 0, i64::MAX, i64::MIN];
 
 // The rows whose number lies from one to before another.
