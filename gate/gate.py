@@ -78,7 +78,7 @@ class Run:
         self.proved = Tree(copy_to(f"{copy}/proved", MUST_FAIL, FURTHER))
         self.sources, self.record, self.turn = Sources(self.whole), Record(self.whole), turn()
         self.lanes = min(processors(), 4)
-        # beside the proofs edits have one lane, since each prover takes some 2 GB, and all of them once these have ended
+        # beside the proofs edits have one lane, since each prover takes some 2 GB, and those that no crate needs (`share_lanes`)
         self.edit_lanes = ThreadPoolExecutor(self.lanes)
         self.beside = 1
         self.free_lanes = threading.Semaphore(self.beside)
@@ -140,6 +140,14 @@ class Run:
             fault = case.fault(f"{prefix}/bin/druid-node") if ran.returncode == 0 else ran.stderr[-300:]
         self.gate.fail("install", fault) if fault else self.gate.pass_one()
 
+    def share_lanes(self, wanted):
+        """Gives the edits so many lanes; one that is in use is taken back once it is free."""
+        while self.beside < wanted:
+            self.free_lanes.release()
+            self.beside += 1
+        while self.beside > wanted and self.free_lanes.acquire(blocking=False):
+            self.beside -= 1
+
     def progress(self):
         tried = sum(map(len, self.left.values()))
         waiting = f"; edits left: {tried}" if tried else ""
@@ -152,6 +160,7 @@ class Run:
         has_run_cases = False
         while self.proofs.is_alive():
             self.proofs.join(1)
+            self.share_lanes(max(self.lanes - len(self.proofs.under_way()), 1))
             if self.is_built.is_set() and not has_run_cases:
                 has_run_cases = True
                 self.run_cases()
@@ -161,8 +170,7 @@ class Run:
         for name in self.proofs.failed:
             self.gate.fail(name, self.proofs.why.get(name, ""))
         self.gate.ended(f"rt ci has ended; {self.proofs.kept} of {len(self.proofs.done)} crates were proved by an earlier run on this machine")
-        for _ in range(self.lanes - self.beside):
-            self.free_lanes.release()
+        self.share_lanes(self.lanes)
         if not has_run_cases:
             self.gate.fail("examples", "the program is not proved")
         self.finish_edits()
