@@ -9,6 +9,7 @@ import argparse
 import json
 import os
 import subprocess
+import sys
 import threading
 from random import Random
 
@@ -605,9 +606,21 @@ INPUTS = {
 }
 
 
+# What a process holds when it starts a program counts as the peak of that program too, so a small one starts it, and tells its
+# status, its seconds of a processor and its peak.
+STARTER = """
+import os, sys
+_, status, used = os.wait4(os.spawnv(os.P_NOWAIT, sys.argv[2], sys.argv[2:]), 0)
+print(os.waitstatus_to_exitcode(status), used.ru_utime + used.ru_stime, used.ru_maxrss, file=os.fdopen(int(sys.argv[1]), "w"))
+"""
+
+
 def measure(program, lines):
-    """Seconds of a clock, of a processor, and megabytes."""
-    ran = subprocess.Popen([program, "run"], stdin=subprocess.PIPE, stdout=subprocess.PIPE)
+    """The seconds of a processor, the megabytes at the peak, what was written, and the status."""
+    end, told = os.pipe()
+    words = [sys.executable, "-SI", "-c", STARTER, str(told), program, "run"]
+    ran = subprocess.Popen(words, stdin=subprocess.PIPE, stdout=subprocess.PIPE, pass_fds=[told])
+    os.close(told)
     count = [0, b""]
 
     def read():
@@ -629,8 +642,10 @@ def measure(program, lines):
     except BrokenPipeError:
         pass
     reader.join()
-    _, status, used = os.wait4(ran.pid, 0)
-    return used.ru_utime + used.ru_stime, used.ru_maxrss / 1024, count, status
+    ran.wait()
+    with os.fdopen(end) as it:
+        status, seconds, peak = it.read().split()
+    return float(seconds), int(peak) / 1024, count, status
 
 
 def main():
