@@ -323,6 +323,33 @@ def likes_of_gaps(begin, end, first=""):
     return lines
 
 
+def likes_of_long_texts(begin, end, first="", letters=22, patterns=12000):
+    """The same of texts of 300 letters, and patterns that are gaps but for four letters."""
+    def pattern(random):
+        inner = ["_"] * letters
+        for _ in range(4):
+            inner[random.randrange(letters)] = random.choice("01")
+        return begin + first + "".join(inner) + ("" if first else "2") + end
+
+    def lines(n):
+        random = Random(3)
+        yield spec()
+        for it in range(n):
+            yield event(BEGIN + it % DAY, f"{random.getrandbits(300):0300b}")
+        asked = series(filter=one_of(*({"type": "like", "dimension": "page", "pattern": pattern(random)} for _ in range(patterns))))
+        yield from (asked, f"seal {instant(1)}", f"publish {instant(1)} 0 1", asked)
+    return lines
+
+
+def likes_of_many_dimensions(n):
+    names = [f"d{it}" for it in range(64)]
+    random = Random(3)
+    yield spec(dims=names)
+    for it in range(n):
+        yield event(BEGIN + it, **{name: f"{random.getrandbits(512):0512b}" if random.randrange(15) == 0 else "01" for name in names})
+    yield series(filter=one_of(*({"type": "like", "dimension": name, "pattern": f"%0_{it:03b}_2%"} for name in names for it in range(8))))
+
+
 def pairs(n):
     yield spec(dims=("page", "lang"))
     for it in range(n):
@@ -577,6 +604,12 @@ INPUTS = {
     "rows under an or of 12,000 likes of an end with gaps": (likes_of_gaps("%", ""), 100000),
     "rows under an or of 12,000 likes of a part with gaps": (likes_of_gaps("%", "%"), 100000),
     "rows under an or of 12,000 likes of a part with gaps whose first letter fails": (likes_of_gaps("%", "%", "2"), 100000),
+    "rows of 300 letters under an or of 2,800 likes of as many and gaps": (likes_of_long_texts("", "", letters=299, patterns=2800), 10000),
+    "rows of 300 letters under an or of 12,000 likes of a beginning with gaps": (likes_of_long_texts("", "%"), 10000),
+    "rows of 300 letters under an or of 12,000 likes of an end with gaps": (likes_of_long_texts("%", ""), 10000),
+    "rows of 300 letters under an or of 12,000 likes of a part with gaps": (likes_of_long_texts("%", "%"), 10000),
+    "rows of 300 letters under an or of 12,000 likes of a part with gaps whose first letter fails": (likes_of_long_texts("%", "%", "2"), 10000),
+    "rows of 64 dimensions, one value in 15 of 512 letters, under an or of eight likes of each": (likes_of_many_dimensions, 16384),
     "rows under an and of 15,000 likes of six kinds": (likes_of_each, 100000),
     "rows of 800 bytes under an and of 2,000 likes of growing texts": (likes_of_growing, 20000),
     "groups under a having that is an and of 7,500 ors of two comparisons": (asked_of_texts(ANDS_OF_A_HAVING), 100000),

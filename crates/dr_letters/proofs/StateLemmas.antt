@@ -1,5 +1,5 @@
 -- Which of some texts a pattern fits from a place on, place by place.
-use Rattle.std.proofs.Common.{inl, inr, ◌≡◌, ◌∙◌, sym, refl, ap, subst, ℕ, ◌+◌, ◌<◌, ◌≤◌, ◌≢◌, ◌==◌, nat_lt, ◌&&◌, ◌||◌, if◌then◌else◌, Bool, true, false, List, [], ◌∷◌, ◌++◌, length, get_or, set, drop, drop-drop, replicate, arith}
+use Rattle.std.proofs.Common.{inl, inr, ◌≡◌, ◌∙◌, sym, refl, ap, subst, ℕ, zero, suc, ◌+◌, ◌<◌, ◌≤◌, ◌≢◌, ◌==◌, nat_lt, ◌&&◌, ◌||◌, if◌then◌else◌, Bool, true, false, List, [], ◌∷◌, ◌++◌, length, get_or, set, drop, drop-drop, replicate, arith}
 use Rattle.std.specs.Str.{chars}
 use Rattle.std.proofs.lemmas.Bool.{cases_eq}
 use Rattle.std.proofs.lemmas.Bool.Decides.{nat_tests}
@@ -11,7 +11,7 @@ use Rattle.dr_rowindex.specs.Orders.{Tell}
 use Rattle.dr_rowindex.specs.Truths.{Joined}
 use Rattle.dr_rowindex.specs.declared.row_set.RowSet.{RowSet}
 use Rattle.dr_letters.specs.Codes.{Keeps}
-use Rattle.dr_letters.specs.States.{is_short, left_fits, letters, AreSets, AreStates}
+use Rattle.dr_letters.specs.States.{is_short, fits_from, left_fits, letters, AreSets, AreStates}
 
 -- ---- one text
 
@@ -48,6 +48,15 @@ run_here rest [] = twice (rest [])
     twice true = refl
     twice false = refl
 run_here rest (c ∷ cs) = refl
+
+-- a run and nothing behind it
+pub each_fits : (cs : List ℕ) → fits (37 ∷ []) cs ≡ true
+unfolding fits
+each_fits cs = one_run [] cs ∙ all cs
+  where
+    all : (ds : List ℕ) → behind_some_run (fits []) ds ≡ true
+    all [] = refl
+    all (d ∷ ds) = all ds
 
 pub empty_is : (cs : List ℕ) → is_empty cs ≡ true → cs ≡ []
 empty_is [] e = refl
@@ -120,20 +129,20 @@ left_too_few places pattern place text some lt = at (is_empty (drop places (char
     at false is = refl
     at true is = too_few pattern (drop place (chars text)) (omega (arith, some, lt, length-drop place (chars text), short_length places (chars text) is))
 
-module _ (places : ℕ) (behind : List ℕ) (text : List ℕ) where
-  -- a letter before the pattern, at a place before the one from which on the pattern is told
-  pub letter_before : (letter place : ℕ) → (letter == 37) ≡ false
-      → (left_fits places behind (place + 1) text && first_and_rest (letter_fits letter) (λ more. true) (drop place (chars text))) ≡ left_fits places (letter ∷ behind) place text
-  letter_before letter place one =
-      let next : drop 1 (drop place (chars text)) ≡ drop (place + 1) (chars text) = drop-drop 1 place (chars text) in
-      regroups (is_short places text) (fits behind (drop (place + 1) (chars text))) (first_and_rest (letter_fits letter) (λ more. true) (drop place (chars text)))
-      ∙ ap (λ cs. is_short places text && (fits behind cs && first_and_rest (letter_fits letter) (λ more. true) (drop place (chars text)))) (sym next)
-      ∙ ap (λ b. is_short places text && b) (sym (one_letter letter behind (drop place (chars text)) one))
-    where
-      regroups : (a b c : Bool) → ((a && b) && c) ≡ (a && (b && c))
-      regroups true b c = refl
-      regroups false b c = refl
+-- a letter before the pattern, at a place before the one from which on the pattern is told
+pub letter_before : (asked : List ℕ → Bool) (behind : List ℕ) (text : List ℕ) (letter place : ℕ) → (letter == 37) ≡ false
+    → (fits_from asked behind (place + 1) text && first_and_rest (letter_fits letter) (λ more. true) (drop place (chars text))) ≡ fits_from asked (letter ∷ behind) place text
+letter_before asked behind text letter place one =
+    let next : drop 1 (drop place (chars text)) ≡ drop (place + 1) (chars text) = drop-drop 1 place (chars text) in
+    regroups (asked text) (fits behind (drop (place + 1) (chars text))) (first_and_rest (letter_fits letter) (λ more. true) (drop place (chars text)))
+    ∙ ap (λ cs. asked text && (fits behind cs && first_and_rest (letter_fits letter) (λ more. true) (drop place (chars text)))) (sym next)
+    ∙ ap (λ b. asked text && b) (sym (one_letter letter behind (drop place (chars text)) one))
+  where
+    regroups : (a b c : Bool) → ((a && b) && c) ≡ (a && (b && c))
+    regroups true b c = refl
+    regroups false b c = refl
 
+module _ (places : ℕ) (behind : List ℕ) (text : List ℕ) where
   -- a run before the pattern, where there is no character left
   pub run_last : left_fits places behind places text ≡ left_fits places (37 ∷ behind) places text
   run_last = at (is_empty (drop places (chars text))) refl
@@ -172,16 +181,11 @@ module _ (places : ℕ) (behind : List ℕ) (text : List ℕ) where
 
   -- a run and nothing behind it
   pub run_alone : (place : ℕ) → is_short places text ≡ left_fits places (37 ∷ []) place text
-  unfolding fits
-  run_alone place = alone (is_short places text) ∙ ap (λ b. is_short places text && b) (sym (one_run [] (drop place (chars text)) ∙ all (drop place (chars text))))
+  run_alone place = alone (is_short places text) ∙ ap (λ b. is_short places text && b) (sym (each_fits (drop place (chars text))))
     where
       alone : (b : Bool) → b ≡ (b && true)
       alone true = refl
       alone false = refl
-
-      all : (cs : List ℕ) → behind_some_run (fits []) cs ≡ true
-      all [] = refl
-      all (c ∷ cs) = all cs
 
 -- ---- all texts
 
@@ -191,16 +195,16 @@ tell-alike f g texts told same was = record { count = was.count; each = λ i t l
 pub states-sets : (pattern : List ℕ) (place : ℕ) (texts : List (List ℕ)) (places : ℕ) (states : List RowSet) → AreStates pattern place texts places states → AreSets (length texts) states
 states-sets pattern place texts places states was = λ k told lt. (was.each k told lt).count
 
-module _ (pattern : List ℕ) (texts : List (List ℕ)) (places : ℕ) where
-  pub tell-kept : (letter place : ℕ) (told after : List Bool) → (letter == 37) ≡ false → Tell (left_fits places pattern (place + 1)) texts told
-      → Keeps (λ t. first_and_rest (letter_fits letter) (λ more. true) (drop place (chars t))) texts told after → Tell (left_fits places (letter ∷ pattern) place) texts after
-  tell-kept letter place told after one was keeps = record {
-    count = keeps.count ∙ was.count;
-    each = λ i t lt. keeps.each i t lt
-        ∙ ap (λ b. b && first_and_rest (letter_fits letter) (λ more. true) (drop place (chars (get_or texts i t)))) (was.each i t lt)
-        ∙ letter_before places pattern (get_or texts i t) letter place one;
-  }
+pub tell-kept : (asked : List ℕ → Bool) (pattern : List ℕ) (texts : List (List ℕ)) (letter place : ℕ) (told after : List Bool) → (letter == 37) ≡ false → Tell (fits_from asked pattern (place + 1)) texts told
+    → Keeps (λ t. first_and_rest (letter_fits letter) (λ more. true) (drop place (chars t))) texts told after → Tell (fits_from asked (letter ∷ pattern) place) texts after
+tell-kept asked pattern texts letter place told after one was keeps = record {
+  count = keeps.count ∙ was.count;
+  each = λ i t lt. keeps.each i t lt
+      ∙ ap (λ b. b && first_and_rest (letter_fits letter) (λ more. true) (drop place (chars (get_or texts i t)))) (was.each i t lt)
+      ∙ letter_before asked pattern (get_or texts i t) letter place one;
+}
 
+module _ (pattern : List ℕ) (texts : List (List ℕ)) (places : ℕ) where
   -- a letter was put before the pattern in the first so many sets
   pub record IsPut (letter place k : ℕ) (states : List RowSet) : Type 0 where
     pub count : place + 1 + letters pattern + length states ≡ places + 1
@@ -223,7 +227,7 @@ module _ (pattern : List ℕ) (texts : List (List ℕ)) (places : ℕ) where
     done = λ j told below within. elim (cases_eq j k) [
       | inl same ↦ (subst (λ i. Tell (left_fits places (letter ∷ pattern) (place + i)) texts (get_or (set states k set') i told)) (sym same)
           (subst (Tell (left_fits places (letter ∷ pattern) (place + k)) texts) (sym (get_or-set_same states k set' told lt))
-          (tell-kept letter (place + k) (get_or states k d) set' one (was.left k d (omega arith) lt) keeps)))
+          (tell-kept (is_short places) pattern texts letter (place + k) (get_or states k d) set' one (was.left k d (omega arith) lt) keeps)))
       | inr differs ↦ (subst (Tell (left_fits places (letter ∷ pattern) (place + j)) texts) (sym (get_or-set_other states k j set' told differs)) (was.done j told (omega (arith, below, differs)) (omega (arith, within, length-set states k set'))))
     ];
     left = λ j told le within. subst (Tell (left_fits places pattern (place + j + 1)) texts) (sym (get_or-set_other states k j set' told (λ e. absurd (omega (arith, e, le))))) (was.left j told (omega (arith, le)) (omega (arith, within, length-set states k set')));
@@ -358,6 +362,40 @@ last_letter_is_one more letter left last lacks = (lacks-right 37 more (letter �
 
 pub letters_before : (more : List ℕ) (letter : ℕ) (left : List ℕ) → left ≡ more ++ letter ∷ [] → Lacks 37 left → Lacks 37 more
 letters_before more letter left last lacks = lacks-left 37 more (letter ∷ []) (subst (Lacks 37) last lacks)
+
+-- ---- a pattern without a run
+
+-- a text of more characters than the pattern has letters doesn't fit it
+too_many : (ps cs : List ℕ) (n : ℕ) → Lacks 37 ps → length ps ≤ n → is_empty (drop n cs) ≡ false → fits ps cs ≡ false
+unfolding fits
+too_many [] [] zero lacks le more = absurd (cc more)
+too_many [] [] (suc n) lacks le more = absurd (cc more)
+too_many [] (c ∷ cs) n lacks le more = refl
+too_many (p ∷ ps) cs zero lacks le more = absurd (omega (arith, le))
+too_many (p ∷ ps) [] (suc n) lacks le more = absurd (cc more)
+too_many (p ∷ ps) (c ∷ cs) (suc n) lacks le more =
+    ap (λ b. if b then behind_some_run (fits ps) (c ∷ cs) else first_and_rest (letter_fits p) (fits ps) (c ∷ cs)) lacks.0
+    ∙ ap (λ b. letter_fits p c && b) (too_many ps cs n lacks.1 (omega (arith, le)) more) ∙ never (letter_fits p c)
+  where
+    never : (a : Bool) → (a && false) ≡ false
+    never true = refl
+    never false = refl
+
+-- so whether it is asked for makes no difference
+pub whole_alone : (places : ℕ) (pattern text : List ℕ) → Lacks 37 pattern → length pattern ≤ places → left_fits places pattern 0 text ≡ fits pattern (chars text)
+whole_alone places pattern text lacks le = at (is_short places text) refl
+  where
+    at : (b : Bool) → is_short places text ≡ b → (b && fits pattern (chars text)) ≡ fits pattern (chars text)
+    at true is = refl
+    at false is = sym (too_many pattern (chars text) places lacks le is)
+
+-- ---- a pattern that ends with its only run
+
+pub begun-told : (texts : List (List ℕ)) (place n : ℕ) (told : List Bool) → n ≡ length texts → told ≡ replicate n true → Tell (fits_from (λ t. true) (37 ∷ []) place) texts told
+begun-told texts place n told rows is = record {
+  count = ap length is ∙ length-replicate n true ∙ rows;
+  each = λ i t within. ap (λ l. get_or l i false) is ∙ get_or-replicate n i true false (omega (arith, within, rows)) ∙ sym (each_fits (drop place (chars (get_or texts i t))));
+}
 
 -- ---- a pattern that is longer than the texts
 

@@ -12,9 +12,13 @@ use Rattle.dr_letters.specs.Codes.{code_at}
 abbrev pub is_short : ℕ → List ℕ → Bool
 is_short places text = is_empty (drop places (chars text))
 
--- it has none, and what is left of it from a place on fits the pattern
+-- the text is asked for, and what is left of it from a place on fits the pattern
+abbrev pub fits_from : (asked : List ℕ → Bool) (pattern : List ℕ) (place : ℕ) → List ℕ → Bool
+fits_from asked pattern place text = asked text && fits pattern (drop place (chars text))
+
+-- the text has no characters behind so many, and what is left of it from a place on fits the pattern
 abbrev pub left_fits : (places : ℕ) (pattern : List ℕ) (place : ℕ) → List ℕ → Bool
-left_fits places pattern place text = is_short places text && fits pattern (drop place (chars text))
+left_fits places pattern place text = fits_from (is_short places) pattern place text
 
 -- the characters of the texts are known at so many places
 abbrev pub AreCodes : List (List ℕ) → List PlaceLetters → Type 0

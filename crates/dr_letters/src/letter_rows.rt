@@ -13,9 +13,6 @@ use dr_rowindex::RowSet;
 use std::alloc::{AllocError, Global};
 use std::marker::Model;
 
-// Of how many places at most the characters are known, so that the memory for them is bounded.
-const MOST_PLACES: usize = 256;
-
 // A place is left out where no more of the texts have a character there than one in so many: these are asked one by one.
 const FEW: usize = 16;
 
@@ -44,13 +41,13 @@ impl<'a> Model for LetterRows<'a> {
 }
 
 impl<'a> LetterRows<'a> {
-    /// Texts, the first of which is that of row 0. The only error is that memory ran out. It takes time by their characters, and memory
-    /// by these: of the first 256 places of all texts, as far as one text in 16 goes on there, four bytes a text, and a bit for each
-    /// bit that the greatest character there has.
-    pub fn of(alloc: Global, texts: Vec<&'a str>) -> Result<LetterRows<'a>, AllocError>
+    /// Texts, the first of which is that of row 0, with their characters at so many places at most. The only error is that memory ran
+    /// out. At each of these places, as far as one text in 16 goes on there, it takes n log n in the texts, and memory by them: four
+    /// bytes for each, a bit for each bit that the greatest character there has, and one for each character that one text in 64 has.
+    pub fn of(alloc: Global, texts: Vec<&'a str>, most: usize) -> Result<LetterRows<'a>, AllocError>
         ensures { IfOk result (λ l. l.0 ≡ map (λ t. t.now) texts.entry.items) }
     {
-        let (places, rests) = places_of(alloc, texts.as_slice())?;
+        let (places, rests) = places_of(alloc, texts.as_slice(), most)?;
         let short = ended_of(alloc, rests.as_slice())?;
         let long = long_of(alloc, &short)?;
         Ok(LetterRows {
@@ -118,17 +115,18 @@ impl<'a> LetterRows<'a> {
     }
 }
 
-// The characters of texts place by place, and what is left of each text behind these places.
+// The characters of texts at so many places at most, and what is left of each text behind these places.
 fn places_of<'a>(
     alloc: Global,
     texts: &[&'a str],
+    most: usize,
 ) -> Result<(Vec<PlaceLetters>, Vec<&'a str>), AllocError>
     ensures codes { IfOk result (λ r. AreCodes (map (λ t. t.now) texts.now) r.0.items) }
     ensures rests { IfOk result (λ r. map (λ t. chars t.now) r.1.items ≡ map (λ t. drop (length r.0.items) (chars t.now)) texts.now) }
 {
     let mut places = Vec::new(alloc);
     let mut rests = copied(alloc, texts)?;
-    while places.len() < MOST_PLACES && go_on(rests.as_slice()) {
+    while places.len() < most && go_on(rests.as_slice()) {
         places.push(PlaceLetters::of(alloc, codes_of(alloc, rests.as_slice())?)?)?;
         rests = tails_of(alloc, rests.as_slice())?;
     }

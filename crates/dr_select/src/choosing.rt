@@ -1,11 +1,14 @@
-ghost use Rattle.std.specs.Prelude.{◌≡◌, length, map, IfOk};
+ghost use Rattle.std.specs.Prelude.{◌≡◌, ◌≤◌, length, map, IfOk};
 ghost use Rattle.dr_predicate.specs.Match.{holds_of, passes};
 ghost use Rattle.dr_predicate.specs.declared.value_test.ValueTest.TheVariants.{Like};
 ghost use Rattle.dr_time.specs.Union.{union_holds};
 ghost use Rattle.dr_filter.specs.Condition.{condition_in, conditions_in, every_matches, some_matches};
 ghost use Rattle.dr_rowindex.specs.Orders.{Adds, Tell};
+ghost use Rattle.dr_select.specs.Parts.{AddsPart};
 ghost use Rattle.dr_select.specs.Rows.{meets, value_of};
 
+use crate::asked_for::AskedFor;
+use crate::bounds::rows_at_once;
 use crate::lot::Lot;
 use crate::passing::insert_passing;
 use dr_filter::{Filter, FilterTree};
@@ -22,15 +25,71 @@ use std::alloc::{AllocError, Global};
 /// times, where it asks for these as often, which takes n log n in the rows, and memory by them. Then each text, each range and each
 /// interval takes time by the logarithm of the rows and by the rows that it lets through, but for those in the middle of many, 64 at
 /// once; where an `in` has more texts than a sixteenth of the rows, or ranges or intervals that are asked together are as many, each
-/// value that differs, or each time, is looked up among them. Of the other dimensions each row is asked by itself. A test of a pattern takes what [`ValueTest::passes`](dr_predicate::ValueTest::passes) does for each
-/// value that differs, and each `and`, `or` and `not` time by the rows, 64 at once.
+/// value that differs, or each time, is looked up among them. Of the other dimensions each row is asked by itself. Each `and`, `or` and
+/// `not` takes time by the rows, 64 at once.
+///
+/// Where a dimension is asked by a pattern 8 times or more, the characters of its values are read, and a pattern takes what
+/// [`LetterRows::fitting`](dr_letters::LetterRows::fitting) does. For that 16,384 rows are asked at once, and the first 512 characters of
+/// a value are known, where it is one dimension, and fewer, down to 1,024 rows and then fewer characters, where they are more: so the
+/// memory for them is bounded, by some eight bytes for each of 2^23 characters.
 pub fn select(alloc: Global, filter: &Filter, rows: &[KeyOf<'_>]) -> Result<RowSet, AllocError>
     ensures { IfOk result (λ s. s ≡ map (meets (condition_in filter.now)) rows.now) }
 {
     let asked = filter.asked();
-    let lot = Lot::of(alloc, rows, asked)?;
-    let set = met(alloc, asked, &lot)?;
+    let often = AskedFor::of(alloc, asked)?;
+    let set = met_by_parts(alloc, asked, &often, rows)?;
     Ok(set)
+}
+
+// The rows that meet a filter, which is asked of no more of them at once than there is memory for.
+fn met_by_parts(
+    alloc: Global,
+    filter: &FilterTree,
+    often: &AskedFor,
+    rows: &[KeyOf<'_>],
+) -> Result<RowSet, AllocError>
+    ensures { IfOk result (λ s. Tell (meets (condition_in filter.now)) rows.now s) }
+{
+    let most = rows_at_once(often.patterns.often(alloc)?.len());
+    if rows.len() <= most {
+        return met_by_part(alloc, filter, often, rows);
+    }
+    let mut set = RowSet::none(alloc, rows.len())?;
+    let mut from = 0usize;
+    while from < rows.len() {
+        let to = dr_rowindex::lot_end(from, rows.len(), most);
+        let part = met_by_part(alloc, filter, often, &rows[from..to])?;
+        insert_part(&part, from, to, &mut set);
+        from = to;
+    }
+    Ok(set)
+}
+
+// The same, where there is memory for all of them.
+fn met_by_part(
+    alloc: Global,
+    filter: &FilterTree,
+    often: &AskedFor,
+    rows: &[KeyOf<'_>],
+) -> Result<RowSet, AllocError>
+    ensures { IfOk result (λ s. Tell (meets (condition_in filter.now)) rows.now s) }
+{
+    let lot = Lot::of(alloc, rows, often)?;
+    let set = met(alloc, filter, &lot)?;
+    Ok(set)
+}
+
+// Adds the rows of a part, which stand from a place on, up to another.
+fn insert_part(part: &RowSet, from: usize, to: usize, set: &mut RowSet)
+    requires some { from ≤ to }
+    requires within { to ≤ length set.old }
+    ensures { AddsPart part.now from to set.old set.new }
+{
+    for row in from..to {
+        if part.contains(row - from) {
+            set.insert(row);
+        }
+    }
 }
 
 #[cycle(choosing)]

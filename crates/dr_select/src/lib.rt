@@ -3,6 +3,7 @@
 #![tactic(auto)]
 
 mod asked_for;
+mod bounds;
 mod choosing;
 mod long_patterns;
 mod lot;

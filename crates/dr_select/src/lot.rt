@@ -3,9 +3,9 @@ ghost use Rattle.std.specs.List.{All};
 ghost use Rattle.dr_select.specs.Rows.{value_of};
 
 use crate::asked_for::AskedFor;
+use crate::bounds::letters_at_once;
 use crate::placed_letters::PlacedLetters;
 use crate::placed_order::PlacedOrder;
-use dr_filter::FilterTree;
 use dr_letters::LetterRows;
 use dr_predicate::value_at;
 use dr_rollup::KeyOf;
@@ -26,15 +26,14 @@ pub struct Lot<'a> {
 }
 
 impl<'a> Lot<'a> {
-    // The rows, in each order that a filter often asks for.
+    // The rows, in each order that is often asked for.
     pub(crate) fn of(
         alloc: Global,
         rows: &'a [KeyOf<'a>],
-        filter: &FilterTree,
+        asked: &AskedFor,
     ) -> Result<Lot<'a>, AllocError>
         ensures { IfOk result (λ lot. lot.rows.now ≡ rows.now) }
     {
-        let asked = AskedFor::of(alloc, filter)?;
         let places = asked.places.often(alloc)?;
         let orders = orders_of(alloc, rows, places.as_slice())?;
         let letters = letters_of(alloc, rows, asked.patterns.often(alloc)?.as_slice())?;
@@ -102,10 +101,11 @@ fn letters_of<'a>(
 ) -> Result<Vec<PlacedLetters<'a>>, AllocError>
     ensures { IfOk result (λ found. All (λ l. l.letters.0 ≡ map (value_of l.place) rows.now) found.items) }
 {
+    let most = letters_at_once(places.len());
     let mut found = Vec::with_capacity(alloc, places.len())?;
     for place in places {
         let place = Some(*place);
-        let letters = LetterRows::of(alloc, values_at(alloc, rows, place)?)?;
+        let letters = LetterRows::of(alloc, values_at(alloc, rows, place)?, most)?;
         found.push(PlacedLetters { place, letters })?;
     }
     Ok(found)

@@ -9,4 +9,4 @@ invariant-loop-rests l =
     × (map (λ t. chars t.now) l.rests.items ≡ map (λ t. drop (length l.places.items) (chars t.now)) l.texts)
 
 abbrev pub decreases-loop-rests : goal.decreases-loop-rests
-decreases-loop-rests l = 256 - length l.places.items
+decreases-loop-rests l = l.most - length l.places.items

@@ -2,7 +2,7 @@ use Rattle.std.proofs.Common.{◌≡◌, ◌∙◌, ap, sym, subst, ◌∷◌, �
 use Rattle.std.specs.Str.{chars}
 use Rattle.std.proofs.lemmas.List.{length-append}
 use Rattle.dr_rowindex.specs.Orders.{Tell}
-use Rattle.dr_letters.specs.States.{left_fits}
+use Rattle.dr_letters.specs.States.{fits_from}
 use Rattle.dr_letters.proofs.StateLemmas.{behind_more, tell-kept, last_letter_is_one, letters_before}
 use Rattle.dr_letters.proofs.letter_rows.LetterRows.keep_start.Goals as goal
 
@@ -10,7 +10,6 @@ pub loop-more-preserved : goal.loop-more-preserved
 loop-more-preserved c =
     let at = c.loop-more in
     let texts = c.args.self.now.0 in
-    let places = c.args.self.now.1 in
     let start = chars c.args.start.now in
     let left = chars at.left.now in
     let more = chars c.in-Some.more.now in
@@ -26,17 +25,17 @@ loop-more-preserved c =
       within = omega (arith, at.invariant.within);
       rows = c.keep.ensures.count ∙ at.invariant.rows;
       lacks = letters_before more letter left last at.invariant.lacks;
-      told = λ behind was.
-          subst (λ p. Tell (left_fits places (p ++ behind) (at.place - 1)) texts c.keep.new.set) (sym next.1)
-          (tell-kept (drop (length left) start ++ behind) texts places letter (at.place - 1) at.set c.keep.new.set one
-          (subst (λ k. Tell (left_fits places (drop (length left) start ++ behind) k) texts at.set) (sym back) (at.invariant.told behind was)) c.keep.ensures);
+      told = λ asked behind was.
+          subst (λ p. Tell (fits_from asked (p ++ behind) (at.place - 1)) texts c.keep.new.set) (sym next.1)
+          (tell-kept asked (drop (length left) start ++ behind) texts letter (at.place - 1) at.set c.keep.new.set one
+          (subst (λ k. Tell (fits_from asked (drop (length left) start ++ behind) k) texts at.set) (sym back) (at.invariant.told asked behind was)) c.keep.ensures);
       left_utf8 = c.in-Some.ensures.utf8;
     }
 
 pub returns : goal.returns
-returns c = λ behind was.
+returns c = λ asked behind was.
     let at = c.loop-more in
     let none = c.in_default.ensures.parts in
     let length_none = ap length none in
-    subst (λ k. Tell (left_fits c.args.self.now.1 (chars c.args.start.now ++ behind) k) c.args.self.now.0 at.set) (at.invariant.place ∙ length_none)
-    (subst (λ k. Tell (left_fits c.args.self.now.1 (drop k (chars c.args.start.now) ++ behind) at.place) c.args.self.now.0 at.set) length_none (at.invariant.told behind was))
+    subst (λ k. Tell (fits_from asked (chars c.args.start.now ++ behind) k) c.args.self.now.0 at.set) (at.invariant.place ∙ length_none)
+    (subst (λ k. Tell (fits_from asked (drop k (chars c.args.start.now) ++ behind) at.place) c.args.self.now.0 at.set) length_none (at.invariant.told asked behind was))

@@ -1,10 +1,10 @@
-use Rattle.std.proofs.Common.{◌≡◌, ◌≤◌, ◌++◌, ℕ, List, length, drop}
+use Rattle.std.proofs.Common.{◌≡◌, ◌≤◌, ◌++◌, Bool, ℕ, List, length, drop}
 use denote.Shadow.{shadow}
 use denote.Text.{Utf8}
 use Rattle.std.specs.Str.{chars}
 use Rattle.dr_like.specs.Letters.{Lacks}
 use Rattle.dr_rowindex.specs.Orders.{Tell}
-use Rattle.dr_letters.specs.States.{left_fits}
+use Rattle.dr_letters.specs.States.{fits_from}
 use Rattle.dr_letters.proofs.letter_rows.LetterRows.keep_start.Given as goal
 
 abbrev pub invariant-loop-more : goal.invariant-loop-more
@@ -14,7 +14,7 @@ invariant-loop-more l = record {
   within : l.place ≤ l.self.1;
   rows : length l.set ≡ length l.self.0;
   lacks : Lacks 37 (chars l.left);
-  told : (behind : List ℕ) → Tell (left_fits l.self.1 behind l.count) l.self.0 l.fn.set → Tell (left_fits l.self.1 (drop (length (chars l.left)) (chars l.start) ++ behind) l.place) l.self.0 l.set;
+  told : (asked : List ℕ → Bool) (behind : List ℕ) → Tell (fits_from asked behind l.count) l.self.0 l.fn.set → Tell (fits_from asked (drop (length (chars l.left)) (chars l.start) ++ behind) l.place) l.self.0 l.set;
   left_utf8 : shadow (Utf8 l.left);
 }
 

@@ -1,8 +1,8 @@
 use Rattle.std.proofs.Common.{◌≡◌, ◌∙◌, ap, sym, ◌∷◌, ◌++◌, ◌+◌, arith}
 use Rattle.std.specs.Str.{chars}
-use Rattle.dr_letters.specs.States.{letters}
+use Rattle.dr_letters.specs.States.{is_short, letters}
 use Rattle.dr_letters.proofs.StateLemmas.{none-so-long, letters-append, letters-lacks, letters-run, more_are, no_more_are}
-use Rattle.dr_letters.proofs.letter_rows.LetterRows.fitting_start.Goals as goal
+use Rattle.dr_letters.proofs.letter_rows.LetterRows.short_fitting.Goals as goal
 
 pub returns-then-are_more : goal.returns-then-are_more
 returns-then-are_more c =
@@ -22,4 +22,4 @@ pub keep_start-requires-clause-count : goal.keep_start-requires-clause-count
 keep_start-requires-clause-count c = c.letter_count-count.ensures ∙ letters-lacks (chars c.args.start.now) c.requires
 
 pub returns : goal.returns
-returns c = c.keep_start.ensures (37 ∷ chars c.args.more.now) c.in_ok-set.ensures
+returns c = c.keep_start.ensures (is_short c.args.self.now.1) (37 ∷ chars c.args.more.now) c.in_ok-set.ensures
