@@ -142,6 +142,28 @@ letter_before asked behind text letter place one =
     regroups true b c = refl
     regroups false b c = refl
 
+-- `_` before a pattern that has a letter of one character: a text that fits the pattern from the next place on has a character here
+gap_before : (asked : List ℕ → Bool) (behind text : List ℕ) (place : ℕ) → 0 < letters behind → fits_from asked behind (place + 1) text ≡ fits_from asked (95 ∷ behind) place text
+gap_before asked behind text place some = at (drop place (chars text)) refl ∙ letter_before asked behind text 95 place refl
+  where
+    Has : List ℕ → Bool
+    Has cs = first_and_rest (letter_fits 95) (λ more. true) cs
+
+    always : (b : Bool) → b ≡ (b && true)
+    always true = refl
+    always false = refl
+
+    never : (b : Bool) → (b && false) ≡ ((b && false) && false)
+    never true = refl
+    never false = refl
+
+    at : (cs : List ℕ) → drop place (chars text) ≡ cs → fits_from asked behind (place + 1) text ≡ (fits_from asked behind (place + 1) text && Has (drop place (chars text)))
+    at [] is =
+        let none : drop (place + 1) (chars text) ≡ [] = sym (drop-drop 1 place (chars text)) ∙ ap (drop 1) is in
+        let fails : fits behind (drop (place + 1) (chars text)) ≡ false = ap (fits behind) none ∙ too_few behind [] some in
+        ap (λ b. asked text && b) fails ∙ never (asked text) ∙ sym (ap (λ b. (asked text && b) && Has []) fails ∙ refl) ∙ ap (λ ds. fits_from asked behind (place + 1) text && Has ds) (sym is)
+    at (c ∷ cs) is = always (fits_from asked behind (place + 1) text) ∙ ap (λ ds. fits_from asked behind (place + 1) text && Has ds) (sym is)
+
 module _ (places : ℕ) (behind : List ℕ) (text : List ℕ) where
   -- a run before the pattern, where there is no character left
   pub run_last : left_fits places behind places text ≡ left_fits places (37 ∷ behind) places text
@@ -237,6 +259,16 @@ module _ (pattern : List ℕ) (texts : List (List ℕ)) (places : ℕ) where
   put-all letter place k states one le was = record {
     count = omega (arith, was.count, letters-one letter pattern one);
     each = λ j told within. was.done j told (omega (arith, within, le)) within;
+  }
+
+  pub gap-put : (place : ℕ) (states : List RowSet) → 0 < letters pattern → AreStates pattern (place + 1) texts places states → AreStates (95 ∷ pattern) place texts places states
+  gap-put place states some was = record {
+    count = omega (arith, was.count, letters-one 95 pattern refl);
+    each = λ k told lt.
+        let next : place + 1 + k ≡ place + k + 1 = omega arith in
+        tell-alike (left_fits places pattern (place + k + 1)) (left_fits places (95 ∷ pattern) (place + k)) texts (get_or states k told)
+        (λ t. gap_before (is_short places) pattern t (place + k) some)
+        (subst (λ n. Tell (left_fits places pattern n) texts (get_or states k told)) next (was.each k told lt));
   }
 
   -- a run was put before the pattern in the sets from one on; where it fits from there is told beside

@@ -19,15 +19,17 @@ pub fn states_of(
     ensures { IfOk result (λ states. AreStates (chars pattern.now) place rows.now.0 rows.now.1 states.items) }
 {
     prove!(place <= rows.place_count());
-    let mut at = place + letter_count(pattern);
+    let end = place + letter_count(pattern);
+    let mut at = end;
     let mut states = states_at_end(alloc, rows, at)?;
     let mut left = pattern;
     while let Some((more, letter)) = split_last(left) {
         if letter == '%' {
             put_run(alloc, rows, &mut states)?;
         } else {
+            let is_last = at == end;
             at -= 1;
-            put_one(rows, at, letter, &mut states);
+            put_letter(rows, at, letter, is_last, &mut states);
         }
         left = more;
     }
@@ -91,6 +93,25 @@ pub fn put_run(
         later.or(&states[more]);
     }
     Ok(())
+}
+
+// Puts a letter before the pattern that is one character. Of a text that fits the pattern from the next place on it is known that it has
+// one for `_` here, unless this is the last such letter.
+fn put_letter(
+    rows: &LetterRows<'_>,
+    place: usize,
+    letter: char,
+    is_last: bool,
+    states: &mut Vec<RowSet>,
+)
+    requires sets { AreSets (length rows.now.0) states.old.items }
+    requires within { place + length states.old.items ≤ rows.now.1 }
+    requires one { (letter == 37) ≡ false }
+    ensures { (behind : List ℕ) → (is_last ≡ false → 0 < letters behind) → AreStates behind (place + 1) rows.now.0 rows.now.1 states.old.items → AreStates (letter ∷ behind) place rows.now.0 rows.now.1 states.new.items }
+{
+    if is_last || letter != '_' {
+        put_one(rows, place, letter, states);
+    }
 }
 
 // Puts a letter before the pattern that is one character: a text fits it from a place on where it has that character there, and fits the
