@@ -13,9 +13,6 @@ use dr_rowindex::RowSet;
 use std::alloc::{AllocError, Global};
 use std::marker::Model;
 
-// A place is left out where no more of the texts have a character there than one in so many: these are asked one by one.
-const FEW: usize = 16;
-
 /// Texts with their characters, place by place, so that a pattern of `like` is asked of all of them at once. A contract sees the texts,
 /// and how many of their places are known.
 #[derive(Drop)]
@@ -41,13 +38,18 @@ impl<'a> Model for LetterRows<'a> {
 }
 
 impl<'a> LetterRows<'a> {
-    /// Texts, the first of which is that of row 0, with their characters at so many places at most. The only error is that memory ran
-    /// out. At each of these places, as far as one text in 16 goes on there, it takes n log n in the texts, and memory by them: four
+    /// Texts, the first of which is that of row 0, with their characters at so many places at most, as far as one text in so many has
+    /// any there. The only error is that memory ran out. At each of these places it takes n log n in the texts, and memory by them: four
     /// bytes for each, a bit for each bit that the greatest character there has, and one for each character that one text in 64 has.
-    pub fn of(alloc: Global, texts: Vec<&'a str>, most: usize) -> Result<LetterRows<'a>, AllocError>
+    pub fn of(
+        alloc: Global,
+        texts: Vec<&'a str>,
+        most: usize,
+        share: usize,
+    ) -> Result<LetterRows<'a>, AllocError>
         ensures { IfOk result (λ l. l.0 ≡ map (λ t. t.now) texts.entry.items) }
     {
-        let (places, rests) = places_of(alloc, texts.as_slice(), most)?;
+        let (places, rests) = places_of(alloc, texts.as_slice(), most, share)?;
         let short = ended_of(alloc, rests.as_slice())?;
         let long = long_of(alloc, &short)?;
         Ok(LetterRows {
@@ -115,33 +117,35 @@ impl<'a> LetterRows<'a> {
     }
 }
 
-// The characters of texts at so many places at most, and what is left of each text behind these places.
+// The characters of texts at so many places at most, as far as one text in so many has any there, and what is left of each text behind
+// these places.
 fn places_of<'a>(
     alloc: Global,
     texts: &[&'a str],
     most: usize,
+    share: usize,
 ) -> Result<(Vec<PlaceLetters>, Vec<&'a str>), AllocError>
     ensures codes { IfOk result (λ r. AreCodes (map (λ t. t.now) texts.now) r.0.items) }
     ensures rests { IfOk result (λ r. map (λ t. chars t.now) r.1.items ≡ map (λ t. drop (length r.0.items) (chars t.now)) texts.now) }
 {
     let mut places = Vec::new(alloc);
     let mut rests = copied(alloc, texts)?;
-    while places.len() < most && go_on(rests.as_slice()) {
+    while places.len() < most && go_on(rests.as_slice(), share) {
         places.push(PlaceLetters::of(alloc, codes_of(alloc, rests.as_slice())?)?)?;
         rests = tails_of(alloc, rests.as_slice())?;
     }
     Ok((places, rests))
 }
 
-// Whether more than a few of the texts have a character left.
-fn go_on(rests: &[&str]) -> bool {
+// Whether more than one text in so many has a character left.
+fn go_on(rests: &[&str], share: usize) -> bool {
     let mut count = 0usize;
     for rest in rests {
         if !rest.is_empty() {
             count = count.saturating_add(1);
         }
     }
-    count > rests.len() / FEW
+    count > rests.len() / share.max(1)
 }
 
 fn copied<'a>(alloc: Global, texts: &[&'a str]) -> Result<Vec<&'a str>, AllocError>

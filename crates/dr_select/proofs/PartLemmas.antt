@@ -1,5 +1,5 @@
 -- Rows that are told of part by part.
-use Rattle.std.proofs.Common.{inl, inr, refl, ◌≡◌, ◌∙◌, sym, ap, subst, ℕ, ◌+◌, ◌-◌, ◌<◌, ◌≤◌, ◌||◌, slice_range, Bool, true, false, List, [], ◌∷◌, length, get_or, set, take, drop, length-drop, length-take-le, arith}
+use Rattle.std.proofs.Common.{inl, inr, refl, ◌≡◌, ◌∙◌, sym, ap, subst, ℕ, ◌+◌, ◌-◌, ◌<◌, ◌≤◌, ◌||◌, slice_range, Bool, true, false, List, length, get_or, set, drop, length-drop, length-take-le, arith}
 use Rattle.std.proofs.lemmas.Bool.{cases_lt, cases_eq}
 use Rattle.std.proofs.lemmas.List.{length-set, get_or-set_same, get_or-set_other, get_or-take, get_or-drop}
 use Rattle.dr_rowindex.specs.Orders.{Tell}

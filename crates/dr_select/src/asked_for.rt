@@ -11,6 +11,7 @@ const OFTEN: usize = 8;
 pub struct AskedFor {
     pub places: AskedPlaces,
     pub patterns: AskedPlaces,
+    pub pattern_count: usize,
     times: usize,
 }
 
@@ -20,6 +21,7 @@ impl AskedFor {
         let mut asked = AskedFor {
             places: AskedPlaces::new(alloc),
             patterns: AskedPlaces::new(alloc),
+            pattern_count: 0,
             times: 0,
         };
         asked.add(filter)?;
@@ -59,6 +61,7 @@ impl AskedFor {
         };
         if let ValueTest::Like(_) = &test.test {
             self.patterns.add(place)?;
+            self.pattern_count = self.pattern_count.saturating_add(1);
         }
         self.places.add(place)
     }

@@ -24,3 +24,9 @@ pub fn letters_at_once(dimensions: usize) -> usize {
     let most = CHARACTERS / rows_at_once(dimensions) / dimensions.max(1);
     most.min(MOST_LETTERS)
 }
+
+// Characters are known at places that one value in so many reaches, where so many patterns are asked. To read the characters at a place
+// takes as long as to ask one value in 16 for some 32 patterns there; and a pattern takes as long there as for one value in 256.
+pub fn share_of_long(patterns: usize) -> usize {
+    (patterns / 2).max(16).min(256)
+}

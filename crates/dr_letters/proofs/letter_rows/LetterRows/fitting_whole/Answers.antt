@@ -1,4 +1,4 @@
-use Rattle.std.proofs.Common.{◌≡◌, ◌∙◌, sym, subst, [], length, ◌≤◌, arith}
+use Rattle.std.proofs.Common.{◌∙◌, subst, [], length, ◌≤◌, arith}
 use Rattle.std.specs.Str.{chars}
 use Rattle.std.proofs.lemmas.List.{append-nil}
 use Rattle.dr_like.specs.Like.{fits}
