@@ -346,7 +346,7 @@ def likes_of_many_dimensions(n):
     random = Random(3)
     yield spec(dims=names)
     for it in range(n):
-        yield event(BEGIN + it, **{name: f"{random.getrandbits(512):0512b}" if random.randrange(15) == 0 else "01" for name in names})
+        yield event(BEGIN + it, **{name: f"{random.getrandbits(100):0100b}" if random.randrange(15) == 0 else "01" for name in names})
     yield series(filter=one_of(*({"type": "like", "dimension": name, "pattern": f"%0_{it:06b}_2%"} for name in names for it in range(33))))
 
 
@@ -609,7 +609,7 @@ INPUTS = {
     "rows of 300 letters under an or of 12,000 likes of an end with gaps": (likes_of_long_texts("%", ""), 10000),
     "rows of 300 letters under an or of 12,000 likes of a part with gaps": (likes_of_long_texts("%", "%"), 10000),
     "rows of 300 letters under an or of 12,000 likes of a part with gaps whose first letter fails": (likes_of_long_texts("%", "%", "2"), 10000),
-    "rows of 64 dimensions, one value in 15 of 512 letters, under an or of 33 likes of each": (likes_of_many_dimensions, 16384),
+    "rows of 64 dimensions, one value in 15 of 100 letters, under an or of 33 likes of each": (likes_of_many_dimensions, 16384),
     "rows under an and of 15,000 likes of six kinds": (likes_of_each, 100000),
     "rows of 800 bytes under an and of 2,000 likes of growing texts": (likes_of_growing, 20000),
     "groups under a having that is an and of 7,500 ors of two comparisons": (asked_of_texts(ANDS_OF_A_HAVING), 100000),
