@@ -341,13 +341,38 @@ def likes_of_long_texts(begin, end, first="", letters=22, patterns=12000):
     return lines
 
 
-def likes_of_many_dimensions(n):
-    names = [f"d{it}" for it in range(64)]
-    random = Random(3)
-    yield spec(dims=names)
-    for it in range(n):
-        yield event(BEGIN + it, **{name: f"{random.getrandbits(100):0100b}" if random.randrange(15) == 0 else "01" for name in names})
-    yield series(filter=one_of(*({"type": "like", "dimension": name, "pattern": f"%0_{it:06b}_2%"} for name in names for it in range(33))))
+def likes_of_common_letters(letters, asked, patterns, ones):
+    """Patterns of a part, so many letters of which so many are asked, over texts of 300 letters that have each of them at many places: of
+    these so many in a hundred are a `1`."""
+    def letter(random):
+        return "1" if random.randrange(100) < ones else "0"
+
+    def pattern(random):
+        inner = ["_"] * letters
+        for place in random.sample(range(letters), asked):
+            inner[place] = letter(random) if ones == 50 else "1"
+        return "%" + "".join(inner) + "%"
+
+    def lines(n):
+        random = Random(3)
+        yield spec()
+        for it in range(n):
+            yield event(BEGIN + it % DAY, "".join(letter(random) for _ in range(300)))
+        asked_for = series(filter=one_of(*({"type": "like", "dimension": "page", "pattern": pattern(random)} for _ in range(patterns))))
+        yield from (asked_for, f"seal {instant(1)}", f"publish {instant(1)} 0 1", asked_for)
+    return lines
+
+
+def likes_of_many_dimensions(letters):
+    """33 of each of 64 dimensions, of whose values one in 15 has so many letters, and the others two."""
+    def lines(n):
+        names = [f"d{it}" for it in range(64)]
+        random = Random(3)
+        yield spec(dims=names)
+        for it in range(n):
+            yield event(BEGIN + it, **{name: f"{random.getrandbits(letters):0{letters}b}" if random.randrange(15) == 0 else "01" for name in names})
+        yield series(filter=one_of(*({"type": "like", "dimension": name, "pattern": f"%0_{it:06b}_2%"} for name in names for it in range(33))))
+    return lines
 
 
 def pairs(n):
@@ -609,7 +634,11 @@ INPUTS = {
     "rows of 300 letters under an or of 12,000 likes of an end with gaps": (likes_of_long_texts("%", ""), 10000),
     "rows of 300 letters under an or of 12,000 likes of a part with gaps": (likes_of_long_texts("%", "%"), 10000),
     "rows of 300 letters under an or of 12,000 likes of a part with gaps whose first letter fails": (likes_of_long_texts("%", "%", "2"), 10000),
-    "rows of 64 dimensions, one value in 15 of 100 letters, under an or of 33 likes of each": (likes_of_many_dimensions, 16384),
+    "rows of 300 letters under an or of 12,000 likes of a part, five of 22 letters that all have": (likes_of_common_letters(22, 5, 12000, 50), 10000),
+    "rows of 300 letters under an or of 9,000 likes of a part, 14 of 60 letters that all have": (likes_of_common_letters(60, 14, 9000, 50), 10000),
+    "rows of 300 letters under an or of 4,000 likes of a part, 100 of 200 letters that nearly all have": (likes_of_common_letters(200, 100, 4000, 95), 10000),
+    "rows of 64 dimensions, one value in 15 of 100 letters, under an or of 33 likes of each": (likes_of_many_dimensions(100), 16384),
+    "rows of 64 dimensions, one value in 15 of 512 letters, under an or of 33 likes of each": (likes_of_many_dimensions(512), 16384),
     "rows under an and of 15,000 likes of six kinds": (likes_of_each, 100000),
     "rows of 800 bytes under an and of 2,000 likes of growing texts": (likes_of_growing, 20000),
     "groups under a having that is an and of 7,500 ors of two comparisons": (asked_of_texts(ANDS_OF_A_HAVING), 100000),

@@ -1,7 +1,6 @@
 -- The bits of the codes of characters.
-use Rattle.std.proofs.Common.{inl, inr, ◌≡◌, ◌∙◌, sym, refl, ap, subst, ℕ, zero, suc, ◌^◌, ◌<◌, ◌≤◌, ◌&&◌, ◌==◌, eqb, Bool, true, false, List, [], ◌∷◌, length, get_or, arith}
+use Rattle.std.proofs.Common.{inl, inr, ◌≡◌, ◌∙◌, sym, refl, ap, subst, ℕ, zero, suc, ◌^◌, ◌<◌, ◌≤◌, ◌&&◌, ◌==◌, eqb, Bool, true, false, List, length, get_or, arith}
 use Rattle.std.specs.Int.{bit_at}
-use Rattle.std.specs.List.{AllByRecursion}
 use Rattle.std.proofs.lemmas.Bool.{cases_lt, eq-eqb, eqb-true}
 use Rattle.std.proofs.lemmas.Nat.Bits.{same_from_bits_below}
 use Rattle.std.proofs.Math.Pow.{pow_mono}
@@ -51,21 +50,6 @@ same_number k n m p q =
 pub below-power : (n k more : ℕ) → n < 2 ^ k → k ≤ more → n < 2 ^ more
 below-power n k more lt le = let power = pow_mono le in omega (arith, lt, power)
 
--- ---- all of some codes
-
-all_at : (P : ℕ → Type 0) (xs : List ℕ) → AllByRecursion P xs → (i v : ℕ) → i < length xs → P (get_or xs i v)
-all_at P [] all i v lt = absurd (omega (arith, lt))
-all_at P (x ∷ xs) all zero v lt = all.0
-all_at P (x ∷ xs) all (suc i) v lt = all_at P xs all.1 i v (omega (arith, lt))
-
-all_from : (P : ℕ → Type 0) (xs : List ℕ) → ((i v : ℕ) → i < length xs → P (get_or xs i v)) → AllByRecursion P xs
-all_from P [] each = tt
-all_from P (x ∷ xs) each = (each 0 0 (omega arith), all_from P xs (λ i v lt. each (suc i) v (omega (arith, lt))))
-
--- below a power of two that the greatest is below
-pub are-below : (codes : List ℕ) (greatest bits : ℕ) → ((i n : ℕ) → i < length codes → get_or codes i n ≤ greatest) → greatest < 2 ^ bits → AreBelow bits codes
-are-below codes greatest bits most lt = all_from (λ n. n < 2 ^ bits) codes (λ i v within. omega (arith, most i v within, lt))
-
 -- those with the same bits are those with the same code
 pub keeps-code : (code bits : ℕ) (codes : List ℕ) (before after : List Bool)
     → AreBelow bits codes → code < 2 ^ bits → Keeps (λ n. same_bits bits n code) codes before after → Keeps (λ n. n == code) codes before after
@@ -73,7 +57,7 @@ keeps-code code bits codes before after below lt was = record {
   count = was.count;
   each = λ i v within.
       let n = get_or codes i v in
-      was.each i v within ∙ ap (λ x. get_or before i false && x) (same_number bits n code (all_at (λ m. m < 2 ^ bits) codes below i v within) lt);
+      was.each i v within ∙ ap (λ x. get_or before i false && x) (same_number bits n code (below i v within) lt);
 }
 
 -- ---- told already

@@ -1,3 +1,7 @@
 pub mod CodeLemmas
-pub mod StateLemmas
+pub mod ReadLemmas
+pub mod RestLemmas
 pub mod RowLemmas
+pub mod StateLemmas
+pub mod PieceLemmas
+pub mod RunLemmas

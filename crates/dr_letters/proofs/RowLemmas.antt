@@ -1,19 +1,16 @@
 -- Texts by their characters at a place.
-use Rattle.std.proofs.Common.{inl, inr, ◌≡◌, ◌∙◌, sym, refl, ap, subst, ℕ, zero, suc, ◌+◌, ◌-◌, ◌<◌, ◌≤◌, ◌≢◌, ◌==◌, ◌&&◌, ◌||◌, not, Bool, true, false, List, [], ◌∷◌, ◌++◌, length, get_or, drop, drop-drop, map, replicate, arith}
+use Rattle.std.proofs.Common.{inl, inr, ◌≡◌, ◌∙◌, sym, refl, ap, ℕ, zero, suc, ◌+◌, ◌-◌, ◌≤◌, ◌≢◌, ◌==◌, ◌&&◌, ◌||◌, not, Bool, true, false, List, [], ◌∷◌, get_or, drop, drop-drop, map, arith}
 use Rattle.std.specs.Str.{chars}
-use Rattle.std.specs.List.{list_any, AllByRecursion}
+use Rattle.std.specs.List.{list_any}
 use Rattle.std.proofs.Math.ListN.{get_or-map}
 use Rattle.std.proofs.lemmas.Bool.{cases_eq}
 use Rattle.std.proofs.lemmas.Bool.Decides.{nat_tests}
-use Rattle.std.proofs.lemmas.List.{length-map, length-append, length-replicate, get_or-replicate, get_or_append_left, get_or_at, get_or_default, ext_get_or}
+use Rattle.std.proofs.lemmas.List.{length-map, get_or_default}
 use Rattle.dr_like.specs.Like.{fits, is_empty, letter_fits, first_and_rest}
 use Rattle.dr_rowindex.specs.Orders.{Tell}
-use Rattle.dr_rowindex.specs.Truths.{Joined}
 use Rattle.dr_rowindex.proofs.PutLemmas.{PutWhere}
-use Rattle.dr_rowindex.proofs.TellLemmas.{tell-list}
-use Rattle.dr_letters.specs.declared.place_letters.PlaceLetters.{PlaceLetters}
-use Rattle.dr_letters.specs.Codes.{first_code, code_at, Keeps}
-use Rattle.dr_letters.specs.States.{is_short, AreCodes, AreLong}
+use Rattle.dr_letters.specs.Codes.{first_code, Keeps}
+use Rattle.dr_letters.specs.States.{is_short, AreLong}
 
 -- ---- a character
 
@@ -70,58 +67,7 @@ keeps-mapped f g h xs before after same was = record {
   each = λ i x lt. was.each i (g x) (omega (arith, lt, length-map xs g)) ∙ ap (λ b. get_or before i false && b) (ap f (get_or-map g xs i x) ∙ same (get_or xs i x));
 }
 
-pub copied : (set none copy : List Bool) (n : ℕ) → none ≡ replicate n false → n ≡ length set → Joined (λ a b. a || b) set none copy → copy ≡ set
-copied set none copy n is long joined =
-    let count : length none ≡ length set = ap length is ∙ length-replicate n false ∙ long in
-    ext_get_or false copy set (joined.count ∙ count) (λ i lt.
-    joined.each i (omega (arith, lt, joined.count))
-    ∙ ap (λ b. b || get_or set i false) (ap (λ l. get_or l i false) is ∙ get_or-replicate n i false false (omega (arith, lt, joined.count, ap length is ∙ length-replicate n false))))
-
--- what is told by a list
-told-so : {V : Type 0} (test : V → Bool) (xs : List V) (told : List Bool) → told ≡ map test xs → Tell test xs told
-told-so test xs told is = record {
-  count = ap length is ∙ length-map xs test;
-  each = λ i x lt. ap (λ l. get_or l i false) is ∙ get_or_default (map test xs) i false (test x) (omega (arith, lt, length-map xs test)) ∙ get_or-map test xs i x;
-}
-
--- ---- one place more
-
-pub fused : {X Y Z : Type 0} (g : Y → Z) (f : X → Y) (xs : List X) → map g (map f xs) ≡ map (λ x. g (f x)) xs
-fused g f [] = refl
-fused g f (x ∷ xs) = ap (λ l. g (f x) ∷ l) (fused g f xs)
-
-pub tell-through : {X V : Type 0} (f : V → Bool) (g : X → V) (xs : List X) (told : List Bool) → Tell (λ x. f (g x)) xs told → Tell f (map g xs) told
-tell-through f g xs told tells = told-so f (map g xs) told (tell-list (λ x. f (g x)) xs told tells ∙ sym (fused f g xs))
-
-alike : {X Z : Type 0} (f g : X → Z) (xs : List X) → ((x : X) → f x ≡ g x) → map f xs ≡ map g xs
-alike f g [] same = refl
-alike f g (x ∷ xs) same = (λ i. same x i ∷ alike f g xs same i)
-
-module _ {X Y : Type 0} (seen : X → List ℕ) (rest : Y → List ℕ) (texts : List X) (rests : List Y) (n : ℕ) (was : map rest rests ≡ map (λ t. drop n (seen t)) texts) where
-  pub codes_left : map (λ r. first_code (rest r)) rests ≡ map (λ t. code_at n (seen t)) texts
-  codes_left = sym (fused first_code rest rests) ∙ ap (map first_code) was ∙ fused first_code (λ t. drop n (seen t)) texts
-
-  pub tails_left : map (λ r. drop 1 (rest r)) rests ≡ map (λ t. drop (n + 1) (seen t)) texts
-  tails_left = sym (fused (drop 1) rest rests) ∙ ap (map (drop 1)) was ∙ fused (drop 1) (λ t. drop n (seen t)) texts ∙ alike (λ t. drop 1 (drop n (seen t))) (λ t. drop (n + 1) (seen t)) texts (λ t. drop-drop 1 n (seen t))
-
-  pub ended_left : (told : List Bool) → Tell (λ r. is_empty (rest r)) rests told → Tell (λ t. is_empty (drop n (seen t))) texts told
-  ended_left told tells = told-so (λ t. is_empty (drop n (seen t))) texts told
-      (tell-list (λ r. is_empty (rest r)) rests told tells ∙ sym (fused is_empty rest rests) ∙ ap (map is_empty) was ∙ fused is_empty (λ t. drop n (seen t)) texts)
-
-pub one-place : (texts : List (List ℕ)) (places : List PlaceLetters) (last : PlaceLetters) → AreCodes texts places → last ≡ map (λ t. code_at (length places) (chars t)) texts → AreCodes texts (places ++ last ∷ [])
-one-place texts places last was is k codes lt = elim (cases_eq k (length places)) [
-  | inl same ↦ (get_or_at places last [] codes k (sym same) ∙ is ∙ ap (λ i. map (λ t. code_at i (chars t)) texts) (sym same))
-  | inr differs ↦ (let less : k < length places = omega (arith, lt, differs, length-append places (last ∷ [])) in get_or_append_left places (last ∷ []) codes k less ∙ was k codes less)
-]
-
 -- ---- the others
-
-pub long-rows : (texts : List (List ℕ)) (places : ℕ) (short : List Bool) (long : List ℕ) → Tell (is_short places) texts short → AllByRecursion (λ r. r < length short) long
-    → ((i : ℕ) → i < length short → list_any (λ r. r == i) long ≡ not (get_or short i false)) → AreLong texts places long
-long-rows texts places short long tells within each = record {
-  within = subst (λ n. AllByRecursion (λ r. r < n) long) tells.count within;
-  each = λ i t lt. each i (omega (arith, lt, tells.count)) ∙ ap not (tells.each i t lt);
-}
 
 one-row : (test : ℕ → Bool) (rows : List ℕ) (i : ℕ) → list_any (λ r. (r == i) && test r) rows ≡ (list_any (λ r. r == i) rows && test i)
 one-row test [] i = refl

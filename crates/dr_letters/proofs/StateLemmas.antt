@@ -1,17 +1,14 @@
 -- Which of some texts a pattern fits from a place on, place by place.
-use Rattle.std.proofs.Common.{inl, inr, ◌≡◌, ◌∙◌, sym, refl, ap, subst, ℕ, zero, suc, ◌+◌, ◌<◌, ◌≤◌, ◌≢◌, ◌==◌, nat_lt, ◌&&◌, ◌||◌, if◌then◌else◌, Bool, true, false, List, [], ◌∷◌, ◌++◌, length, get_or, set, drop, drop-drop, replicate, arith}
+use Rattle.std.proofs.Common.{inl, inr, ◌≡◌, ◌∙◌, sym, refl, ap, subst, ℕ, zero, suc, ◌+◌, ◌<◌, ◌≤◌, ◌≢◌, ◌==◌, nat_lt, ◌&&◌, ◌||◌, if◌then◌else◌, Bool, true, false, List, [], ◌∷◌, ◌++◌, length, get_or, drop, drop-drop, replicate, arith}
 use Rattle.std.specs.Str.{chars}
 use Rattle.std.proofs.lemmas.Bool.{cases_eq}
 use Rattle.std.proofs.lemmas.Bool.Decides.{nat_tests}
-use Rattle.std.proofs.lemmas.List.{length-set, get_or-set_same, get_or-set_other, get_or-replicate, length-replicate, length-append, get_or_append_left, get_or_at, length-drop, drop_at, append_assoc}
+use Rattle.std.proofs.lemmas.List.{get_or-replicate, length-replicate, length-drop, drop_at, append_assoc}
 use Rattle.dr_like.specs.Like.{fits, is_empty, letter_fits, first_and_rest, behind_some_run}
 use Rattle.dr_like.specs.Letters.{Lacks}
 use Rattle.dr_like.proofs.Patterns.{lacks-left, lacks-right}
 use Rattle.dr_rowindex.specs.Orders.{Tell}
-use Rattle.dr_rowindex.specs.Truths.{Joined}
-use Rattle.dr_rowindex.specs.declared.row_set.RowSet.{RowSet}
-use Rattle.dr_letters.specs.Codes.{Keeps}
-use Rattle.dr_letters.specs.States.{is_short, fits_from, left_fits, letters, AreSets, AreStates}
+use Rattle.dr_letters.specs.States.{is_short, fits_from, left_fits, letters}
 
 -- ---- one text
 
@@ -36,12 +33,12 @@ one_letter letter behind cs one =
     ap (λ b. if b then behind_some_run (fits behind) cs else first_and_rest (letter_fits letter) (fits behind) cs) one
     ∙ taken_apart (letter_fits letter) (fits behind) cs
 
-one_run : (behind cs : List ℕ) → fits (37 ∷ behind) cs ≡ behind_some_run (fits behind) cs
+pub one_run : (behind cs : List ℕ) → fits (37 ∷ behind) cs ≡ behind_some_run (fits behind) cs
 unfolding fits
 one_run behind cs = refl
 
 -- behind some run is here, or behind some run one character on
-run_here : (rest : List ℕ → Bool) (cs : List ℕ) → behind_some_run rest cs ≡ (rest cs || behind_some_run rest (drop 1 cs))
+pub run_here : (rest : List ℕ → Bool) (cs : List ℕ) → behind_some_run rest cs ≡ (rest cs || behind_some_run rest (drop 1 cs))
 run_here rest [] = twice (rest [])
   where
     twice : (b : Bool) → b ≡ (b || b)
@@ -143,7 +140,7 @@ letter_before asked behind text letter place one =
     regroups false b c = refl
 
 -- `_` before a pattern that has a letter of one character: a text that fits the pattern from the next place on has a character here
-gap_before : (asked : List ℕ → Bool) (behind text : List ℕ) (place : ℕ) → 0 < letters behind → fits_from asked behind (place + 1) text ≡ fits_from asked (95 ∷ behind) place text
+pub gap_before : (asked : List ℕ → Bool) (behind text : List ℕ) (place : ℕ) → 0 < letters behind → fits_from asked behind (place + 1) text ≡ fits_from asked (95 ∷ behind) place text
 gap_before asked behind text place some = at (drop place (chars text)) refl ∙ letter_before asked behind text 95 place refl
   where
     Has : List ℕ → Bool
@@ -214,142 +211,6 @@ module _ (places : ℕ) (behind : List ℕ) (text : List ℕ) where
 pub tell-alike : (f g : List ℕ → Bool) (texts : List (List ℕ)) (told : List Bool) → ((t : List ℕ) → f t ≡ g t) → Tell f texts told → Tell g texts told
 tell-alike f g texts told same was = record { count = was.count; each = λ i t lt. was.each i t lt ∙ same (get_or texts i t) }
 
-pub states-sets : (pattern : List ℕ) (place : ℕ) (texts : List (List ℕ)) (places : ℕ) (states : List RowSet) → AreStates pattern place texts places states → AreSets (length texts) states
-states-sets pattern place texts places states was = λ k told lt. (was.each k told lt).count
-
-pub tell-kept : (asked : List ℕ → Bool) (pattern : List ℕ) (texts : List (List ℕ)) (letter place : ℕ) (told after : List Bool) → (letter == 37) ≡ false → Tell (fits_from asked pattern (place + 1)) texts told
-    → Keeps (λ t. first_and_rest (letter_fits letter) (λ more. true) (drop place (chars t))) texts told after → Tell (fits_from asked (letter ∷ pattern) place) texts after
-tell-kept asked pattern texts letter place told after one was keeps = record {
-  count = keeps.count ∙ was.count;
-  each = λ i t lt. keeps.each i t lt
-      ∙ ap (λ b. b && first_and_rest (letter_fits letter) (λ more. true) (drop place (chars (get_or texts i t)))) (was.each i t lt)
-      ∙ letter_before asked pattern (get_or texts i t) letter place one;
-}
-
-module _ (pattern : List ℕ) (texts : List (List ℕ)) (places : ℕ) where
-  -- a letter was put before the pattern in the first so many sets
-  pub record IsPut (letter place k : ℕ) (states : List RowSet) : Type 0 where
-    pub count : place + 1 + letters pattern + length states ≡ places + 1
-    pub done : (j : ℕ) (told : List Bool) → j < k → j < length states → Tell (left_fits places (letter ∷ pattern) (place + j)) texts (get_or states j told)
-    pub left : (j : ℕ) (told : List Bool) → k ≤ j → j < length states → Tell (left_fits places pattern (place + j + 1)) texts (get_or states j told)
-
-  pub put-begun : (letter place : ℕ) (states : List RowSet) → AreStates pattern (place + 1) texts places states → IsPut letter place 0 states
-  put-begun letter place states was = record {
-    count = was.count;
-    done = λ j told lt lt'. absurd (omega (arith, lt));
-    left = λ j told le lt.
-        let at : place + 1 + j ≡ place + j + 1 = omega arith in
-        subst (λ n. Tell (left_fits places pattern n) texts (get_or states j told)) at (was.each j told lt);
-  }
-
-  pub put-more : (letter place k : ℕ) (states : List RowSet) (set' : RowSet) (d : List Bool) → (letter == 37) ≡ false → k < length states → IsPut letter place k states
-      → Keeps (λ t. first_and_rest (letter_fits letter) (λ more. true) (drop (place + k) (chars t))) texts (get_or states k d) set' → IsPut letter place (k + 1) (set states k set')
-  put-more letter place k states set' d one lt was keeps = record {
-    count = ap (λ n. place + 1 + letters pattern + n) (length-set states k set') ∙ was.count;
-    done = λ j told below within. elim (cases_eq j k) [
-      | inl same ↦ (subst (λ i. Tell (left_fits places (letter ∷ pattern) (place + i)) texts (get_or (set states k set') i told)) (sym same)
-          (subst (Tell (left_fits places (letter ∷ pattern) (place + k)) texts) (sym (get_or-set_same states k set' told lt))
-          (tell-kept (is_short places) pattern texts letter (place + k) (get_or states k d) set' one (was.left k d (omega arith) lt) keeps)))
-      | inr differs ↦ (subst (Tell (left_fits places (letter ∷ pattern) (place + j)) texts) (sym (get_or-set_other states k j set' told differs)) (was.done j told (omega (arith, below, differs)) (omega (arith, within, length-set states k set'))))
-    ];
-    left = λ j told le within. subst (Tell (left_fits places pattern (place + j + 1)) texts) (sym (get_or-set_other states k j set' told (λ e. absurd (omega (arith, e, le))))) (was.left j told (omega (arith, le)) (omega (arith, within, length-set states k set')));
-  }
-
-  pub put-all : (letter place k : ℕ) (states : List RowSet) → (letter == 37) ≡ false → length states ≤ k → IsPut letter place k states → AreStates (letter ∷ pattern) place texts places states
-  put-all letter place k states one le was = record {
-    count = omega (arith, was.count, letters-one letter pattern one);
-    each = λ j told within. was.done j told (omega (arith, within, le)) within;
-  }
-
-  pub gap-put : (place : ℕ) (states : List RowSet) → 0 < letters pattern → AreStates pattern (place + 1) texts places states → AreStates (95 ∷ pattern) place texts places states
-  gap-put place states some was = record {
-    count = omega (arith, was.count, letters-one 95 pattern refl);
-    each = λ k told lt.
-        let next : place + 1 + k ≡ place + k + 1 = omega arith in
-        tell-alike (left_fits places pattern (place + k + 1)) (left_fits places (95 ∷ pattern) (place + k)) texts (get_or states k told)
-        (λ t. gap_before (is_short places) pattern t (place + k) some)
-        (subst (λ n. Tell (left_fits places pattern n) texts (get_or states k told)) next (was.each k told lt));
-  }
-
-  -- a run was put before the pattern in the sets from one on; where it fits from there is told beside
-  pub record IsRunPut (place k : ℕ) (later : List Bool) (states : List RowSet) : Type 0 where
-    pub count : place + letters pattern + length states ≡ places + 1
-    pub within : k < length states
-    pub here : Tell (left_fits places (37 ∷ pattern) (place + k)) texts later
-    pub done : (j : ℕ) (told : List Bool) → k ≤ j → j < length states → Tell (left_fits places (37 ∷ pattern) (place + j)) texts (get_or states j told)
-    pub left : (j : ℕ) (told : List Bool) → j < k → Tell (left_fits places pattern (place + j)) texts (get_or states j told)
-
-  pub run-begun : (place k : ℕ) (states : List RowSet) (later : RowSet) (d : List Bool) → k + 1 ≡ length states → AreStates pattern place texts places states → later ≡ get_or states k d → IsRunPut place k later states
-  run-begun place k states later d last was is = record {
-    count = was.count;
-    within = omega (arith, last);
-    here = subst (Tell (left_fits places (37 ∷ pattern) (place + k)) texts) (sym is) (at_end d);
-    done = λ j told le lt.
-        let same : j ≡ k = omega (arith, le, lt, last) in
-        subst (λ i. Tell (left_fits places (37 ∷ pattern) (place + i)) texts (get_or states i told)) (sym same) (at_end told);
-    left = λ j told lt. was.each j told (omega (arith, lt, last));
-  }
-    where
-      at_end : (told : List Bool) → Tell (left_fits places (37 ∷ pattern) (place + k)) texts (get_or states k told)
-      at_end told = tell-alike (left_fits places pattern (place + k)) (left_fits places (37 ∷ pattern) (place + k)) texts (get_or states k told)
-          (λ t. run_at_end places pattern t (place + k) (omega (arith, last, was.count))) (was.each k told (omega (arith, last)))
-
-  pub run-more : (place k : ℕ) (states : List RowSet) (later set' later' : RowSet) (d : List Bool) → IsRunPut place (k + 1) later states
-      → Joined (λ a b. a || b) later (get_or states k d) set' → Joined (λ a b. a || b) set' later later' → IsRunPut place k later' (set states k set')
-  run-more place k states later set' later' d was joined joined' = record {
-    count = ap (λ n. place + letters pattern + n) (length-set states k set') ∙ was.count;
-    within = omega (arith, was.within, length-set states k set');
-    here = record {
-      count = joined'.count ∙ was.here.count;
-      each = λ i t lt. joined'.each i (omega (arith, lt, was.here.count))
-          ∙ ap (λ b. b || get_or set' i false) (was.here.each i t lt)
-          ∙ ap (λ b. left_fits places (37 ∷ pattern) (place + (k + 1)) (get_or texts i t) || b) (told_here.each i t lt)
-          ∙ ap (λ b. left_fits places (37 ∷ pattern) (place + (k + 1)) (get_or texts i t) || b) (sym (before_one (get_or texts i t)))
-          ∙ again (left_fits places (37 ∷ pattern) (place + (k + 1)) (get_or texts i t)) (left_fits places pattern (place + k) (get_or texts i t))
-          ∙ before_one (get_or texts i t);
-    };
-    done = λ j told from upto. elim (cases_eq j k) [
-      | inl same ↦ (subst (λ i. Tell (left_fits places (37 ∷ pattern) (place + i)) texts (get_or (set states k set') i told)) (sym same)
-          (subst (Tell (left_fits places (37 ∷ pattern) (place + k)) texts) (sym (get_or-set_same states k set' told (omega (arith, was.within)))) told_here))
-      | inr differs ↦ (subst (Tell (left_fits places (37 ∷ pattern) (place + j)) texts) (sym (get_or-set_other states k j set' told differs)) (was.done j told (omega (arith, from, differs)) (omega (arith, upto, length-set states k set'))))
-    ];
-    left = λ j told lt. subst (Tell (left_fits places pattern (place + j)) texts) (sym (get_or-set_other states k j set' told (λ e. absurd (omega (arith, e, lt))))) (was.left j told (omega (arith, lt)));
-  }
-    where
-      again : (a b : Bool) → (a || (b || a)) ≡ (b || a)
-      again true true = refl
-      again true false = refl
-      again false b = refl
-
-      before_one : (t : List ℕ) → (left_fits places pattern (place + k) t || left_fits places (37 ∷ pattern) (place + (k + 1)) t) ≡ left_fits places (37 ∷ pattern) (place + k) t
-      before_one t =
-          let next : place + (k + 1) ≡ place + k + 1 = omega arith in
-          ap (λ n. left_fits places pattern (place + k) t || left_fits places (37 ∷ pattern) n t) next ∙ run_before places pattern t (place + k)
-
-      before : Tell (left_fits places pattern (place + k)) texts (get_or states k d)
-      before = was.left k d (omega arith)
-
-      told_here : Tell (left_fits places (37 ∷ pattern) (place + k)) texts set'
-      told_here = record {
-        count = joined.count ∙ before.count;
-        each = λ i t lt. joined.each i (omega (arith, lt, before.count))
-            ∙ ap (λ b. b || get_or later i false) (before.each i t lt)
-            ∙ ap (λ b. left_fits places pattern (place + k) (get_or texts i t) || b) (was.here.each i t lt)
-            ∙ before_one (get_or texts i t);
-      }
-
-  pub run-all : (place k : ℕ) (later : List Bool) (states : List RowSet) → k ≤ 0 → IsRunPut place k later states → AreStates (37 ∷ pattern) place texts places states
-  run-all place k later states le was = record { count = was.count; each = λ j told within. was.done j told (omega (arith, le)) within }
-
--- ---- sets of rows
-
-pub sets-set : (rows k : ℕ) (sets : List RowSet) (after : RowSet) (d : List Bool) → AreSets rows sets → k < length sets → length after ≡ length (get_or sets k d) → AreSets rows (set sets k after)
-sets-set rows k sets after d was lt same = λ j told within. elim (cases_eq j k) [
-  | inl at ↦ (subst (λ i. length (get_or (set sets k after) i told) ≡ rows) (sym at)
-      (ap length (get_or-set_same sets k after told lt) ∙ same ∙ was k d lt))
-  | inr differs ↦ (ap length (get_or-set_other sets k j after told differs) ∙ was j told (omega (arith, within, length-set sets k after)))
-]
-
 -- ---- a pattern without letters
 
 pub ended-state : (texts : List (List ℕ)) (places k : ℕ) (told : List Bool) → Tell (λ t. is_short places t && is_empty (drop k (chars t))) texts told → Tell (left_fits places [] k) texts told
@@ -360,25 +221,6 @@ ended-state texts places k told tells = tells
 pub ended-copied : (texts : List (List ℕ)) (places k : ℕ) (ended copy : List Bool) → Tell (λ t. is_short places t && is_empty (drop k (chars t))) texts ended → copy ≡ ended → Tell (left_fits places [] k) texts copy
 ended-copied texts places k ended copy tells same =
     ended-state texts places k copy (subst (λ s. Tell (λ t. is_short places t && is_empty (drop k (chars t))) texts s) (sym same) tells)
-
-abbrev pub AreSome : (texts : List (List ℕ)) (places from k : ℕ) → List RowSet → Type 0
-AreSome texts places from k states = (from + length states ≡ k) × ((j : ℕ) (told : List Bool) → j < length states → Tell (left_fits places [] (from + j)) texts (get_or states j told))
-
-pub one-state : (texts : List (List ℕ)) (places from k : ℕ) (before after : List RowSet) (last : RowSet) → AreSome texts places from k before → after ≡ before ++ last ∷ []
-    → Tell (left_fits places [] k) texts last → AreSome texts places from (k + 1) after
-one-state texts places from k before after last was more tells = (
-  omega (arith, ap length more, length-append before (last ∷ []), was.0),
-  λ j told lt. elim (cases_eq j (length before)) [
-    | inl same ↦ (subst (λ i. Tell (left_fits places [] (from + i)) texts (get_or after i told)) (sym same)
-        (subst (Tell (left_fits places [] (from + length before)) texts) (sym (ap (λ l. get_or l (length before) told) more ∙ get_or_at before last [] told (length before) refl))
-        (subst (λ i. Tell (left_fits places [] i) texts last) (sym was.0) tells)))
-    | inr differs ↦ (let less : j < length before = omega (arith, lt, differs, ap length more, length-append before (last ∷ [])) in
-        subst (Tell (left_fits places [] (from + j)) texts) (sym (ap (λ l. get_or l j told) more ∙ get_or_append_left before (last ∷ []) told j less)) (was.1 j told less))
-  ],
-)
-
-pub all-states : (texts : List (List ℕ)) (places from k : ℕ) (states : List RowSet) → k ≡ places → AreSome texts places from (k + 1) states → AreStates [] from texts places states
-all-states texts places from k states same was = record { count = omega (arith, was.0, same); each = was.1 }
 
 -- ---- a pattern from its last letter on
 

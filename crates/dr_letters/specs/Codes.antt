@@ -1,11 +1,12 @@
 -- The characters of texts by their places. No public contract cites this file.
-use Rattle.std.specs.Prelude.{◌≡◌, ℕ, zero, suc, ◌+◌, ◌<◌, ◌^◌, ◌==◌, Bool, true, false, ◌&&◌, eqb, List, [], ◌∷◌, length, get_or, drop}
+use Rattle.std.specs.Prelude.{◌≡◌, ◌≢◌, ℕ, zero, suc, ◌+◌, ◌<◌, ◌^◌, ◌==◌, Bool, true, false, ◌&&◌, not, eqb, List, [], ◌∷◌, length, get_or, drop}
 use Rattle.std.specs.Int.{bit_at}
-use Rattle.std.specs.List.{All, AllByRecursion}
+use Rattle.std.specs.List.{All, list_any}
 use Rattle.dr_rowindex.specs.Truths.{has_bit}
 use Rattle.dr_rowindex.specs.Orders.{Tell}
 use Rattle.dr_rowindex.specs.declared.row_set.RowSet.{RowSet}
 use Rattle.dr_letters.specs.declared.common_code.CommonCode.{CommonCode}
+use Rattle.dr_letters.specs.declared.text_letter.TextLetter.{TextLetter}
 
 -- the number of the first character, counted from 1, and 0 of no characters
 abbrev pub first_code : List ℕ → ℕ
@@ -28,12 +29,17 @@ same_bits (suc b) n m = same_bits b n m && eqb (bit_at n b) (bit_at m b)
 
 -- each number is below that power of two
 abbrev pub AreBelow : ℕ → List ℕ → Type 0
-AreBelow bits numbers = AllByRecursion (λ n. n < 2 ^ bits) numbers
+AreBelow bits numbers = All (λ n. n < 2 ^ bits) numbers
 
 -- of each bit, from the lowest on, it is told which of the numbers have it
 abbrev pub ArePlanes : List ℕ → List RowSet → Type 0
 ArePlanes numbers planes = (b : ℕ) (told : List Bool) → b < length planes → Tell (λ n. has_bit n b) numbers (get_or planes b told)
 
--- of each of some codes it is told which of the numbers are it
+-- of each of some codes that is that of a character it is told which of the numbers are it
 abbrev pub AreCommon : List ℕ → List CommonCode → Type 0
-AreCommon numbers common = All (λ (c : CommonCode). Tell (λ n. n == c.code) numbers c.texts) common
+AreCommon numbers common = All (λ (c : CommonCode). c.code ≢ 0 → Tell (λ n. n == c.code) numbers c.texts) common
+
+-- the characters that have these codes were read, each with its row; where there is none, the code is 0
+pub record AreRead (letters : List TextLetter) (codes : List ℕ) : Type 0 where
+  pub own : All (λ (l : TextLetter). get_or codes l.row 0 ≡ l.code) letters
+  pub each : (i : ℕ) → i < length codes → list_any (λ (l : TextLetter). l.row == i) letters ≡ not (get_or codes i 0 == 0)

@@ -1,2 +1,4 @@
 pub mod Codes
+pub mod Places
 pub mod States
+pub mod Pieces

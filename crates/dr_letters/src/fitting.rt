@@ -3,11 +3,13 @@ ghost use Rattle.std.specs.Str.{chars};
 ghost use Rattle.dr_like.specs.Like.{fits};
 ghost use Rattle.dr_like.specs.Letters.{Lacks};
 ghost use Rattle.dr_rowindex.specs.Orders.{Tell};
-ghost use Rattle.dr_letters.specs.States.{fits_from, left_fits, letters};
+ghost use Rattle.dr_letters.specs.States.{fits_from, left_fits};
 
-use crate::letter_rows::{LetterRows, is_ended};
-use crate::states::{letter_count, put_run, states_of};
-use dr_like::{split_at_letter, split_last};
+use crate::letter_rows::LetterRows;
+use crate::piece::Piece;
+use crate::pieces::letter_count;
+use crate::reading::is_ended;
+use dr_like::split_at_letter;
 use dr_rowindex::RowSet;
 use std::alloc::{AllocError, Global};
 
@@ -39,8 +41,8 @@ impl<'a> LetterRows<'a> {
             self.insert_long(alloc, pattern, &mut set)?;
             return Ok(set);
         }
-        let mut set = self.ended(count).copy(alloc)?;
-        self.keep_start(pattern, count, &mut set);
+        let ended = self.ended(count).copy(alloc)?;
+        let set = self.fitting_start(alloc, pattern, count, ended)?;
         Ok(set)
     }
 
@@ -58,8 +60,8 @@ impl<'a> LetterRows<'a> {
     {
         let count = letter_count(start);
         if is_ended(more) && count <= self.place_count() {
-            let mut set = RowSet::all(alloc, self.text_count())?;
-            self.keep_start(start, count, &mut set);
+            let all = RowSet::all(alloc, self.text_count())?;
+            let set = self.fitting_start(alloc, start, count, all)?;
             return Ok(set);
         }
         let mut set = self.short_fitting(alloc, start, more)?;
@@ -76,39 +78,33 @@ impl<'a> LetterRows<'a> {
         if are_more(count, letter_count(more), self.place_count()) {
             return Ok(RowSet::none(alloc, self.text_count())?);
         }
-        let mut set = self.fitting_run(alloc, count, more)?;
-        self.keep_start(start, count, &mut set);
+        let behind = self.fitting_run(alloc, count, more)?;
+        let set = self.fitting_start(alloc, start, count, behind)?;
         Ok(set)
     }
 
-    // Those of these texts that fit a run from a place on, and what follows it.
-    fn fitting_run(&self, alloc: Global, place: usize, more: &str) -> Result<RowSet, AllocError>
-        requires { place + letters (chars more.now) ≤ self.now.1 }
-        ensures { IfOk result (λ s. Tell (left_fits self.now.1 (37 ∷ chars more.now) place) self.now.0 s) }
-    {
-        if is_ended(more) {
-            return Ok(self.ended(self.place_count()).copy(alloc)?);
-        }
-        let mut states = states_of(alloc, self, place, more)?;
-        put_run(alloc, self, &mut states)?;
-        Ok(states.swap_remove(0))
-    }
-
-    // Keeps of the texts that fit something behind a start those that fit the start too.
-    fn keep_start(&self, start: &str, count: usize, set: &mut RowSet)
+    // Of the texts that fit something behind a start those that fit the start too.
+    fn fitting_start(
+        &self,
+        alloc: Global,
+        start: &str,
+        count: usize,
+        behind: RowSet,
+    ) -> Result<RowSet, AllocError>
         requires count { count ≡ length (chars start.now) }
         requires places { count ≤ self.now.1 }
-        requires rows { length set.old ≡ length self.now.0 }
+        requires rows { length behind ≡ length self.now.0 }
         requires lacks { Lacks 37 (chars start.now) }
-        ensures { (asked : List ℕ → Bool) (behind : List ℕ) → Tell (fits_from asked behind count) self.now.0 set.old → Tell (fits_from asked (chars start.now ++ behind) 0) self.now.0 set.new }
+        ensures { IfOk result (λ s. (asked : List ℕ → Bool) (pattern : List ℕ) → Tell (fits_from asked pattern count) self.now.0 behind → Tell (fits_from asked (chars start.now ++ pattern) 0) self.now.0 s) }
     {
-        let mut left = start;
-        let mut place = count;
-        while let Some((more, letter)) = split_last(left) {
-            place -= 1;
-            self.keep(place, letter, set);
-            left = more;
+        let piece = Piece::of(alloc, start, count, true)?;
+        let letters = piece.letters.as_slice();
+        if !self.may_have_each(letters, 0) {
+            return Ok(RowSet::none(alloc, self.text_count())?);
         }
+        let mut set = behind;
+        self.keep_each(letters, 0, &mut set);
+        Ok(set)
     }
 }
 

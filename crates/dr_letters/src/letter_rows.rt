@@ -1,13 +1,17 @@
-ghost use Rattle.std.specs.Prelude.{◌≡◌, ◌<◌, ◌≤◌, ◌&&◌, ◌==◌, ◌+◌, not, true, false, ℕ, List, [], length, get_or, drop, map, IfOk, OnOk};
-ghost use Rattle.std.specs.List.{list_any, AllByRecursion};
+ghost use Rattle.std.specs.Prelude.{◌≡◌, ◌<◌, ◌≤◌, ◌+◌, ◌-◌, ◌&&◌, Bool, true, false, ℕ, List, length, get_or, take, drop, map, IfOk, IfSome, OnOk};
+ghost use Rattle.std.specs.List.{All};
 ghost use Rattle.std.specs.Str.{chars};
 ghost use Rattle.dr_like.specs.Like.{fits as fits_of, is_empty, first_and_rest, letter_fits};
 ghost use Rattle.dr_rowindex.specs.Orders.{Tell};
-ghost use Rattle.dr_letters.specs.Codes.{Keeps, code_at, first_code};
-ghost use Rattle.dr_letters.specs.States.{AreCodes, AreLong, is_short};
+ghost use Rattle.dr_letters.specs.Codes.{Keeps};
+ghost use Rattle.dr_letters.specs.declared.asked_letter.AskedLetter.{AskedLetter};
+ghost use Rattle.dr_letters.specs.Pieces.{IsWithin, Gains, asks, asks_each};
+ghost use Rattle.dr_letters.specs.Places.{ArePlaces};
+ghost use Rattle.dr_letters.specs.States.{AreLong, is_short};
 
+use crate::asked_letter::AskedLetter;
 use crate::place_letters::PlaceLetters;
-use dr_like::split_first;
+use crate::reading::{parted, places_of};
 use dr_places::fits_soonest;
 use dr_rowindex::RowSet;
 use std::alloc::{AllocError, Global};
@@ -26,32 +30,28 @@ pub struct LetterRows<'a> {
 }
 
 impl<'a> Model for LetterRows<'a> {
-    ghost use Rattle.std.specs.Prelude.{List, ℕ, length, map};
+    ghost use Rattle.std.specs.Prelude.{◌≤◌, List, ℕ, length, map};
     ghost use Rattle.dr_rowindex.specs.Orders.{Tell};
-    ghost use Rattle.dr_letters.specs.States.{AreCodes, AreLong, is_short};
+    ghost use Rattle.dr_letters.specs.Places.{ArePlaces};
+    ghost use Rattle.dr_letters.specs.States.{AreLong, is_short};
 
     ghost Value = { List (List ℕ) × ℕ };
 
     ghost view = { λ l. (map (λ t. t.now) l.texts.items, length l.places.items) };
 
-    ghost invariant = { λ l. AreCodes (map (λ t. t.now) l.texts.items) l.places.items × (Tell (is_short (length l.places.items)) (map (λ t. t.now) l.texts.items) l.short × AreLong (map (λ t. t.now) l.texts.items) (length l.places.items) l.long.items) };
+    ghost invariant = { λ l. ArePlaces (map (λ t. t.now) l.texts.items) l.places.items × (Tell (is_short (length l.places.items)) (map (λ t. t.now) l.texts.items) l.short × (AreLong (map (λ t. t.now) l.texts.items) (length l.places.items) l.long.items × (length l.places.items ≤ 4096))) };
 }
 
 impl<'a> LetterRows<'a> {
-    /// Texts, the first of which is that of row 0, with their characters at so many places at most, as far as one text in so many has
-    /// any there. The only error is that memory ran out. At each of these places it takes n log n in the texts, and memory by them: four
-    /// bytes for each, a bit for each bit that the greatest character there has, and one for each character that one text in 64 has.
-    pub fn of(
-        alloc: Global,
-        texts: Vec<&'a str>,
-        most: usize,
-        share: usize,
-    ) -> Result<LetterRows<'a>, AllocError>
+    /// Texts, the first of which is that of row 0, with their characters, place by place, as far as one text in 256 has any there, 4,096
+    /// places at most, and until these take so many bytes. The only error is that memory ran out. It takes n log n in the characters, and
+    /// memory by a bit for each text at each place for each bit that the greatest character there has, and for each character that one
+    /// text in 64 has.
+    pub fn of(alloc: Global, texts: Vec<&'a str>, most: usize) -> Result<LetterRows<'a>, AllocError>
         ensures { IfOk result (λ l. l.0 ≡ map (λ t. t.now) texts.entry.items) }
     {
-        let (places, rests) = places_of(alloc, texts.as_slice(), most, share)?;
-        let short = ended_of(alloc, rests.as_slice())?;
-        let long = long_of(alloc, &short)?;
+        let (places, rests) = places_of(alloc, texts.as_slice(), most)?;
+        let (long, short) = parted(alloc, texts.len(), rests.as_slice())?;
         Ok(LetterRows {
             texts,
             places,
@@ -69,13 +69,131 @@ impl<'a> LetterRows<'a> {
 
     // Of how many places the characters are known.
     pub(crate) fn place_count(&self) -> usize
-        ensures { result ≡ self.now.1 }
+        ensures value { result ≡ self.now.1 }
+        ensures few { result ≤ 4096 }
     {
         self.places.len()
     }
 
+    // Adds those of some texts that have each of some letters of a pattern where it is asked while so many places are to spare. What is in
+    // the set that is lent for it isn't asked.
+    pub(crate) fn insert_asked(
+        &self,
+        letters: &[AskedLetter],
+        spare: usize,
+        behind: &RowSet,
+        set: &mut RowSet,
+        found: &mut RowSet,
+    )
+        requires places { All (λ a. IsWithin spare self.now.1 a) letters.now }
+        requires behind { length behind.now ≡ length self.now.0 }
+        requires set { length set.old ≡ length self.now.0 }
+        requires found { length found.old ≡ length self.now.0 }
+        ensures set { length set.new ≡ length self.now.0 }
+        ensures found { Gains (asks_each spare letters.now) self.now.0 behind.now found.old found.new }
+    {
+        if self.may_have_each(letters, spare) {
+            set.copy_from(behind);
+            self.keep_each(letters, spare, set);
+            found.or(set);
+        }
+    }
+
+    // Keeps of some texts those that have each of some letters of a pattern where it is asked.
+    pub(crate) fn keep_each(&self, letters: &[AskedLetter], spare: usize, set: &mut RowSet)
+        requires places { All (λ a. IsWithin spare self.now.1 a) letters.now }
+        requires rows { length set.old ≡ length self.now.0 }
+        ensures { Keeps (asks_each spare letters.now) self.now.0 set.old set.new }
+    {
+        let mut k = 0;
+        while k < letters.len() {
+            if set.has_none() {
+                return;
+            }
+            k = self.keep_from(letters, k, spare, set);
+        }
+    }
+
+    // Keeps of some texts those that have the letter at a place among these, or it and the next three, which takes less time together.
+    // Answers the place behind.
+    fn keep_from(&self, letters: &[AskedLetter], k: usize, spare: usize, set: &mut RowSet) -> usize
+        requires some { k < length letters.now }
+        requires places { All (λ a. IsWithin spare self.now.1 a) letters.now }
+        requires rows { length set.old ≡ length self.now.0 }
+        ensures more { k < result }
+        ensures within { result ≤ length letters.now }
+        ensures kept { (before : List Bool) → Keeps (asks_each spare (take k letters.now)) self.now.0 before set.old → Keeps (asks_each spare (take result letters.now)) self.now.0 before set.new }
+    {
+        match self.four_from(letters, k, spare) {
+            Some((a, b, c, d)) => {
+                set.and_four(a, b, c, d);
+                k + 4
+            }
+            None => {
+                let asked = &letters[k];
+                self.keep(asked.place - spare, asked.letter, set);
+                k + 1
+            }
+        }
+    }
+
+    // The texts that have each of four letters from a place among these on, where these are kept.
+    fn four_from(
+        &self,
+        letters: &[AskedLetter],
+        k: usize,
+        spare: usize,
+    ) -> Option<(&RowSet, &RowSet, &RowSet, &RowSet)>
+        requires some { k < length letters.now }
+        requires places { All (λ a. IsWithin spare self.now.1 a) letters.now }
+        ensures within { IfSome result (λ r. k + 4 ≤ length letters.now) }
+        ensures told { IfSome result (λ r. (a : AskedLetter) → Tell (asks spare (get_or letters.now k a)) self.now.0 r.0.now × (Tell (asks spare (get_or letters.now (k + 1) a)) self.now.0 r.1.now × (Tell (asks spare (get_or letters.now (k + 2) a)) self.now.0 r.2.now × Tell (asks spare (get_or letters.now (k + 3) a)) self.now.0 r.3.now))) }
+    {
+        if letters.len() - k < 4 {
+            return None;
+        }
+        let a = self.texts_at(&letters[k], spare)?;
+        let b = self.texts_at(&letters[k + 1], spare)?;
+        let c = self.texts_at(&letters[k + 2], spare)?;
+        let d = self.texts_at(&letters[k + 3], spare)?;
+        Some((a, b, c, d))
+    }
+
+    // The texts that have a letter where it is asked, where these are kept.
+    fn texts_at(&self, asked: &AskedLetter, spare: usize) -> Option<&RowSet>
+        requires { IsWithin spare self.now.1 asked.now }
+        ensures { IfSome result (λ s. Tell (asks spare asked.now) self.now.0 s.now) }
+    {
+        if asked.letter == '_' {
+            return None;
+        }
+        let texts = self.places[asked.place - spare].texts_with(u32::from(asked.letter) + 1)?;
+        Some(texts)
+    }
+
+    // Whether any text may have each of some letters of a pattern where it is asked. It takes time by the letters.
+    pub(crate) fn may_have_each(&self, letters: &[AskedLetter], spare: usize) -> bool
+        requires { All (λ a. IsWithin spare self.now.1 a) letters.now }
+        ensures { result ≡ false → (i : ℕ) (t : List ℕ) → i < length self.now.0 → asks_each spare letters.now (get_or self.now.0 i t) ≡ false }
+    {
+        for asked in letters {
+            if !self.may_have(asked.place - spare, asked.letter) {
+                return false;
+            }
+        }
+        true
+    }
+
+    // Whether any text may have a character at a place that fits a letter of a pattern.
+    fn may_have(&self, place: usize, letter: char) -> bool
+        requires { place < self.now.1 }
+        ensures { result ≡ false → (i : ℕ) (t : List ℕ) → i < length self.now.0 → first_and_rest (letter_fits letter) (λ more. true) (drop place (chars (get_or self.now.0 i t))) ≡ false }
+    {
+        letter == '_' || self.places[place].may_have(u32::from(letter) + 1)
+    }
+
     // Keeps of some texts those that have a character at a place that fits a letter of a pattern.
-    pub(crate) fn keep(&self, place: usize, letter: char, set: &mut RowSet)
+    fn keep(&self, place: usize, letter: char, set: &mut RowSet)
         requires place { place < self.now.1 }
         requires rows { length set.old ≡ length self.now.0 }
         ensures { Keeps (λ t. first_and_rest (letter_fits letter) (λ more. true) (drop place (chars t))) self.now.0 set.old set.new }
@@ -85,6 +203,13 @@ impl<'a> LetterRows<'a> {
         } else {
             self.places[place].keep(u32::from(letter) + 1, set);
         }
+    }
+
+    // The texts that have no more characters than there are places.
+    pub(crate) fn short(&self) -> &RowSet
+        ensures { Tell (is_short self.now.1) self.now.0 result.now }
+    {
+        &self.short
     }
 
     // The texts that have no more characters than there are places, and none from a place on.
@@ -115,121 +240,4 @@ impl<'a> LetterRows<'a> {
         }
         Ok(())
     }
-}
-
-// The characters of texts at so many places at most, as far as one text in so many has any there, and what is left of each text behind
-// these places.
-fn places_of<'a>(
-    alloc: Global,
-    texts: &[&'a str],
-    most: usize,
-    share: usize,
-) -> Result<(Vec<PlaceLetters>, Vec<&'a str>), AllocError>
-    ensures codes { IfOk result (λ r. AreCodes (map (λ t. t.now) texts.now) r.0.items) }
-    ensures rests { IfOk result (λ r. map (λ t. chars t.now) r.1.items ≡ map (λ t. drop (length r.0.items) (chars t.now)) texts.now) }
-{
-    let mut places = Vec::new(alloc);
-    let mut rests = copied(alloc, texts)?;
-    while places.len() < most && go_on(rests.as_slice(), share) {
-        places.push(PlaceLetters::of(alloc, codes_of(alloc, rests.as_slice())?)?)?;
-        rests = tails_of(alloc, rests.as_slice())?;
-    }
-    Ok((places, rests))
-}
-
-// Whether more than one text in so many has a character left.
-fn go_on(rests: &[&str], share: usize) -> bool {
-    let mut count = 0usize;
-    for rest in rests {
-        if !rest.is_empty() {
-            count = count.saturating_add(1);
-        }
-    }
-    count > rests.len() / share.max(1)
-}
-
-fn copied<'a>(alloc: Global, texts: &[&'a str]) -> Result<Vec<&'a str>, AllocError>
-    ensures { IfOk result (λ copies. map (λ t. chars t.now) copies.items ≡ map (λ t. chars t.now) texts.now) }
-{
-    let mut copies = Vec::with_capacity(alloc, texts.len())?;
-    for text in texts {
-        copies.push(*text)?;
-    }
-    Ok(copies)
-}
-
-// The codes of the first characters.
-fn codes_of(alloc: Global, texts: &[&str]) -> Result<Vec<u32>, AllocError>
-    ensures { IfOk result (λ codes. codes.items ≡ map (λ t. first_code (chars t.now)) texts.now) }
-{
-    let mut codes = Vec::with_capacity(alloc, texts.len())?;
-    for text in texts {
-        codes.push(code_of(text))?;
-    }
-    Ok(codes)
-}
-
-// The code of the first character of a text.
-fn code_of(text: &str) -> u32
-    ensures { result ≡ first_code (chars text.now) }
-{
-    match split_first(text) {
-        Some((first, _)) => u32::from(first) + 1,
-        None => 0,
-    }
-}
-
-// The texts without their first characters.
-fn tails_of<'a>(alloc: Global, texts: &[&'a str]) -> Result<Vec<&'a str>, AllocError>
-    ensures { IfOk result (λ tails. map (λ t. chars t.now) tails.items ≡ map (λ t. drop 1 (chars t.now)) texts.now) }
-{
-    let mut tails = Vec::with_capacity(alloc, texts.len())?;
-    for text in texts {
-        tails.push(tail_of(text))?;
-    }
-    Ok(tails)
-}
-
-// A text without its first character; the empty one where it has none.
-fn tail_of(text: &str) -> &str
-    ensures { chars result.now ≡ drop 1 (chars text.now) }
-{
-    match split_first(text) {
-        Some((_, more)) => more,
-        None => "",
-    }
-}
-
-// The texts that are empty.
-fn ended_of(alloc: Global, texts: &[&str]) -> Result<RowSet, AllocError>
-    ensures { IfOk result (λ s. Tell (λ t. is_empty (chars t.now)) texts.now s) }
-{
-    let mut set = RowSet::none(alloc, texts.len())?;
-    for i in 0..texts.len() {
-        if is_ended(texts[i]) {
-            set.insert(i);
-        }
-    }
-    Ok(set)
-}
-
-// Whether a text has no character.
-pub(crate) fn is_ended(text: &str) -> bool
-    ensures { result ≡ is_empty (chars text.now) }
-{
-    split_first(text).is_none()
-}
-
-// The rows that aren't in a set.
-fn long_of(alloc: Global, short: &RowSet) -> Result<Vec<usize>, AllocError>
-    ensures within { IfOk result (λ long. AllByRecursion (λ r. r < length short.now) long.items) }
-    ensures each { IfOk result (λ long. (i : ℕ) → i < length short.now → list_any (λ r. r == i) long.items ≡ not (get_or short.now i false)) }
-{
-    let mut long = Vec::new(alloc);
-    for row in 0..short.row_count() {
-        if !short.contains(row) {
-            long.push(row)?;
-        }
-    }
-    Ok(long)
 }

@@ -2,10 +2,17 @@
 //! texts have which character there, and the pattern is gone through once for all texts, 64 to a word.
 #![tactic(auto)]
 
+mod asked_letter;
+mod behind;
 mod common_code;
 mod fitting;
 mod letter_rows;
+mod piece;
+mod pieces;
 mod place_letters;
-mod states;
+mod reading;
+mod rest;
+mod runs;
+mod text_letter;
 
 pub use letter_rows::LetterRows;

@@ -1,69 +1,99 @@
-ghost use Rattle.std.specs.Prelude.{◌≡◌, ◌<◌, ◌≤◌, ◌==◌, ◌&&◌, ◌^◌, not, nat_le, Bool, true, false, ℕ, List, length, get_or, IfOk, IfSome};
+ghost use Rattle.std.specs.Prelude.{◌≡◌, ◌<◌, ◌≤◌, ◌==◌, ◌&&◌, ◌%◌, ◌^◌, not, nat_le, Bool, true, false, ℕ, List, length, get_or, IfOk, IfSome};
+ghost use Rattle.std.specs.List.{All};
 ghost use Rattle.dr_rowindex.specs.Orders.{Tell};
 ghost use Rattle.dr_rowindex.specs.Truths.{Joined, has_bit};
-ghost use Rattle.dr_letters.specs.Codes.{AreBelow, ArePlanes, Keeps, same_bits};
+ghost use Rattle.dr_letters.specs.Codes.{ArePlanes, AreRead, Keeps, same_bits};
 
 use crate::common_code::{CommonCode, common_codes};
+use crate::text_letter::TextLetter;
 use dr_rowindex::RowSet;
 use std::alloc::{AllocError, Global};
-use std::marker::Model;
+
+// Codes with the same remainder by this are looked for at the same place; of all letters of ASCII each has its own.
+const REMAINDERS: usize = 128;
+
+// What a set takes besides a bit for each text.
+const BYTES_OF_A_SET: usize = 64;
 
 // Which characters some texts have at one place. Each is told by its code, the number of the character counted from 1, which is 0 of
-// a text that ends before. A contract sees the code of each text.
+// a text that ends before.
 #[derive(Drop)]
 pub struct PlaceLetters {
-    codes: Vec<u32>,
     // The texts that end before the place.
     ended: RowSet,
     // Of each bit of the codes, from the lowest on, the texts whose code has it.
     planes: Vec<RowSet>,
     // Of the codes that many texts have, which these are.
     common: Vec<CommonCode>,
-}
-
-impl Model for PlaceLetters {
-    ghost use Rattle.std.specs.Prelude.{ℕ, List, ◌==◌, length};
-    ghost use Rattle.dr_rowindex.specs.Orders.{Tell};
-    ghost use Rattle.dr_letters.specs.Codes.{AreBelow, ArePlanes, AreCommon};
-
-    ghost Value = { List ℕ };
-
-    ghost view = { λ p. p.codes.items };
-
-    ghost invariant = { λ p. Tell (λ n. n == 0) p.codes.items p.ended × (ArePlanes p.codes.items p.planes.items × (AreBelow (length p.planes.items) p.codes.items × AreCommon p.codes.items p.common.items)) };
+    // The remainders of the codes that any text has.
+    seen: RowSet,
+    // Of each remainder at which place among the common codes one with it may stand.
+    hints: Vec<u8>,
+    ghost planes_count: { All (λ s. length s ≡ length ended) planes.items },
+    ghost common_count: { All (λ c. length c.texts ≡ length ended) common.items },
 }
 
 impl PlaceLetters {
-    // The characters with these codes. The only error is that memory ran out. It takes time by the texts times the bits of the greatest
-    // code, or n log n in the texts, where that is more, and memory by the texts and by a bit for each of them and each of these; and as
-    // much for each code that one text in 64 has at least.
-    pub fn of(alloc: Global, codes: Vec<u32>) -> Result<PlaceLetters, AllocError>
-        ensures { IfOk result (λ p. p ≡ codes.items) }
+    ghost use Rattle.dr_letters.specs.Places.{IsPlace};
+
+    // The characters that so many texts have, those that have one. The only error is that memory ran out. It takes time by the characters
+    // times the bits of the greatest code, or n log n in them, where that is more, and memory by a bit for each text and each of these bits,
+    // and for each code that one text in 64 has at least.
+    pub fn of(
+        alloc: Global,
+        count: usize,
+        letters: &[TextLetter],
+    ) -> Result<PlaceLetters, AllocError>
+        requires { All (λ l. l.row < count) letters.now }
+        ensures { IfOk result (λ p. (codes : List ℕ) → length codes ≡ count → AreRead letters.now codes → IsPlace codes p) }
     {
-        let ended = ended_of(alloc, codes.as_slice())?;
-        let bits = bits_of(codes.as_slice());
-        let planes = planes_of(alloc, codes.as_slice(), bits)?;
-        let common = common_codes(alloc, codes.as_slice())?;
+        let ended = ended_of(alloc, count, letters)?;
+        let bits = bits_of(letters);
+        let planes = planes_of(alloc, count, letters, bits)?;
+        let common = common_codes(alloc, count, letters)?;
+        let seen = seen_of(alloc, letters)?;
+        let hints = hints_of(alloc, common.as_slice())?;
         Ok(PlaceLetters {
-            codes,
             ended,
             planes,
             common,
+            seen,
+            hints,
         })
+    }
+
+    // How many bytes it takes, about.
+    pub fn size(&self) -> usize {
+        let sets = self
+            .planes
+            .len()
+            .saturating_add(self.common.len())
+            .saturating_add(3);
+        let set = BYTES_OF_A_SET + self.ended.row_count() / 8;
+        sets.saturating_mul(set)
     }
 
     // The texts that end before the place.
     pub fn ended(&self) -> &RowSet
-        ensures { Tell (λ n. n == 0) self.now result.now }
+        ensures { (codes : List ℕ) → IsPlace codes self.now → Tell (λ n. n == 0) codes result.now }
     {
         &self.ended
+    }
+
+    // Whether any text may have the character with this code here. It takes constant time.
+    pub fn may_have(&self, code: u32) -> bool
+        requires { 0 < code }
+        ensures { result ≡ false → (codes : List ℕ) → IsPlace codes self.now → (i n : ℕ) → i < length codes → (get_or codes i n == code) ≡ false }
+    {
+        self.seen.contains(remainder_of(code))
     }
 
     // Keeps of some texts those that have the character with this code here. It takes time by the texts, 64 at once, and that for each bit
     // of the greatest code here, where not one text in 64 has the character.
     pub fn keep(&self, code: u32, set: &mut RowSet)
-        requires { length set.old ≡ length self.now }
-        ensures { Keeps (λ n. n == code) self.now set.old set.new }
+        requires rows { length set.old ≡ length self.now.ended }
+        requires some { 0 < code }
+        ensures { (codes : List ℕ) → IsPlace codes self.now → Keeps (λ n. n == code) codes set.old set.new }
     {
         match self.texts_with(code) {
             Some(texts) => set.and(texts),
@@ -71,21 +101,23 @@ impl PlaceLetters {
         }
     }
 
-    // The texts that have the character with this code, where these are many.
-    fn texts_with(&self, code: u32) -> Option<&RowSet>
-        ensures { IfSome result (λ s. Tell (λ n. n == code) self.now s.now) }
+    // The texts that have the character with this code, where these are many. It takes constant time.
+    pub fn texts_with(&self, code: u32) -> Option<&RowSet>
+        requires { 0 < code }
+        ensures count { IfSome result (λ s. length s.now ≡ length self.now.ended) }
+        ensures told { IfSome result (λ s. (codes : List ℕ) → IsPlace codes self.now → Tell (λ n. n == code) codes s.now) }
     {
-        for common in self.common.as_slice() {
-            if common.code == code {
-                return Some(&common.texts);
-            }
+        let hint = *self.hints.get(remainder_of(code))?;
+        let common = self.common.get(usize::from(hint))?;
+        if common.code == code {
+            return Some(&common.texts);
         }
         None
     }
 
     fn keep_by_bits(&self, code: u32, set: &mut RowSet)
-        requires { length set.old ≡ length self.now }
-        ensures { Keeps (λ n. n == code) self.now set.old set.new }
+        requires { length set.old ≡ length self.now.ended }
+        ensures { (codes : List ℕ) → IsPlace codes self.now → Keeps (λ n. n == code) codes set.old set.new }
     {
         let bits = self.planes.len();
         if has_bit_from(code, bits) {
@@ -98,71 +130,119 @@ impl PlaceLetters {
 
     // Keeps of some texts those that have any character here. It takes time by the texts, 64 at once.
     pub fn keep_any(&self, set: &mut RowSet)
-        requires { length set.old ≡ length self.now }
-        ensures { Keeps (λ n. not (n == 0)) self.now set.old set.new }
+        requires { length set.old ≡ length self.now.ended }
+        ensures { (codes : List ℕ) → IsPlace codes self.now → Keeps (λ n. not (n == 0)) codes set.old set.new }
     {
         set.and_not(&self.ended);
     }
 }
 
-// The texts whose code is 0. The only error is that memory ran out. It takes time by the texts, and memory by a bit for each.
-fn ended_of(alloc: Global, codes: &[u32]) -> Result<RowSet, AllocError>
-    ensures { IfOk result (λ s. Tell (λ n. n == 0) codes.now s) }
+// The texts that have no character: all but those that have one. The only error is that memory ran out. It takes time by the characters,
+// and memory by a bit for each text.
+fn ended_of(alloc: Global, count: usize, letters: &[TextLetter]) -> Result<RowSet, AllocError>
+    requires { All (λ l. l.row < count) letters.now }
+    ensures count { IfOk result (λ s. length s ≡ count) }
+    ensures told { IfOk result (λ s. (codes : List ℕ) → length codes ≡ count → AreRead letters.now codes → Tell (λ n. n == 0) codes s) }
 {
-    let mut set = RowSet::none(alloc, codes.len())?;
-    for i in 0..codes.len() {
-        if codes[i] == 0 {
-            set.insert(i);
-        }
+    let mut others = RowSet::none(alloc, count)?;
+    for letter in letters {
+        others.insert(letter.row);
     }
+    let mut set = RowSet::all(alloc, count)?;
+    set.and_not(&others);
     Ok(set)
 }
 
-// How many bits the greatest of some codes has. It takes time by the codes.
-fn bits_of(codes: &[u32]) -> usize
+// How many bits the greatest code has. It takes time by the characters.
+fn bits_of(letters: &[TextLetter]) -> usize
     ensures few { result ≤ 32 }
-    ensures below { AreBelow result codes.now }
+    ensures below { All (λ l. l.code < 2 ^ result) letters.now }
 {
-    let greatest = greatest_of(codes);
+    let greatest = greatest_of(letters);
     let unused = greatest.leading_zeros() as usize;
     32 - unused
 }
 
-// The greatest of some codes, and 0 of none. It takes time by the codes.
-fn greatest_of(codes: &[u32]) -> u32
-    ensures { (i n : ℕ) → i < length codes.now → get_or codes.now i n ≤ result }
+// The greatest code, and 0 of none. It takes time by the characters.
+fn greatest_of(letters: &[TextLetter]) -> u32
+    ensures { All (λ l. l.code ≤ result) letters.now }
 {
     let mut greatest = 0;
-    for i in 0..codes.len() {
-        greatest = greatest.max(codes[i]);
+    for letter in letters {
+        if letter.code > greatest {
+            greatest = letter.code;
+        }
     }
     greatest
 }
 
 // Of each of so many bits, from the lowest on, the texts whose code has it. The only error is that memory ran out. It takes time by the
-// texts times the bits, and memory by a bit for each text and each bit.
-fn planes_of(alloc: Global, codes: &[u32], bits: usize) -> Result<Vec<RowSet>, AllocError>
-    ensures count { IfOk result (λ planes. length planes.items ≡ bits) }
-    ensures each { IfOk result (λ planes. ArePlanes codes.now planes.items) }
+// characters times the bits, and memory by a bit for each text and each bit.
+fn planes_of(
+    alloc: Global,
+    count: usize,
+    letters: &[TextLetter],
+    bits: usize,
+) -> Result<Vec<RowSet>, AllocError>
+    requires { All (λ l. l.row < count) letters.now }
+    ensures bits { IfOk result (λ planes. length planes.items ≡ bits) }
+    ensures count { IfOk result (λ planes. All (λ s. length s ≡ count) planes.items) }
+    ensures told { IfOk result (λ planes. (codes : List ℕ) → length codes ≡ count → AreRead letters.now codes → ArePlanes codes planes.items) }
 {
     let mut planes = Vec::with_capacity(alloc, bits)?;
     for bit in 0..bits {
-        planes.push(plane_of(alloc, codes, bit)?)?;
+        planes.push(plane_of(alloc, count, letters, bit)?)?;
     }
     Ok(planes)
 }
 
-// The texts whose code has a bit. The only error is that memory ran out. It takes time by the texts, and memory by a bit for each.
-fn plane_of(alloc: Global, codes: &[u32], bit: usize) -> Result<RowSet, AllocError>
-    ensures { IfOk result (λ s. Tell (λ n. has_bit n bit) codes.now s) }
+// The texts whose code has a bit. The only error is that memory ran out. It takes time by the characters, and memory by a bit for each
+// text.
+fn plane_of(
+    alloc: Global,
+    count: usize,
+    letters: &[TextLetter],
+    bit: usize,
+) -> Result<RowSet, AllocError>
+    requires { All (λ l. l.row < count) letters.now }
+    ensures count { IfOk result (λ s. length s ≡ count) }
+    ensures told { IfOk result (λ s. (codes : List ℕ) → length codes ≡ count → AreRead letters.now codes → Tell (λ n. has_bit n bit) codes s) }
 {
-    let mut set = RowSet::none(alloc, codes.len())?;
-    for i in 0..codes.len() {
-        if is_set(codes[i], bit) {
-            set.insert(i);
-        }
+    let mut set = RowSet::none(alloc, count)?;
+    for letter in letters {
+        set.insert_if(letter.row, is_set(letter.code, bit));
     }
     Ok(set)
+}
+
+// The remainders of the codes. The only error is that memory ran out. It takes time by the characters.
+fn seen_of(alloc: Global, letters: &[TextLetter]) -> Result<RowSet, AllocError>
+    ensures { IfOk result (λ s. All (λ l. get_or s (l.code % 128) false ≡ true) letters.now) }
+{
+    let mut seen = RowSet::none(alloc, REMAINDERS)?;
+    for letter in letters {
+        seen.insert(remainder_of(letter.code));
+    }
+    Ok(seen)
+}
+
+// Of each remainder at which place a code with it may stand. Any place would do.
+fn hints_of(alloc: Global, common: &[CommonCode]) -> Result<Vec<u8>, AllocError> {
+    let mut hints = vec![in alloc; 0; REMAINDERS]?;
+    for k in 0..common.len() {
+        let hint = u8::try_from(k).unwrap_or(0);
+        if let Some(found) = hints.get_mut(remainder_of(common[k].code)) {
+            *found = hint;
+        }
+    }
+    Ok(hints)
+}
+
+// What is left of a code where it is divided by how many are looked for at places of their own. It takes constant time.
+fn remainder_of(code: u32) -> usize
+    ensures { result ≡ code % 128 }
+{
+    code as usize % REMAINDERS
 }
 
 // Whether a code has a bit. It takes constant time.

@@ -1,9 +1,11 @@
 -- Truths that are kept as the bits of words.
-use Rattle.std.proofs.Common.{inl, inr, ◌≡◌, ◌∙◌, sym, refl, ap, subst, ℕ, ◌+◌, ◌*◌, ◌/◌, ◌%◌, ◌<◌, ◌≤◌, ◌≢◌, Bool, true, false, List, length, get_or, set, replicate, arith}
+use Rattle.std.proofs.Common.{inl, inr, ◌≡◌, ◌∙◌, sym, refl, ap, subst, ℕ, ◌+◌, ◌*◌, ◌/◌, ◌%◌, ◌<◌, ◌≤◌, ◌≢◌, ◌&&◌, Bool, true, false, List, length, get_or, set, replicate, arith}
 use Rattle.std.proofs.lemmas.Bool.{cases_eq}
 use Rattle.std.proofs.lemmas.List.{length-set, get_or-set_same, get_or-set_other, get_or-replicate, get_or_past, length-replicate, ext_get_or}
 use Rattle.std.proofs.lemmas.List.FromFn.{length-map-range_with_len, get_or-map-range_with_len}
 use Rattle.std.proofs.lemmas.Nat.{div_below, mod_below, div-add-mod'}
+use Rattle.std.specs.Int.RustNames.{bit_and}
+use Rattle.dr_bits.proofs.BitLemmas.{bit-and}
 use Rattle.dr_rowindex.specs.Truths.{truths, truth_in, has_bit, Joined}
 
 pub length-truths : (words : List ℕ) (count : ℕ) → length (truths words count) ≡ count
@@ -93,7 +95,7 @@ alike words count w b are has =
 
 -- ---- two sets of the same rows
 
-same-count : (self other : List Bool) (ws vs : List ℕ) (n m : ℕ) → truths ws n ≡ self → truths vs m ≡ other → length other ≡ length self → m ≡ n
+pub same-count : (self other : List Bool) (ws vs : List ℕ) (n m : ℕ) → truths ws n ≡ self → truths vs m ≡ other → length other ≡ length self → m ≡ n
 same-count self other ws vs n m is is' long =
     sym (length-truths vs m) ∙ ap length is' ∙ long ∙ sym (ap length is) ∙ length-truths ws n
 
@@ -115,3 +117,41 @@ joined-sets f op self other ws vs xs ys after n m law is is' long a x y each =
 
 pub row-within : (self : List Bool) (words : List ℕ) (count row : ℕ) → truths words count ≡ self → row < length self → row < count
 row-within self words count row is lt = omega (arith, lt, sym (ap length is) ∙ length-truths words count)
+
+-- ---- five sets of the same rows
+
+abbrev pub met : (ws aws bws cws dws : List ℕ) → ℕ → ℕ
+met ws aws bws cws dws k = bit_and (bit_and (bit_and (bit_and (get_or ws k 0) (get_or aws k 0)) (get_or bws k 0)) (get_or cws k 0)) (get_or dws k 0)
+
+-- words that are read from elsewhere
+pub met-same : (ws aws bws cws dws xs as' bs cs ds after : List ℕ) → xs ≡ ws → as' ≡ aws → bs ≡ bws → cs ≡ cws → ds ≡ dws → ((k : ℕ) → k < length xs → get_or after k 0 ≡ met xs as' bs cs ds k)
+    → (k : ℕ) → k < length ws → get_or after k 0 ≡ met ws aws bws cws dws k
+met-same ws aws bws cws dws xs as' bs cs ds after x a b c d each k lt =
+    each k (subst (λ l. k < length l) (sym x) lt)
+    ∙ ap (λ l. met l as' bs cs ds k) x ∙ ap (λ l. met ws l bs cs ds k) a ∙ ap (λ l. met ws aws l cs ds k) b ∙ ap (λ l. met ws aws bws l ds k) c ∙ ap (λ l. met ws aws bws cws l k) d
+
+bit_seen : (self : List Bool) (ws : List ℕ) (n m i : ℕ) → truths ws m ≡ self → m ≡ n → i < n → has_bit (get_or ws (i / 64) 0) (i % 64) ≡ get_or self i false
+bit_seen self ws n m i is same lt = sym (truth-at ws m i (omega (arith, lt, same))) ∙ ap (λ l. get_or l i false) is
+
+pub four-sets : (self a b c d : List Bool) (ws aws bws cws dws after : List ℕ) (n na nb nc nd : ℕ) → truths ws n ≡ self
+    → truths aws na ≡ a → truths bws nb ≡ b → truths cws nc ≡ c → truths dws nd ≡ d → na ≡ n → nb ≡ n → nc ≡ n → nd ≡ n → length ws ≡ n / 64 + 1
+    → ((k : ℕ) → k < length ws → get_or after k 0 ≡ met ws aws bws cws dws k)
+    → (i : ℕ) → i < length self → get_or (truths after n) i false ≡ ((((get_or self i false && get_or a i false) && get_or b i false) && get_or c i false) && get_or d i false)
+four-sets self a b c d ws aws bws cws dws after n na nb nc nd is isa isb isc isd sa sb sc sd long each i lt =
+    let lt' : i < n = omega (arith, lt, sym (ap length is) ∙ length-truths ws n) in
+    let q = i / 64 in
+    let r = i % 64 in
+    let w0 = get_or ws q 0 in
+    let w1 = get_or aws q 0 in
+    let w2 = get_or bws q 0 in
+    let w3 = get_or cws q 0 in
+    let w4 = get_or dws q 0 in
+    truth-at after n i lt'
+    ∙ ap (λ w. has_bit w r) (each q (word-within n i (length ws) lt' long))
+    ∙ bit-and (bit_and (bit_and (bit_and w0 w1) w2) w3) w4 r
+    ∙ ap (λ x. x && has_bit w4 r) (bit-and (bit_and (bit_and w0 w1) w2) w3 r ∙ ap (λ x. x && has_bit w3 r) (bit-and (bit_and w0 w1) w2 r ∙ ap (λ x. x && has_bit w2 r) (bit-and w0 w1 r)))
+    ∙ ap (λ x. (((x && has_bit w1 r) && has_bit w2 r) && has_bit w3 r) && has_bit w4 r) (bit_seen self ws n n i is refl lt')
+    ∙ ap (λ x. (((get_or self i false && x) && has_bit w2 r) && has_bit w3 r) && has_bit w4 r) (bit_seen a aws n na i isa sa lt')
+    ∙ ap (λ x. (((get_or self i false && get_or a i false) && x) && has_bit w3 r) && has_bit w4 r) (bit_seen b bws n nb i isb sb lt')
+    ∙ ap (λ x. (((get_or self i false && get_or a i false) && get_or b i false) && x) && has_bit w4 r) (bit_seen c cws n nc i isc sc lt')
+    ∙ ap (λ x. (((get_or self i false && get_or a i false) && get_or b i false) && get_or c i false) && x) (bit_seen d dws n nd i isd sd lt')

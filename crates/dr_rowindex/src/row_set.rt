@@ -1,7 +1,7 @@
-ghost use Rattle.std.specs.Prelude.{◌≡◌, ◌<◌, ◌&&◌, ◌||◌, Bool, true, false, not, length, get_or, set, replicate, IfOk};
+ghost use Rattle.std.specs.Prelude.{◌≡◌, ◌<◌, ◌&&◌, ◌||◌, ℕ, Bool, true, false, not, length, get_or, set, replicate, IfOk};
 ghost use Rattle.dr_rowindex.specs.Truths.{Joined};
 
-use crate::words::{add_bits, drop_bits, keep_bits};
+use crate::words::{add_bits, drop_bits, keep_bits, keep_bits_of_four};
 use dr_bits::{is_set, with_bit};
 use std::alloc::{AllocError, Global};
 use std::marker::Model;
@@ -65,6 +65,16 @@ impl RowSet {
         })
     }
 
+    /// Has the rows of another set in place of its own. It takes time by the rows, 64 at once.
+    pub fn copy_from(&mut self, other: &RowSet)
+        requires { length other.now ≡ length self.old }
+        ensures { self.new ≡ other.now }
+    {
+        let words = self.words.as_mut_slice();
+        words.copy_from_slice(other.words.as_slice());
+        self.may_have = other.may_have;
+    }
+
     /// Puts a row into the set. It takes constant time.
     pub fn insert(&mut self, row: usize)
         requires { row < length self.old }
@@ -75,6 +85,20 @@ impl RowSet {
         self.may_have = true;
     }
 
+    /// Puts a row into the set where that is told. It takes constant time, the same whether it is.
+    pub fn insert_if(&mut self, row: usize, told: bool)
+        requires { row < length self.old }
+        ensures passed { told ≡ true → self.new ≡ set self.old row true }
+        ensures failed { told ≡ false → self.new ≡ self.old }
+    {
+        let place = row / 64;
+        let word = self.words[place];
+        let with = with_bit(word, row % 64);
+        let next = if told { with } else { word };
+        self.words[place] = next;
+        self.may_have |= told;
+    }
+
     /// Keeps the rows that are in another set too. It takes time by the rows, 64 at once, and constant time where `and` or `and_not` left
     /// none before.
     pub fn and(&mut self, other: &RowSet)
@@ -83,6 +107,27 @@ impl RowSet {
     {
         if self.may_have {
             self.may_have = keep_bits(self.words.as_mut_slice(), other.words.as_slice());
+        }
+    }
+
+    /// Keeps the rows that are in each of four other sets too. It takes time by the rows, 64 at once, less than by one after the other, and
+    /// constant time where `and`, `and_four` or `and_not` left none before.
+    pub fn and_four(&mut self, a: &RowSet, b: &RowSet, c: &RowSet, d: &RowSet)
+        requires a { length a.now ≡ length self.old }
+        requires b { length b.now ≡ length self.old }
+        requires c { length c.now ≡ length self.old }
+        requires d { length d.now ≡ length self.old }
+        ensures count { length self.new ≡ length self.old }
+        ensures each { (i : ℕ) → i < length self.old → get_or self.new i false ≡ ((((get_or self.old i false && get_or a.now i false) && get_or b.now i false) && get_or c.now i false) && get_or d.now i false) }
+    {
+        if self.may_have {
+            self.may_have = keep_bits_of_four(
+                self.words.as_mut_slice(),
+                a.words.as_slice(),
+                b.words.as_slice(),
+                c.words.as_slice(),
+                d.words.as_slice(),
+            );
         }
     }
 
@@ -117,6 +162,13 @@ impl RowSet {
             return false;
         }
         is_set(self.words[row / 64], row % 64)
+    }
+
+    /// Whether it is known that no row is in the set, since `and`, `and_four` or `and_not` left none. It takes constant time.
+    pub fn has_none(&self) -> bool
+        ensures { result ≡ true → (i : ℕ) → get_or self.now i false ≡ false }
+    {
+        !self.may_have
     }
 
     /// How many rows there are, in the set or not. It takes constant time.

@@ -11,7 +11,6 @@ const OFTEN: usize = 8;
 pub struct AskedFor {
     pub places: AskedPlaces,
     pub patterns: AskedPlaces,
-    pub pattern_count: usize,
     times: usize,
 }
 
@@ -21,7 +20,6 @@ impl AskedFor {
         let mut asked = AskedFor {
             places: AskedPlaces::new(alloc),
             patterns: AskedPlaces::new(alloc),
-            pattern_count: 0,
             times: 0,
         };
         asked.add(filter)?;
@@ -61,7 +59,6 @@ impl AskedFor {
         };
         if let ValueTest::Like(_) = &test.test {
             self.patterns.add(place)?;
-            self.pattern_count = self.pattern_count.saturating_add(1);
         }
         self.places.add(place)
     }

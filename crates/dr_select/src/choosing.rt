@@ -29,10 +29,9 @@ use std::alloc::{AllocError, Global};
 /// `not` takes time by the rows, 64 at once.
 ///
 /// Where a dimension is asked by a pattern 8 times or more, the characters of its values are read, and a pattern takes what
-/// [`LetterRows::fitting`](dr_letters::LetterRows::fitting) does. For that 16,384 rows are asked at once, and the first 512 characters of
-/// a value are known, where it is one dimension, and fewer, down to 1,024 rows and then fewer characters, where they are more: so the
-/// memory for them is bounded, by some eight bytes for each of 2^23 characters. Values that go on where one in 256 does, or up to one in
-/// 16, where the patterns are fewer than 500, are asked by themselves.
+/// [`LetterRows::fitting`](dr_letters::LetterRows::fitting) does. For that 16,384 rows are asked at once, where it is one dimension, and
+/// fewer, down to 1,024, where they are more; and the characters are read as far as one value in 256 goes on, and as 64 megabytes hold
+/// what is known of them in all these dimensions, so the memory for them is bounded. Values that go on further are asked by themselves.
 pub fn select(alloc: Global, filter: &Filter, rows: &[KeyOf<'_>]) -> Result<RowSet, AllocError>
     ensures { IfOk result (λ s. s ≡ map (meets (condition_in filter.now)) rows.now) }
 {

@@ -3,7 +3,7 @@ ghost use Rattle.std.specs.List.{All};
 ghost use Rattle.dr_select.specs.Rows.{value_of};
 
 use crate::asked_for::AskedFor;
-use crate::bounds::{letters_at_once, share_of_long};
+use crate::bounds::letter_bytes;
 use crate::placed_letters::PlacedLetters;
 use crate::placed_order::PlacedOrder;
 use dr_letters::LetterRows;
@@ -37,7 +37,7 @@ impl<'a> Lot<'a> {
         let places = asked.places.often(alloc)?;
         let orders = orders_of(alloc, rows, places.as_slice())?;
         let patterns = asked.patterns.often(alloc)?;
-        let letters = letters_of(alloc, rows, patterns.as_slice(), asked.pattern_count)?;
+        let letters = letters_of(alloc, rows, patterns.as_slice())?;
         let times = times_of(alloc, rows, asked.asks_times_often())?;
         Ok(Lot {
             rows,
@@ -95,21 +95,19 @@ fn orders_of<'a>(
     Ok(orders)
 }
 
-// The characters of the values at some places, for so many patterns in all.
+// The characters of the values at some places.
 fn letters_of<'a>(
     alloc: Global,
     rows: &'a [KeyOf<'a>],
     places: &[usize],
-    patterns: usize,
 ) -> Result<Vec<PlacedLetters<'a>>, AllocError>
     ensures { IfOk result (λ found. All (λ l. l.letters.0 ≡ map (value_of l.place) rows.now) found.items) }
 {
-    let most = letters_at_once(places.len());
-    let share = share_of_long(patterns / places.len().max(1));
+    let most = letter_bytes(places.len());
     let mut found = Vec::with_capacity(alloc, places.len())?;
     for place in places {
         let place = Some(*place);
-        let letters = LetterRows::of(alloc, values_at(alloc, rows, place)?, most, share)?;
+        let letters = LetterRows::of(alloc, values_at(alloc, rows, place)?, most)?;
         found.push(PlacedLetters { place, letters })?;
     }
     Ok(found)

@@ -1,4 +1,5 @@
-use Rattle.std.proofs.Common.{sym, subst, ◌==◌}
+use Rattle.std.proofs.Common.{◌≡◌, ◌≢◌, sym, subst, ◌==◌, length}
+use Rattle.std.specs.List.{All}
 use Rattle.std.proofs.lemmas.List.Elements.{All-push}
 use Rattle.dr_rowindex.specs.Orders.{Tell}
 use Rattle.dr_letters.specs.Codes.{AreCommon}
@@ -7,5 +8,9 @@ use Rattle.dr_letters.proofs.common_code.told_apart.Goals as goal
 
 pub loop-code-preserved : goal.loop-code-preserved
 loop-code-preserved c =
-    let all = All-push (λ (x : CommonCode). Tell (λ n. n == x.code) c.args.codes.now x.texts) c.loop-code.common.items _ c.loop-code.invariant c.in_ok-texts.ensures in
-    subst (AreCommon c.args.codes.now) (sym c.in_ok-push.ensures.items) all
+    let before = c.loop-code.common.items in record {
+      count = subst (All (λ (x : CommonCode). length x.texts ≡ c.args.count)) (sym c.in_ok-push.ensures.items)
+          (All-push (λ (x : CommonCode). length x.texts ≡ c.args.count) before _ c.loop-code.invariant.count c.in_ok-texts.ensures.count);
+      told = λ codes long read. subst (AreCommon codes) (sym c.in_ok-push.ensures.items)
+          (All-push (λ (x : CommonCode). x.code ≢ 0 → Tell (λ n. n == x.code) codes x.texts) before _ (c.loop-code.invariant.told codes long read) (c.in_ok-texts.ensures.told codes long read));
+    }

@@ -1,6 +1,6 @@
-use Rattle.std.proofs.Common.{◌==◌}
-use Rattle.dr_rowindex.proofs.TellLemmas.{TellTo}
+use Rattle.std.proofs.Common.{true, false, take, replicate}
+use Rattle.dr_letters.proofs.ReadLemmas.{PutRows}
 use Rattle.dr_letters.proofs.place_letters.ended_of.Given as goal
 
-abbrev pub invariant-loop-i : goal.invariant-loop-i
-invariant-loop-i l = TellTo l.i (λ n. n == 0) l.codes l.set
+abbrev pub invariant-loop-letter : goal.invariant-loop-letter
+invariant-loop-letter l = PutRows (λ x. x.row) (λ x. true) (take l.letter-index l.letters) (replicate l.count false) l.others

@@ -1,5 +1,6 @@
-use Rattle.std.proofs.Common.{ℕ, ◌<◌, ◌≤◌, get_or}
+use Rattle.std.proofs.Common.{◌≤◌, take}
+use Rattle.std.specs.List.{All}
 use Rattle.dr_letters.proofs.place_letters.greatest_of.Given as goal
 
-abbrev pub invariant-loop-i : goal.invariant-loop-i
-invariant-loop-i l = (i n : ℕ) → i < l.i → get_or l.codes i n ≤ l.greatest
+abbrev pub invariant-loop-letter : goal.invariant-loop-letter
+invariant-loop-letter l = All (λ x. x.code ≤ l.greatest) (take l.letter-index l.letters)

@@ -1,34 +1,111 @@
-use Rattle.std.proofs.Common.{◌≡◌, ◌∙◌, ap, sym, subst, ◌∷◌, [], ◌+◌, ◌&&◌, drop, arith}
+use Rattle.std.proofs.Common.{◌≡◌, ◌∙◌, ap, sym, subst, ℕ, List, ◌+◌, ◌-◌, ◌≤◌, ◌<◌, ◌∷◌, ◌++◌, ◌==◌, false, length, get_or, drop, map, arith}
 use Rattle.std.specs.Str.{chars}
-use Rattle.dr_like.specs.Like.{is_empty}
+use Rattle.std.proofs.Math.ListN.{get_or-map}
+use Rattle.std.proofs.lemmas.Bool.Decides.{nat_tests}
+use Rattle.std.proofs.lemmas.List.{length-map}
+use Rattle.dr_like.specs.Letters.{Lacks}
 use Rattle.dr_rowindex.specs.Orders.{Tell}
-use Rattle.dr_letters.specs.States.{is_short, left_fits}
-use Rattle.dr_letters.proofs.RowLemmas.{ended_twice}
-use Rattle.dr_letters.proofs.StateLemmas.{run_alone, empty_is, tell-alike, letters-run}
+use Rattle.dr_letters.specs.Pieces.{IsBehind, runs}
+use Rattle.dr_letters.specs.States.{left_fits, letters}
+use Rattle.dr_letters.proofs.StateLemmas.{letters-lacks, letters-run}
+use Rattle.dr_letters.proofs.PieceLemmas.{letters-at, letters-later, runs-at}
 use Rattle.dr_letters.proofs.letter_rows.LetterRows.fitting_run.Goals as goal
 
-pub returns-then-is_ended : goal.returns-then-is_ended
-returns-then-is_ended c =
-    let texts = c.args.self.now.0 in
-    let places = c.args.self.now.1 in
-    let place = c.args.place in
-    let none = empty_is (chars c.args.more.now) (sym c.is_ended.ensures ∙ c.if-is_ended.true) in
-    subst (λ p. Tell (left_fits places (37 ∷ p) place) texts c.in_ok-copy.field-0) (sym none)
-    (tell-alike (λ t. is_short places t && is_empty (drop c.place_count.result (chars t))) (left_fits places (37 ∷ []) place) texts c.in_ok-copy.field-0
-    (λ t. ap (λ k. is_short places t && is_empty (drop k (chars t))) c.place_count.ensures ∙ sym (ended_twice places (chars t)) ∙ run_alone places [] t place)
-    (subst (λ s. Tell (λ t. is_short places t && is_empty (drop c.place_count.result (chars t))) texts s) (sym c.in_ok-copy.ensures) c.ended.ensures))
+differs : (n m : ℕ) → (n == m) ≡ false → n ≡ m → ⊥
+differs n m fails same = absurd (grind (arith, nat_tests, fails, same))
 
-pub put_run-requires-clause-some : goal.put_run-requires-clause-some
-put_run-requires-clause-some c = omega (arith, c.in_ok-states.ensures.count, c.requires)
+-- the letters of a piece and of all behind it, where they end, and how many there are in all
+room : (pieces : List (List ℕ)) (more : List ℕ) (k end places : ℕ) (p : List ℕ) → runs pieces ≡ 37 ∷ more → k < length pieces → end + letters (runs (drop (k + 1) pieces)) ≡ places → letters (get_or pieces k p) ≡ length (get_or pieces k p)
+    → length (get_or pieces k p) + places ≤ letters more + end
+room pieces more k end places p whole lt at lacks = omega (arith, at, lacks, letters-at pieces k p lt, letters-later pieces k, ap letters whole, letters-run more)
 
-pub swap_remove-requires : goal.swap_remove-requires
-swap_remove-requires c = omega (arith, (c.in_ok-put_run.ensures (chars c.args.more.now) c.args.place c.in_ok-states.ensures).count, c.requires, letters-run (chars c.args.more.now))
+pub overflow_add-spares : goal.overflow_add-spares
+overflow_add-spares c = record { fits = omega (arith, c.place_count.ensures.few) }
+
+pub of-requires-clause-within : goal.of-requires-clause-within
+of-requires-clause-within c =
+    let pieces = c.in_ok-pieces.pieces.items in
+    let all = map (λ p. chars p.now) pieces in
+    let k = c.loop-left.left in
+    let p = c.index.result.now in
+    let text : get_or all k (chars p.now) ≡ chars p.now = get_or-map (λ p. chars p.now) pieces k p ∙ ap (λ p. chars p.now) (sym c.index.ensures) in
+    let lacks = subst (Lacks 37) (sym (get_or-map (λ p. chars p.now) pieces k p)) (c.in_ok-pieces.ensures.lacks k p c.loop-left.invariant.within) in
+    let fits = room all (chars c.args.more.now) k c.loop-left.end c.args.self.now.1 (chars p.now) c.in_ok-pieces.ensures.whole (omega (arith, c.loop-left.invariant.within, length-map pieces (λ p. chars p.now))) c.loop-left.invariant.told.at (letters-lacks (get_or all k (chars p.now)) lacks) in
+    omega (arith, fits, ap length text, c.requires)
+
+pub with_piece-requires-clause-spares : goal.with_piece-requires-clause-spares
+with_piece-requires-clause-spares c =
+    let pieces = c.in_ok-pieces.pieces.items in
+    let all = map (λ p. chars p.now) pieces in
+    let k = c.loop-left.left in
+    let p = c.index.result.now in
+    let text : get_or all k (chars p.now) ≡ chars p.now = get_or-map (λ p. chars p.now) pieces k p ∙ ap (λ p. chars p.now) (sym c.index.ensures) in
+    let lacks = subst (Lacks 37) (sym text) c.in_ok-piece.ensures.lacks in
+    let fits = room all (chars c.args.more.now) k c.loop-left.end c.args.self.now.1 (chars p.now) c.in_ok-pieces.ensures.whole (omega (arith, c.loop-left.invariant.within, length-map pieces (λ p. chars p.now))) c.loop-left.invariant.told.at (letters-lacks (get_or all k (chars p.now)) lacks) in
+    omega (arith, fits, ap length text, c.requires, c.in_ok-piece.ensures.from, c.place_count.ensures.value, c.letter_count.ensures)
+
+pub loop-left-preserved : goal.loop-left-preserved
+loop-left-preserved c =
+    let pieces = c.in_ok-pieces.pieces.items in
+    let all = map (λ p. chars p.now) pieces in
+    let k = c.loop-left.left in
+    let p = c.index.result.now in
+    let text : get_or all k (chars p.now) ≡ chars p.now = get_or-map (λ p. chars p.now) pieces k p ∙ ap (λ p. chars p.now) (sym c.index.ensures) in
+    let lt : k < length all = omega (arith, c.loop-left.invariant.within, length-map pieces (λ p. chars p.now)) in
+    let follows = c.loop-left.invariant.told in
+    let behind = runs (drop (k + 1) all) in
+    let back : k ≡ k - 1 + 1 = omega (arith, c.loop-left-test.true) in
+    let whole : 37 ∷ chars p.now ++ behind ≡ runs (drop (k - 1 + 1) all) = ap (λ q. 37 ∷ q ++ behind) (sym text) ∙ sym (runs-at all k (chars p.now) lt) ∙ ap (λ n. runs (drop n all)) back in
+    let last : (c.loop-left.end == c.place_count-in-loop-left.result) ≡ false → 0 < letters behind = λ fails. omega (arith, follows.at, c.place_count-in-loop-left.ensures.value, differs c.loop-left.end c.place_count-in-loop-left.result fails) in
+    record {
+      within = omega (arith, c.loop-left.invariant.within);
+      shape = c.in_ok-behind.ensures.shape;
+      told = subst (λ q. IsBehind q c.args.self.now.0 c.args.self.now.1 c.in_ok-piece.piece.from (c.place_count.result - c.args.place - c.letter_count.result + 1) c.in_ok-behind.behind) whole
+          (c.in_ok-behind.ensures.told (chars p.now) behind c.loop-left.end (c.loop-left.end == c.place_count-in-loop-left.result) c.in_ok-piece.ensures follows last);
+    }
+
+pub of-requires-2-clause-within : goal.of-requires-2-clause-within
+of-requires-2-clause-within c =
+    let pieces = c.in_ok-pieces.pieces.items in
+    let all = map (λ p. chars p.now) pieces in
+    let p = c.index-2.result.now in
+    let first : c.loop-left.left ≡ 0 = omega (arith, c.loop-left-test.false) in
+    let text : get_or all 0 (chars p.now) ≡ chars p.now = get_or-map (λ p. chars p.now) pieces 0 p ∙ ap (λ p. chars p.now) (sym c.index-2.ensures) in
+    let lacks = subst (Lacks 37) (sym (get_or-map (λ p. chars p.now) pieces 0 p)) (c.in_ok-pieces.ensures.lacks 0 p c.in_ok-pieces.ensures.some) in
+    let at = subst (λ n. c.loop-left.end + letters (runs (drop (n + 1) all)) ≡ c.args.self.now.1) first c.loop-left.invariant.told.at in
+    let fits = room all (chars c.args.more.now) 0 c.loop-left.end c.args.self.now.1 (chars p.now) c.in_ok-pieces.ensures.whole (omega (arith, c.in_ok-pieces.ensures.some, length-map pieces (λ p. chars p.now))) at (letters-lacks (get_or all 0 (chars p.now)) lacks) in
+    omega (arith, fits, ap length text, c.requires)
+
+pub fitting_piece-requires-clause-spares : goal.fitting_piece-requires-clause-spares
+fitting_piece-requires-clause-spares c =
+    let pieces = c.in_ok-pieces.pieces.items in
+    let all = map (λ p. chars p.now) pieces in
+    let p = c.index-2.result.now in
+    let first : c.loop-left.left ≡ 0 = omega (arith, c.loop-left-test.false) in
+    let text : get_or all 0 (chars p.now) ≡ chars p.now = get_or-map (λ p. chars p.now) pieces 0 p ∙ ap (λ p. chars p.now) (sym c.index-2.ensures) in
+    let lacks = subst (Lacks 37) (sym text) c.in_ok-piece-2.ensures.lacks in
+    let at = subst (λ n. c.loop-left.end + letters (runs (drop (n + 1) all)) ≡ c.args.self.now.1) first c.loop-left.invariant.told.at in
+    let fits = room all (chars c.args.more.now) 0 c.loop-left.end c.args.self.now.1 (chars p.now) c.in_ok-pieces.ensures.whole (omega (arith, c.in_ok-pieces.ensures.some, length-map pieces (λ p. chars p.now))) at (letters-lacks (get_or all 0 (chars p.now)) lacks) in
+    omega (arith, fits, ap length text, c.requires, c.in_ok-piece-2.ensures.from, c.place_count.ensures.value, c.letter_count.ensures)
 
 pub returns : goal.returns
 returns c =
-    let states = c.in_ok-put_run.ensures (chars c.args.more.now) c.args.place c.in_ok-states.ensures in
-    let more = 37 ∷ chars c.args.more.now in
-    let first : c.args.place + 0 ≡ c.args.place = omega arith in
-    subst (λ k. Tell (left_fits c.args.self.now.1 more k) c.args.self.now.0 c.swap_remove.result) first
-    (subst (Tell (left_fits c.args.self.now.1 more (c.args.place + 0)) c.args.self.now.0) (sym c.swap_remove.ensures.value)
-    (states.each 0 c.swap_remove.result (omega (arith, states.count, c.requires, letters-run (chars c.args.more.now)))))
+    let pieces = c.in_ok-pieces.pieces.items in
+    let all = map (λ p. chars p.now) pieces in
+    let more = chars c.args.more.now in
+    let texts = c.args.self.now.0 in
+    let places = c.args.self.now.1 in
+    let p = c.index-2.result.now in
+    let first : c.loop-left.left ≡ 0 = omega (arith, c.loop-left-test.false) in
+    let text : get_or all 0 (chars p.now) ≡ chars p.now = get_or-map (λ p. chars p.now) pieces 0 p ∙ ap (λ p. chars p.now) (sym c.index-2.ensures) in
+    let lt : 0 < length all = omega (arith, c.in_ok-pieces.ensures.some, length-map pieces (λ p. chars p.now)) in
+    let behind = runs (drop (0 + 1) all) in
+    let spares = c.place_count.result - c.args.place - c.letter_count.result + 1 in
+    let follows = subst (λ n. IsBehind (runs (drop (n + 1) all)) texts places c.loop-left.end spares c.loop-left.behind) first c.loop-left.invariant.told in
+    let whole : 37 ∷ chars p.now ++ behind ≡ 37 ∷ more = ap (λ q. 37 ∷ q ++ behind) (sym text) ∙ sym (runs-at all 0 (chars p.now) lt) ∙ c.in_ok-pieces.ensures.whole in
+    let last : (c.loop-left.end == c.place_count-2.result) ≡ false → 0 < letters behind = λ fails. omega (arith, follows.at, c.place_count-2.ensures.value, differs c.loop-left.end c.place_count-2.result fails) in
+    let lacks = subst (Lacks 37) (sym text) c.in_ok-piece-2.ensures.lacks in
+    let counted : letters more ≡ length (chars p.now) + letters behind = omega (arith, ap letters c.in_ok-pieces.ensures.whole, letters-run more, letters-at all 0 (chars p.now) lt, letters-lacks (get_or all 0 (chars p.now)) lacks, ap length text) in
+    subst (λ q. Tell (left_fits places q c.args.place) texts c.in_ok-set.set) whole
+    (c.in_ok-set.ensures (chars p.now) behind c.loop-left.end c.args.place (c.loop-left.end == c.place_count-2.result) c.in_ok-piece-2.ensures follows last
+    (omega (arith, counted, follows.at, c.in_ok-piece-2.ensures.from, c.requires, c.place_count.ensures.value, c.letter_count.ensures)))

@@ -1,19 +1,16 @@
-use Rattle.std.proofs.Common.{◌∙◌, ◌<◌, ◌^◌, ◌==◌, sym, ap, subst, length}
+use Rattle.std.proofs.Common.{◌∙◌, ◌<◌, ◌^◌, length, sym, subst}
 use Rattle.std.proofs.lemmas.Bool.{leb-false}
-use Rattle.dr_letters.specs.Codes.{AreBelow, ArePlanes, Keeps}
+use Rattle.dr_letters.specs.Codes.{AreBelow, ArePlanes}
 use Rattle.dr_letters.proofs.CodeLemmas.{keeps-code}
 use Rattle.dr_letters.proofs.place_letters.PlaceLetters.keep_by_bits.Goals as goal
 
 pub returns : goal.returns
-returns c =
+returns c = λ codes place.
     let code = c.args.code in
-    let codes = c.self.inside.codes.items in
     let planes = c.as_slice.result.now in
     let same = sym c.as_slice.ensures.value in
     let bits = c.len-bits.ensures ∙ sym c.as_slice.ensures.len in
-    let told = subst (λ p. ArePlanes codes p) same c.self.invariant.1.0 in
-    let below = subst (λ p. AreBelow (length p) codes) same c.self.invariant.1.1.0 in
+    let told = subst (λ p. ArePlanes codes p) same place.planes in
+    let below = subst (λ p. AreBelow (length p) codes) same place.below in
     let lt = subst (λ n. code < 2 ^ n) bits (leb-false (2 ^ c.len-bits.result) code (sym c.if-has_bit_from.ensures)) in
-    let kept = c.keep_same.ensures codes told (c.requires ∙ sym (ap length c.self.view_is)) in
-    subst (λ l. Keeps (λ n. n == code) l c.args.set.now c.keep_same.new.set) c.self.view_is
-    (keeps-code code (length planes) codes c.args.set.now c.keep_same.new.set below lt kept)
+    keeps-code code (length planes) codes c.args.set.now c.keep_same.new.set below lt (c.keep_same.ensures codes told (c.requires ∙ place.ended.count))

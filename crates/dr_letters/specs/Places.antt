@@ -1,0 +1,18 @@
+-- The characters of texts at their first places. No public contract cites this file.
+use Rattle.std.specs.Prelude.{◌≡◌, ℕ, ◌<◌, ◌%◌, ◌==◌, true, false, List, length, get_or, map}
+use Rattle.std.specs.Str.{chars}
+use Rattle.dr_rowindex.specs.Orders.{Tell}
+use Rattle.dr_letters.specs.declared.place_letters.PlaceLetters.{PlaceLetters}
+use Rattle.dr_letters.specs.Codes.{AreBelow, AreCommon, ArePlanes, code_at}
+
+-- the characters at a place have these codes
+pub record IsPlace (codes : List ℕ) (p : PlaceLetters) : Type 0 where
+  pub ended : Tell (λ n. n == 0) codes p.ended
+  pub planes : ArePlanes codes p.planes.items
+  pub below : AreBelow (length p.planes.items) codes
+  pub common : AreCommon codes p.common.items
+  pub seen : (i : ℕ) → i < length codes → (get_or codes i 0 == 0) ≡ false → get_or p.seen (get_or codes i 0 % 128) false ≡ true
+
+-- the characters of the texts are known at so many places
+abbrev pub ArePlaces : List (List ℕ) → List PlaceLetters → Type 0
+ArePlaces texts places = (k : ℕ) (other : PlaceLetters) → k < length places → IsPlace (map (λ t. code_at k (chars t)) texts) (get_or places k other)
