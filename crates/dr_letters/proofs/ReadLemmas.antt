@@ -1,17 +1,18 @@
 -- Characters that were read, each with the row of its text.
-use Rattle.std.proofs.Common.{inl, inr, ◌≡◌, ◌∙◌, sym, refl, ap, subst, ℕ, ◌<◌, ◌≤◌, ◌^◌, ◌==◌, ◌&&◌, ◌||◌, eqb, not, Bool, true, false, List, [], ◌∷◌, ◌++◌, length, get_or, take, set, replicate, arith}
-use Rattle.std.specs.List.{All, list_any}
+use Rattle.std.proofs.Common.{inl, inr, ◌≡◌, ◌∙◌, sym, refl, ap, subst, ℕ, zero, suc, ◌+◌, ◌<◌, ◌≤◌, ◌^◌, ◌==◌, ◌&&◌, ◌||◌, eqb, cond, not, Bool, true, false, List, [], ◌∷◌, ◌++◌, length, get_or, take, set, replicate, arith}
+use Rattle.std.specs.List.{All, filter, list_any}
 use Rattle.std.proofs.lemmas.Bool.{cases_eq}
 use Rattle.std.proofs.lemmas.Bool.Decides.{nat_tests}
-use Rattle.std.proofs.lemmas.List.{length-set, get_or-set_same, get_or-set_other, get_or-replicate, length-replicate, get_or_default, take_all}
-use Rattle.std.proofs.lemmas.List.Elements.{All-head, All-tail, All-weaker}
+use Rattle.std.proofs.lemmas.List.{length-set, get_or-set_same, get_or-set_other, get_or-replicate, length-replicate, get_or_default, take_all, take_more}
+use Rattle.std.proofs.lemmas.List.Elements.{All-cons, All-head, All-tail, All-weaker}
 use Rattle.std.proofs.lemmas.List.Folds.{list_any-append}
 use Rattle.std.proofs.Math.Pow.{pow_mono}
 use Rattle.std.proofs.lemmas.Nat.Bits.{bit_at_above}
 use Rattle.dr_rowindex.specs.Orders.{Tell}
 use Rattle.dr_rowindex.specs.Truths.{Joined, has_bit}
 use Rattle.dr_letters.specs.declared.text_letter.TextLetter.{TextLetter}
-use Rattle.dr_letters.specs.Codes.{AreBelow, AreRead}
+use Rattle.dr_letters.specs.declared.common_code.CommonCode.{CommonCode}
+use Rattle.dr_letters.specs.Codes.{AreRead, is_common, is_rare}
 
 or_false : (b : Bool) → (b || false) ≡ b
 or_false true = refl
@@ -158,29 +159,16 @@ pub each-read : (P : ℕ → Type 0) (codes : List ℕ) (letters : List TextLett
     → (i : ℕ) → i < length codes → (get_or codes i 0 == 0) ≡ false → P (get_or codes i 0)
 each-read P codes letters read all i lt some = found P codes letters i all read.own (read.each i lt ∙ ap not some)
 
-pub below-read : (bits : ℕ) (codes : List ℕ) (letters : List TextLetter) → AreRead letters codes → All (λ (l : TextLetter). l.code < 2 ^ bits) letters → AreBelow bits codes
-below-read bits codes letters read all i v lt = subst (λ n. n < 2 ^ bits) (get_or_default codes i 0 v lt) (at (get_or codes i 0 == 0) refl)
-  where
-    at : (b : Bool) → (get_or codes i 0 == 0) ≡ b → get_or codes i 0 < 2 ^ bits
-    at true none = let zero_code : get_or codes i 0 ≡ 0 = grind (arith, nat_tests, none) in let z : 0 ≤ bits = omega arith in let some = pow_mono {j = bits} z in omega (arith, zero_code, some)
-    at false some = each-read (λ n. n < 2 ^ bits) codes letters read all i lt some
-
-pub ended-read : (codes : List ℕ) (letters : List TextLetter) (k count : ℕ) (others all ended : List Bool) → length codes ≡ count → length letters ≤ k → all ≡ replicate count true → AreRead letters codes
-    → PutRows (λ (l : TextLetter). l.row) (λ l. true) (take k letters) (replicate count false) others → Joined (λ a b. a && not b) others all ended → Tell (λ n. n == 0) codes ended
-ended-read codes letters k count others all ended long le is read put joined = record {
+-- the texts that have no character are the others
+pub ended-read : (codes : List ℕ) (letters : List TextLetter) (count : ℕ) (others all ended : List Bool) → length codes ≡ count → all ≡ replicate count true → AreRead letters codes
+    → ((i : ℕ) → i < count → get_or others i false ≡ list_any (λ (l : TextLetter). (l.row == i) && true) letters) → Joined (λ a b. a && not b) others all ended → Tell (λ n. n == 0) codes ended
+ended-read codes letters count others all ended long is read told joined = record {
   count = joined.count ∙ ap length is ∙ length-replicate count true ∙ sym long;
   each = λ i v lt. joined.each i (omega (arith, lt, long, ap length is, length-replicate count true))
       ∙ ap (λ b. b && not (get_or others i false)) (ap (λ l. get_or l i false) is ∙ get_or-replicate count i true false (omega (arith, lt, long)))
-      ∙ ap not (told_other i lt) ∙ twice (get_or codes i 0 == 0) ∙ ap (λ n. n == 0) (get_or_default codes i 0 v lt);
+      ∙ ap not (told i (omega (arith, lt, long)) ∙ each_row (λ (l : TextLetter). l.row) letters i ∙ read.each i lt) ∙ twice (get_or codes i 0 == 0) ∙ ap (λ n. n == 0) (get_or_default codes i 0 v lt);
 }
   where
-    all_put : PutRows (λ (l : TextLetter). l.row) (λ l. true) letters (replicate count false) others
-    all_put = subst (λ l. PutRows (λ (x : TextLetter). x.row) (λ x. true) l (replicate count false) others) (take_all k letters le) put
-
-    told_other : (i : ℕ) → i < length codes → get_or others i false ≡ not (get_or codes i 0 == 0)
-    told_other i lt = all_put.each i ∙ ap (λ b. b || list_any (λ (l : TextLetter). (l.row == i) && true) letters) (get_or-replicate count i false false (omega (arith, lt, long)))
-        ∙ each_row (λ (l : TextLetter). l.row) letters i ∙ read.each i lt
-
     twice : (b : Bool) → not (not b) ≡ b
     twice true = refl
     twice false = refl
@@ -195,3 +183,88 @@ still_seen seen n m lt was = elim (cases_eq m n) [
   | inl same ↦ (ap (λ k. get_or (set seen n true) k false) same ∙ now_seen seen n lt)
   | inr differs ↦ (get_or-set_other seen n m true false differs ∙ was)
 ]
+
+-- ---- what was put in by a loop over some letters
+
+pub put_by_code : (f : ℕ → Bool) (letters : List TextLetter) (k count : ℕ) (told : List Bool) → length letters ≤ k → PutRows (λ (l : TextLetter). l.row) (λ l. f l.code) (take k letters) (replicate count false) told
+    → (i : ℕ) → i < count → get_or told i false ≡ list_any (λ (l : TextLetter). (l.row == i) && f l.code) letters
+put_by_code f letters k count told le put i lt =
+    let all = subst (λ l. PutRows (λ (x : TextLetter). x.row) (λ x. f x.code) l (replicate count false) told) (take_all k letters le) put in
+    all.each i ∙ ap (λ b. b || list_any (λ (l : TextLetter). (l.row == i) && f l.code) letters) (get_or-replicate count i false false lt)
+
+-- ---- the characters whose codes aren't common
+
+pub common_at : (common : List CommonCode) (k code : ℕ) (d : CommonCode) → k < length common → (get_or common k d).code ≡ code → is_common common code ≡ true
+common_at [] k code d lt is = absurd (omega (arith, lt))
+common_at (c ∷ common) zero code d lt is = let same : (c.code == code) ≡ true = grind (arith, nat_tests, is) in ap (λ b. b || is_common common code) same
+common_at (c ∷ common) (suc k) code d lt is = ap (λ b. (c.code == code) || b) (common_at common k code d (omega (arith, lt)) is) ∙ truly (c.code == code)
+
+pub found_common : (common : List CommonCode) (k code : ℕ) → k < length common → ((d : CommonCode) → (get_or common k d).code ≡ code) → is_common common code ≡ true
+found_common [] k code lt is = absurd (omega (arith, lt))
+found_common (c ∷ common) k code lt is = common_at (c ∷ common) k code c lt (is c)
+
+pub common_next : (common : List CommonCode) (k code : ℕ) (d : CommonCode) → k < length common → ((get_or common k d).code ≡ code → ⊥) → is_common (take k common) code ≡ false → is_common (take (k + 1) common) code ≡ false
+common_next common k code d lt differs was =
+    let c = get_or common k d in
+    let other : (c.code == code) ≡ false = grind (arith, nat_tests, differs) in
+    ap (λ l. is_common l code) (take_more common k d lt) ∙ list_any-append (λ (x : CommonCode). x.code == code) (take k common) (c ∷ []) ∙ ap (λ b. b || ((c.code == code) || false)) was ∙ or_false (c.code == code) ∙ other
+
+any_filter : (f g : TextLetter → Bool) (xs : List TextLetter) → list_any f (filter g xs) ≡ list_any (λ x. g x && f x) xs
+any_filter f g [] = refl
+any_filter f g (x ∷ xs) = at (any_filter f g xs) (g x)
+  where
+    at : list_any f (filter g xs) ≡ list_any (λ y. g y && f y) xs → (b : Bool) → list_any f (cond b (x ∷ filter g xs) (filter g xs)) ≡ ((b && f x) || list_any (λ y. g y && f y) xs)
+    at rest true = ap (λ b. f x || b) rest
+    at rest false = rest
+
+unfiltered : (P : TextLetter → Type 0) (g : TextLetter → Bool) (xs : List TextLetter) → All P (filter g xs) → All (λ x. g x ≡ true → P x) xs
+unfiltered P g [] all = λ k d lt is. absurd (omega (arith, lt))
+unfiltered P g (x ∷ xs) all = All-cons (λ y. g y ≡ true → P y) x xs (first (g x) all) (unfiltered P g xs (rest (g x) all))
+  where
+    first : (b : Bool) → All P (cond b (x ∷ filter g xs) (filter g xs)) → b ≡ true → P x
+    first true all' is = All-head P x (filter g xs) all'
+    first false all' is = absurd (cc is)
+
+    rest : (b : Bool) → All P (cond b (x ∷ filter g xs) (filter g xs)) → All P (filter g xs)
+    rest true all' = All-tail P x (filter g xs) all'
+    rest false all' = all'
+
+pub told-rare : (common : List CommonCode) (f : ℕ → Bool) (codes : List ℕ) (letters others : List TextLetter) (count : ℕ) (told : List Bool) → length codes ≡ count → length told ≡ count → AreRead letters codes → others ≡ filter (is_rare common) letters
+    → ((i : ℕ) → i < count → get_or told i false ≡ list_any (λ (l : TextLetter). (l.row == i) && f l.code) others)
+    → Tell (λ n. not (is_common common n) && (not (n == 0) && f n)) codes told
+told-rare common f codes letters others count told long rows read is each = record {
+  count = rows ∙ sym long;
+  each = λ i v lt.
+      each i (omega (arith, lt, long)) ∙ ap (list_any (λ (l : TextLetter). (l.row == i) && f l.code)) is ∙ any_filter (λ l. (l.row == i) && f l.code) (is_rare common) letters
+      ∙ turned i letters ∙ any_own (λ n. not (is_common common n) && f n) codes letters i read.own ∙ ap (λ b. b && (not (is_common common (get_or codes i 0)) && f (get_or codes i 0))) (read.each i lt)
+      ∙ swapped (not (get_or codes i 0 == 0)) (not (is_common common (get_or codes i 0))) (f (get_or codes i 0)) ∙ ap (λ n. not (is_common common n) && (not (n == 0) && f n)) (get_or_default codes i 0 v lt);
+}
+  where
+    swapped : (a b c : Bool) → (a && (b && c)) ≡ (b && (a && c))
+    swapped true true c = refl
+    swapped true false c = refl
+    swapped false true c = refl
+    swapped false false c = refl
+
+    turned : (i : ℕ) (xs : List TextLetter) → list_any (λ (l : TextLetter). is_rare common l && ((l.row == i) && f l.code)) xs ≡ list_any (λ (l : TextLetter). (l.row == i) && (not (is_common common l.code) && f l.code)) xs
+    turned i [] = refl
+    turned i (x ∷ xs) = ap (λ b. b || list_any (λ (l : TextLetter). is_rare common l && ((l.row == i) && f l.code)) xs) (swapped (is_rare common x) (x.row == i) (f x.code)) ∙ ap (λ b. ((x.row == i) && (not (is_common common x.code) && f x.code)) || b) (turned i xs)
+
+pub below-rare : (common : List CommonCode) (bits : ℕ) (codes : List ℕ) (letters others : List TextLetter) → AreRead letters codes → others ≡ filter (is_rare common) letters → All (λ (l : TextLetter). l.code < 2 ^ bits) others
+    → (i : ℕ) → i < length codes → is_common common (get_or codes i 0) ≡ false → get_or codes i 0 < 2 ^ bits
+below-rare common bits codes letters others read is all i lt rare = at (get_or codes i 0 == 0) refl
+  where
+    each : All (λ (l : TextLetter). is_common common l.code ≡ false → l.code < 2 ^ bits) letters
+    each = All-weaker (λ (l : TextLetter). is_rare common l ≡ true → l.code < 2 ^ bits) (λ l. is_common common l.code ≡ false → l.code < 2 ^ bits) (λ l less fails. less (ap not fails)) letters
+        (unfiltered (λ (l : TextLetter). l.code < 2 ^ bits) (is_rare common) letters (subst (All (λ (l : TextLetter). l.code < 2 ^ bits)) is all))
+
+    at : (b : Bool) → (get_or codes i 0 == 0) ≡ b → get_or codes i 0 < 2 ^ bits
+    at true none = let zero_code : get_or codes i 0 ≡ 0 = grind (arith, nat_tests, none) in let z : 0 ≤ bits = omega arith in let some = pow_mono {j = bits} z in omega (arith, zero_code, some)
+    at false some = each-read (λ n. is_common common n ≡ false → n < 2 ^ bits) codes letters read each i lt some rare
+
+pub rare_zero : (a : Bool) (f : ℕ → Bool) (n : ℕ) → f 0 ≡ false → (a && (not (n == 0) && f n)) ≡ (a && f n)
+rare_zero a f n none = ap (λ b. a && b) (some_code f n none)
+
+pub rare_alone : (a b : Bool) → (a && (b && true)) ≡ (a && b)
+rare_alone a true = refl
+rare_alone a false = refl

@@ -1,5 +1,5 @@
 -- The characters of texts by their places. No public contract cites this file.
-use Rattle.std.specs.Prelude.{◌≡◌, ◌≢◌, ℕ, zero, suc, ◌+◌, ◌<◌, ◌^◌, ◌==◌, Bool, true, false, ◌&&◌, not, eqb, List, [], ◌∷◌, length, get_or, drop}
+use Rattle.std.specs.Prelude.{◌≡◌, ◌≢◌, ℕ, zero, suc, ◌+◌, ◌<◌, ◌==◌, Bool, true, false, ◌&&◌, not, eqb, List, [], ◌∷◌, length, get_or, drop}
 use Rattle.std.specs.Int.{bit_at}
 use Rattle.std.specs.List.{All, list_any}
 use Rattle.dr_rowindex.specs.Truths.{has_bit}
@@ -27,13 +27,17 @@ abbrev pub same_bits : ℕ → ℕ → ℕ → Bool
 same_bits zero n m = true
 same_bits (suc b) n m = same_bits b n m && eqb (bit_at n b) (bit_at m b)
 
--- each number is below that power of two
-abbrev pub AreBelow : ℕ → List ℕ → Type 0
-AreBelow bits numbers = All (λ n. n < 2 ^ bits) numbers
-
 -- of each bit, from the lowest on, it is told which of the numbers have it
 abbrev pub ArePlanes : List ℕ → List RowSet → Type 0
 ArePlanes numbers planes = (b : ℕ) (told : List Bool) → b < length planes → Tell (λ n. has_bit n b) numbers (get_or planes b told)
+
+-- a code is one of those that many have
+abbrev pub is_common : List CommonCode → ℕ → Bool
+is_common common n = list_any (λ (c : CommonCode). c.code == n) common
+
+-- a character has another
+abbrev pub is_rare : List CommonCode → TextLetter → Bool
+is_rare common l = not (is_common common l.code)
 
 -- of each of some codes that is that of a character it is told which of the numbers are it
 abbrev pub AreCommon : List ℕ → List CommonCode → Type 0

@@ -1,8 +1,9 @@
-ghost use Rattle.std.specs.Prelude.{◌≡◌, ◌<◌, ◌≤◌, ◌==◌, ◌&&◌, ◌%◌, ◌^◌, not, nat_le, Bool, true, false, ℕ, List, length, get_or, IfOk, IfSome};
-ghost use Rattle.std.specs.List.{All};
+ghost use Rattle.std.specs.Prelude.{◌≡◌, ◌<◌, ◌≤◌, ◌==◌, ◌&&◌, ◌%◌, ◌^◌, not, nat_le, Bool, true, false, ℕ, List, length, get_or, IfOk, IfSome, MatchOption};
+ghost use Rattle.std.specs.List.{All, filter, list_any};
 ghost use Rattle.dr_rowindex.specs.Orders.{Tell};
 ghost use Rattle.dr_rowindex.specs.Truths.{Joined, has_bit};
-ghost use Rattle.dr_letters.specs.Codes.{ArePlanes, AreRead, Keeps, same_bits};
+ghost use Rattle.dr_letters.specs.declared.common_code.CommonCode.{CommonCode};
+ghost use Rattle.dr_letters.specs.Codes.{ArePlanes, AreRead, Keeps, is_common, is_rare, same_bits};
 
 use crate::common_code::{CommonCode, common_codes};
 use crate::text_letter::TextLetter;
@@ -21,24 +22,27 @@ const BYTES_OF_A_SET: usize = 64;
 pub struct PlaceLetters {
     // The texts that end before the place.
     ended: RowSet,
-    // Of each bit of the codes, from the lowest on, the texts whose code has it.
-    planes: Vec<RowSet>,
     // Of the codes that many texts have, which these are.
     common: Vec<CommonCode>,
+    // The texts that have another code.
+    rare: RowSet,
+    // Of each bit of these other codes, from the lowest on, the texts whose code has it.
+    planes: Vec<RowSet>,
     // The remainders of the codes that any text has.
     seen: RowSet,
     // Of each remainder at which place among the common codes one with it may stand.
     hints: Vec<u8>,
-    ghost planes_count: { All (λ s. length s ≡ length ended) planes.items },
     ghost common_count: { All (λ c. length c.texts ≡ length ended) common.items },
+    ghost rare_count: { length rare ≡ length ended },
+    ghost planes_count: { All (λ s. length s ≡ length ended) planes.items },
 }
 
 impl PlaceLetters {
     ghost use Rattle.dr_letters.specs.Places.{IsPlace};
 
-    // The characters that so many texts have, those that have one. The only error is that memory ran out. It takes time by the characters
-    // times the bits of the greatest code, or n log n in them, where that is more, and memory by a bit for each text and each of these bits,
-    // and for each code that one text in 64 has at least.
+    // The characters that so many texts have, those that have one. The only error is that memory ran out. It takes n log n in the
+    // characters, and time by them for each code that one text in 64 has at least, and for each bit of the greatest of the other codes by
+    // those of these; and memory by a bit for each text, for each of these codes and bits.
     pub fn of(
         alloc: Global,
         count: usize,
@@ -48,15 +52,20 @@ impl PlaceLetters {
         ensures { IfOk result (λ p. (codes : List ℕ) → length codes ≡ count → AreRead letters.now codes → IsPlace codes p) }
     {
         let ended = ended_of(alloc, count, letters)?;
-        let bits = bits_of(letters);
-        let planes = planes_of(alloc, count, letters, bits)?;
         let common = common_codes(alloc, count, letters)?;
+        let codes = common.as_slice();
+        let hints = hints_of(alloc, codes)?;
+        let found = others_of(alloc, codes, hints.as_slice(), letters)?;
+        let others = found.as_slice();
+        let rare = texts_of(alloc, count, others)?;
+        let bits = bits_of(others);
+        let planes = planes_of(alloc, count, others, bits)?;
         let seen = seen_of(alloc, letters)?;
-        let hints = hints_of(alloc, common.as_slice())?;
         Ok(PlaceLetters {
             ended,
-            planes,
             common,
+            rare,
+            planes,
             seen,
             hints,
         })
@@ -89,7 +98,7 @@ impl PlaceLetters {
     }
 
     // Keeps of some texts those that have the character with this code here. It takes time by the texts, 64 at once, and that for each bit
-    // of the greatest code here, where not one text in 64 has the character.
+    // of the greatest code here, where not one text in 64 has the character, but any.
     pub fn keep(&self, code: u32, set: &mut RowSet)
         requires rows { length set.old ≡ length self.now.ended }
         requires some { 0 < code }
@@ -97,28 +106,27 @@ impl PlaceLetters {
     {
         match self.texts_with(code) {
             Some(texts) => set.and(texts),
-            None => self.keep_by_bits(code, set),
+            None => self.keep_rare(code, set),
         }
     }
 
-    // The texts that have the character with this code, where these are many. It takes constant time.
+    // The texts that have the character with this code, where these are many. It takes constant time where they are.
     pub fn texts_with(&self, code: u32) -> Option<&RowSet>
         requires { 0 < code }
         ensures count { IfSome result (λ s. length s.now ≡ length self.now.ended) }
-        ensures told { IfSome result (λ s. (codes : List ℕ) → IsPlace codes self.now → Tell (λ n. n == code) codes s.now) }
+        ensures told { MatchOption result (is_common self.now.common.items code ≡ false) (λ s. (codes : List ℕ) → IsPlace codes self.now → Tell (λ n. n == code) codes s.now) }
     {
-        let hint = *self.hints.get(remainder_of(code))?;
-        let common = self.common.get(usize::from(hint))?;
-        if common.code == code {
-            return Some(&common.texts);
-        }
-        None
+        let k = place_of(self.common.as_slice(), self.hints.as_slice(), code)?;
+        Some(&self.common[k].texts)
     }
 
-    fn keep_by_bits(&self, code: u32, set: &mut RowSet)
-        requires { length set.old ≡ length self.now.ended }
+    fn keep_rare(&self, code: u32, set: &mut RowSet)
+        requires rows { length set.old ≡ length self.now.ended }
+        requires some { 0 < code }
+        requires rare { is_common self.now.common.items code ≡ false }
         ensures { (codes : List ℕ) → IsPlace codes self.now → Keeps (λ n. n == code) codes set.old set.new }
     {
+        set.and(&self.rare);
         let bits = self.planes.len();
         if has_bit_from(code, bits) {
             set.and(&self.ended);
@@ -144,12 +152,91 @@ fn ended_of(alloc: Global, count: usize, letters: &[TextLetter]) -> Result<RowSe
     ensures count { IfOk result (λ s. length s ≡ count) }
     ensures told { IfOk result (λ s. (codes : List ℕ) → length codes ≡ count → AreRead letters.now codes → Tell (λ n. n == 0) codes s) }
 {
-    let mut others = RowSet::none(alloc, count)?;
-    for letter in letters {
-        others.insert(letter.row);
-    }
+    let others = texts_of(alloc, count, letters)?;
     let mut set = RowSet::all(alloc, count)?;
     set.and_not(&others);
+    Ok(set)
+}
+
+// The characters whose codes aren't common. The only error is that memory ran out. It takes time by the characters, and for each of these
+// others by the common codes.
+fn others_of(
+    alloc: Global,
+    common: &[CommonCode],
+    hints: &[u8],
+    letters: &[TextLetter],
+) -> Result<Vec<TextLetter>, AllocError>
+    ensures { IfOk result (λ others. others.items ≡ filter (is_rare common.now) letters.now) }
+{
+    let mut others = Vec::new(alloc);
+    for letter in letters {
+        if !has_code(common, hints, letter.code) {
+            let row = letter.row;
+            let code = letter.code;
+            others.push(TextLetter { row, code })?;
+        }
+    }
+    Ok(others)
+}
+
+// Whether a code is common. It takes constant time where it is, and else time by the common ones.
+fn has_code(common: &[CommonCode], hints: &[u8], code: u32) -> bool
+    ensures { result ≡ is_common common.now code }
+{
+    match place_of(common, hints, code) {
+        Some(_) => true,
+        None => false,
+    }
+}
+
+// The place of a code among the common ones. It takes constant time where it is told of it, and else time by them.
+fn place_of(common: &[CommonCode], hints: &[u8], code: u32) -> Option<usize>
+    ensures within { IfSome result (λ k. k < length common.now) }
+    ensures told { MatchOption result (is_common common.now code ≡ false) (λ k. (other : CommonCode) → (get_or common.now k other).code ≡ code) }
+{
+    match hinted(common, hints, code) {
+        Some(k) => Some(k),
+        None => searched(common, code),
+    }
+}
+
+// The place where it is told to be, if it is there. It takes constant time.
+fn hinted(common: &[CommonCode], hints: &[u8], code: u32) -> Option<usize>
+    ensures within { IfSome result (λ k. k < length common.now) }
+    ensures told { IfSome result (λ k. (other : CommonCode) → (get_or common.now k other).code ≡ code) }
+{
+    let hint = hints.get(remainder_of(code))?;
+    let k = usize::from(*hint);
+    if k < common.len() && common[k].code == code {
+        return Some(k);
+    }
+    None
+}
+
+// The place where it is found. It takes time by the codes.
+fn searched(common: &[CommonCode], code: u32) -> Option<usize>
+    ensures within { IfSome result (λ k. k < length common.now) }
+    ensures told { MatchOption result (is_common common.now code ≡ false) (λ k. (other : CommonCode) → (get_or common.now k other).code ≡ code) }
+{
+    for k in 0..common.len() {
+        if common[k].code == code {
+            return Some(k);
+        }
+    }
+    None
+}
+
+// The texts that have one of some characters. The only error is that memory ran out. It takes time by the characters, and memory by a
+// bit for each text.
+fn texts_of(alloc: Global, count: usize, letters: &[TextLetter]) -> Result<RowSet, AllocError>
+    requires { All (λ l. l.row < count) letters.now }
+    ensures count { IfOk result (λ s. length s ≡ count) }
+    ensures told { IfOk result (λ s. (i : ℕ) → i < count → get_or s i false ≡ list_any (λ l. (l.row == i) && true) letters.now) }
+{
+    let mut set = RowSet::none(alloc, count)?;
+    for letter in letters {
+        set.insert(letter.row);
+    }
     Ok(set)
 }
 
@@ -187,7 +274,7 @@ fn planes_of(
     requires { All (λ l. l.row < count) letters.now }
     ensures bits { IfOk result (λ planes. length planes.items ≡ bits) }
     ensures count { IfOk result (λ planes. All (λ s. length s ≡ count) planes.items) }
-    ensures told { IfOk result (λ planes. (codes : List ℕ) → length codes ≡ count → AreRead letters.now codes → ArePlanes codes planes.items) }
+    ensures told { IfOk result (λ planes. (b i : ℕ) (told : List Bool) → b < bits → i < count → get_or (get_or planes.items b told) i false ≡ list_any (λ l. (l.row == i) && has_bit l.code b) letters.now) }
 {
     let mut planes = Vec::with_capacity(alloc, bits)?;
     for bit in 0..bits {
@@ -206,7 +293,7 @@ fn plane_of(
 ) -> Result<RowSet, AllocError>
     requires { All (λ l. l.row < count) letters.now }
     ensures count { IfOk result (λ s. length s ≡ count) }
-    ensures told { IfOk result (λ s. (codes : List ℕ) → length codes ≡ count → AreRead letters.now codes → Tell (λ n. has_bit n bit) codes s) }
+    ensures told { IfOk result (λ s. (i : ℕ) → i < count → get_or s i false ≡ list_any (λ l. (l.row == i) && has_bit l.code bit) letters.now) }
 {
     let mut set = RowSet::none(alloc, count)?;
     for letter in letters {
