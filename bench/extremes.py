@@ -363,6 +363,35 @@ def likes_of_common_letters(letters, asked, patterns, ones):
     return lines
 
 
+def likes_of_parts(parts, letters, patterns):
+    """Patterns of so many parts, each of so many letters with a gap among them, over texts of 300 letters."""
+    def part(random):
+        inner = [random.choice("01") for _ in range(letters + 1)]
+        inner[random.randrange(1, letters)] = "_"
+        return "".join(inner)
+
+    def lines(n):
+        random = Random(3)
+        yield spec()
+        for it in range(n):
+            yield event(BEGIN + it % DAY, f"{random.getrandbits(300):0300b}")
+        asked = series(filter=one_of(*({"type": "like", "dimension": "page", "pattern": "%" + "%".join(part(random) for _ in range(parts)) + "%"} for _ in range(patterns))))
+        yield from (asked, f"seal {instant(1)}", f"publish {instant(1)} 0 1", asked)
+    return lines
+
+
+def likes_of_runs(patterns, runs):
+    """Patterns of so many `%` and three letters, over texts of 300."""
+    def lines(n):
+        random = Random(3)
+        yield spec()
+        for it in range(n):
+            yield event(BEGIN + it % DAY, f"{random.getrandbits(300):0300b}")
+        asked = series(filter=one_of(*({"type": "like", "dimension": "page", "pattern": "%" * runs + f"0_{it % 2}"} for it in range(patterns))))
+        yield from (asked, f"seal {instant(1)}", f"publish {instant(1)} 0 1", asked)
+    return lines
+
+
 def likes_of_many_dimensions(letters):
     """33 of each of 64 dimensions, of whose values one in 15 has so many letters, and the others two."""
     def lines(n):
@@ -637,6 +666,13 @@ INPUTS = {
     "rows of 300 letters under an or of 12,000 likes of a part, five of 22 letters that all have": (likes_of_common_letters(22, 5, 12000, 50), 10000),
     "rows of 300 letters under an or of 9,000 likes of a part, 14 of 60 letters that all have": (likes_of_common_letters(60, 14, 9000, 50), 10000),
     "rows of 300 letters under an or of 4,000 likes of a part, 100 of 200 letters that nearly all have": (likes_of_common_letters(200, 100, 4000, 95), 10000),
+    "rows of 300 letters under an or of 16,000 likes of a part, 13 of 14 letters": (likes_of_common_letters(14, 13, 16000, 50), 10000),
+    "rows of 300 letters under an or of 17,500 likes of two parts of three letters": (likes_of_parts(2, 3, 17500), 10000),
+    "rows of 300 letters under an or of 15,500 likes of two parts of seven letters": (likes_of_parts(2, 7, 15500), 10000),
+    "rows of 300 letters under an or of 8,000 likes of twenty parts of two letters": (likes_of_parts(20, 2, 8000), 10000),
+    "rows of 300 letters under an or of 2,800 likes of seventy parts of two letters": (likes_of_parts(70, 2, 2800), 10000),
+    "rows of 300 letters under a like of 1,000,000 runs and three letters": (likes_of_runs(1, 1000000), 10000),
+    "rows of 300 letters under an or of 32 likes of 32,000 runs and three letters": (likes_of_runs(32, 32000), 10000),
     "rows of 64 dimensions, one value in 15 of 100 letters, under an or of 33 likes of each": (likes_of_many_dimensions(100), 16384),
     "rows of 64 dimensions, one value in 15 of 512 letters, under an or of 33 likes of each": (likes_of_many_dimensions(512), 16384),
     "rows under an and of 15,000 likes of six kinds": (likes_of_each, 100000),

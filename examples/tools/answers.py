@@ -616,7 +616,8 @@ class Filter:
     def like(self, record, spec, level):
         read = self.dimension(record, spec)
         pattern = required(record, "pattern", str)
-        spelled = re.compile("".join({"%": ".*", "_": "."}.get(it, re.escape(it)) for it in pattern), re.S)
+        once = re.sub("%+", "%", pattern)  # two runs are one, and a regular expression takes far longer by two
+        spelled = re.compile("".join({"%": ".*", "_": "."}.get(it, re.escape(it)) for it in once), re.S)
         return lambda time, dims: spelled.fullmatch(read(dims)) is not None, ["dimension", "pattern"]
 
 

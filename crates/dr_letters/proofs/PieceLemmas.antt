@@ -2,15 +2,16 @@
 use Rattle.std.proofs.Common.{◌≡◌, ◌∙◌, sym, refl, ap, ℕ, zero, suc, ◌+◌, ◌-◌, ◌<◌, ◌≤◌, ◌==◌, ◌&&◌, ◌||◌, Bool, true, false, List, [], ◌∷◌, ◌++◌, length, get_or, take, drop, map, replicate, arith}
 use Rattle.std.specs.Str.{chars}
 use Rattle.std.proofs.lemmas.List.{length-replicate, get_or-replicate, take_more, append_assoc, append-nil}
-use Rattle.dr_like.specs.Like.{letter_fits, first_and_rest}
+use Rattle.dr_like.specs.Like.{fits, letter_fits, first_and_rest}
+use Rattle.dr_like.proofs.Runs.{same_behind, two_runs}
 use Rattle.dr_rowindex.specs.Orders.{Tell}
 use Rattle.dr_rowindex.specs.Truths.{Joined}
 use Rattle.dr_letters.specs.declared.asked_letter.AskedLetter.{AskedLetter}
 use Rattle.dr_letters.specs.Codes.{Keeps}
-use Rattle.dr_letters.specs.States.{fits_from, letters}
+use Rattle.dr_letters.specs.States.{fits_from, is_short, left_fits, letters}
 use Rattle.dr_letters.specs.declared.piece.Piece.{Piece}
-use Rattle.dr_letters.specs.Pieces.{asks, asks_each, AreAsked, Gains, IsPiece, runs}
-use Rattle.dr_letters.proofs.StateLemmas.{letter_before, gap_before, letters-append}
+use Rattle.dr_letters.specs.Pieces.{asks, asks_each, AreAlike, AreAsked, Gains, IsPiece, Meets, runs}
+use Rattle.dr_letters.proofs.StateLemmas.{letter_before, gap_before, letters-append, tell-alike}
 
 and_true : (b : Bool) → b ≡ (b && true)
 and_true true = refl
@@ -124,6 +125,82 @@ gains-none test texts behind before fails = record {
     or_false true = refl
     or_false false = refl
 
+-- ---- one to four letters
+
+abbrev pub four : (spare : ℕ) (letters_asked : List AskedLetter) (x : AskedLetter) (j k l : ℕ) (text : List ℕ) → Bool
+four spare letters_asked x j k l text = ((asks spare (get_or letters_asked 0 x) text && asks spare (get_or letters_asked j x) text) && asks spare (get_or letters_asked k x) text) && asks spare (get_or letters_asked l x) text
+
+placed : (spare : ℕ) (letters_asked : List AskedLetter) (x : AskedLetter) (second third fourth : ℕ) (text : List ℕ) (j k l : ℕ) → second ≡ j → third ≡ k → fourth ≡ l
+    → four spare letters_asked x j k l text ≡ four spare letters_asked x second third fourth text
+placed spare letters_asked x second third fourth text j k l is is' is'' =
+    ap (λ n. four spare letters_asked x n k l text) (sym is) ∙ ap (λ n. four spare letters_asked x second n l text) (sym is') ∙ ap (λ n. four spare letters_asked x second third n text) (sym is'')
+
+-- the first stands for those that there aren't
+pub asks-few : (spare : ℕ) (letters_asked : List AskedLetter) (x : AskedLetter) (second third fourth : ℕ) (text : List ℕ) → 0 < length letters_asked → length letters_asked ≤ 4
+    → (1 < length letters_asked → second ≡ 1) → (length letters_asked ≤ 1 → second ≡ 0) → (2 < length letters_asked → third ≡ 2) → (length letters_asked ≤ 2 → third ≡ 0)
+    → (3 < length letters_asked → fourth ≡ 3) → (length letters_asked ≤ 3 → fourth ≡ 0)
+    → asks_each spare letters_asked text ≡ four spare letters_asked x second third fourth text
+asks-few spare [] x second third fourth text some few a a' b b' c c' = absurd (omega (arith, some))
+asks-few spare (p ∷ []) x second third fourth text some few a a' b b' c c' = same (asks spare p text) ∙ placed spare (p ∷ []) x second third fourth text 0 0 0 (a' (omega arith)) (b' (omega arith)) (c' (omega arith))
+  where
+    same : (e : Bool) → (e && true) ≡ (((e && e) && e) && e)
+    same true = refl
+    same false = refl
+asks-few spare (p ∷ q ∷ []) x second third fourth text some few a a' b b' c c' = same (asks spare p text) (asks spare q text) ∙ placed spare (p ∷ q ∷ []) x second third fourth text 1 0 0 (a (omega arith)) (b' (omega arith)) (c' (omega arith))
+  where
+    same : (e f : Bool) → (e && (f && true)) ≡ (((e && f) && e) && e)
+    same true true = refl
+    same true false = refl
+    same false f = refl
+asks-few spare (p ∷ q ∷ r ∷ []) x second third fourth text some few a a' b b' c c' = same (asks spare p text) (asks spare q text) (asks spare r text) ∙ placed spare (p ∷ q ∷ r ∷ []) x second third fourth text 1 2 0 (a (omega arith)) (b (omega arith)) (c' (omega arith))
+  where
+    same : (e f g : Bool) → (e && (f && (g && true))) ≡ (((e && f) && g) && e)
+    same true true true = refl
+    same true true false = refl
+    same true false g = refl
+    same false f g = refl
+asks-few spare (p ∷ q ∷ r ∷ s ∷ []) x second third fourth text some few a a' b b' c c' = same (asks spare p text) (asks spare q text) (asks spare r text) (asks spare s text) ∙ placed spare (p ∷ q ∷ r ∷ s ∷ []) x second third fourth text 1 2 3 (a (omega arith)) (b (omega arith)) (c (omega arith))
+  where
+    same : (e f g h : Bool) → (e && (f && (g && (h && true)))) ≡ (((e && f) && g) && h)
+    same true true true h = and_false_free h
+      where
+        and_false_free : (y : Bool) → (y && true) ≡ y
+        and_false_free true = refl
+        and_false_free false = refl
+    same true true false h = refl
+    same true false g h = refl
+    same false f g h = refl
+asks-few spare (p ∷ q ∷ r ∷ s ∷ t ∷ more) x second third fourth text some few a a' b b' c c' = absurd (omega (arith, few))
+
+-- the texts that have each of them are told of
+pub meets-few : (spare : ℕ) (letters_asked : List AskedLetter) (x : AskedLetter) (second third fourth : ℕ) (texts : List (List ℕ)) (a b c d : List Bool)
+    → ((text : List ℕ) → asks_each spare letters_asked text ≡ four spare letters_asked x second third fourth text)
+    → Tell (asks spare (get_or letters_asked 0 x)) texts a → Tell (asks spare (get_or letters_asked second x)) texts b → Tell (asks spare (get_or letters_asked third x)) texts c → Tell (asks spare (get_or letters_asked fourth x)) texts d
+    → Meets (asks_each spare letters_asked) texts a b c d
+meets-few spare letters_asked x second third fourth texts a b c d same in_a in_b in_c in_d = record {
+  counts = (in_a.count, (in_b.count, (in_c.count, in_d.count)));
+  each = λ i t lt.
+      let y = get_or texts i t in
+      let at : ℕ → Bool = λ k. asks spare (get_or letters_asked k x) y in
+      same y ∙ ap (λ e. ((e && at second) && at third) && at fourth) (sym (in_a.each i t lt))
+      ∙ ap (λ e. ((get_or a i false && e) && at third) && at fourth) (sym (in_b.each i t lt))
+      ∙ ap (λ e. ((get_or a i false && get_or b i false) && e) && at fourth) (sym (in_c.each i t lt))
+      ∙ ap (λ e. ((get_or a i false && get_or b i false) && get_or c i false) && e) (sym (in_d.each i t lt));
+}
+
+pub gains-met : (test : List ℕ → Bool) (texts : List (List ℕ)) (behind a b c d before after : List Bool) → Meets test texts a b c d → length before ≡ length texts → length after ≡ length before
+    → ((i : ℕ) → i < length before → get_or after i false ≡ (get_or before i false || ((((get_or behind i false && get_or a i false) && get_or b i false) && get_or c i false) && get_or d i false)))
+    → Gains test texts behind before after
+gains-met test texts behind a b c d before after meets rows count each = record {
+  count = count;
+  each = λ i t lt. each i (omega (arith, lt, rows)) ∙ ap (λ e. get_or before i false || e) (grouped (get_or behind i false) (get_or a i false) (get_or b i false) (get_or c i false) (get_or d i false)
+      ∙ ap (λ e. get_or behind i false && e) (sym (meets.each i t lt)));
+}
+  where
+    grouped : (e f g h k : Bool) → ((((e && f) && g) && h) && k) ≡ (e && (((f && g) && h) && k))
+    grouped true f g h k = refl
+    grouped false f g h k = refl
+
 -- ---- a piece, letter by letter from its last on
 
 -- nothing of it yet
@@ -188,7 +265,27 @@ letters-later (q ∷ pieces) (suc k) = let rest = letters-later pieces k in omeg
 pub letters-at : (pieces : List (List ℕ)) (k : ℕ) (p : List ℕ) → k < length pieces → letters (runs (drop k pieces)) ≡ letters (get_or pieces k p) + letters (runs (drop (k + 1) pieces))
 letters-at pieces k p lt = ap letters (runs-at pieces k p lt) ∙ letters-append (get_or pieces k p) (runs (drop (k + 1) pieces))
 
--- behind the last piece there is nothing
+-- ---- patterns that fit the same
+
+pub alike-same : (p q : List ℕ) → p ≡ q → AreAlike p q
+alike-same p q same = record { letters = ap letters same; fits = λ cs. ap (λ r. fits r cs) same }
+
+pub alike-then : (p q r : List ℕ) → AreAlike p q → AreAlike q r → AreAlike p r
+alike-then p q r first second = record { letters = first.letters ∙ second.letters; fits = λ cs. first.fits cs ∙ second.fits cs }
+
+pub alike-run : (start pattern : List ℕ) → AreAlike (start ++ 37 ∷ pattern) (start ++ 37 ∷ 37 ∷ pattern)
+alike-run start pattern = record {
+  letters = letters-append start (37 ∷ pattern) ∙ sym (letters-append start (37 ∷ 37 ∷ pattern));
+  fits = same_behind start (37 ∷ pattern) (37 ∷ 37 ∷ pattern) (two_runs pattern);
+}
+
+-- the same texts are told of
+pub alike-tell : (places place : ℕ) (some others : List ℕ) (texts : List (List ℕ)) (told : List Bool) → AreAlike some others → Tell (left_fits places some place) texts told → Tell (left_fits places others place) texts told
+alike-tell places place some others texts told alike was =
+    tell-alike (left_fits places some place) (left_fits places others place) texts told (λ t. ap (λ b. is_short places t && b) (alike.fits (drop place (chars t)))) was
+
+-- ---- behind the last piece there is nothing
+
 pub runs-end : (pieces : List (List ℕ)) (k : ℕ) → length pieces ≤ k → runs (drop k pieces) ≡ []
 runs-end [] zero le = refl
 runs-end [] (suc k) le = refl

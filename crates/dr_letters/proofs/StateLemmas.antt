@@ -1,7 +1,6 @@
 -- Which of some texts a pattern fits from a place on, place by place.
-use Rattle.std.proofs.Common.{inl, inr, ◌≡◌, ◌∙◌, sym, refl, ap, subst, ℕ, zero, suc, ◌+◌, ◌<◌, ◌≤◌, ◌≢◌, ◌==◌, nat_lt, ◌&&◌, ◌||◌, if◌then◌else◌, Bool, true, false, List, [], ◌∷◌, ◌++◌, length, get_or, drop, drop-drop, replicate, arith}
+use Rattle.std.proofs.Common.{◌≡◌, ◌∙◌, sym, refl, ap, subst, ℕ, zero, suc, ◌+◌, ◌<◌, ◌≤◌, ◌==◌, nat_lt, ◌&&◌, ◌||◌, if◌then◌else◌, Bool, true, false, List, [], ◌∷◌, ◌++◌, length, get_or, drop, drop-drop, replicate, arith}
 use Rattle.std.specs.Str.{chars}
-use Rattle.std.proofs.lemmas.Bool.{cases_eq}
 use Rattle.std.proofs.lemmas.Bool.Decides.{nat_tests}
 use Rattle.std.proofs.lemmas.List.{get_or-replicate, length-replicate, length-drop, drop_at, append_assoc}
 use Rattle.dr_like.specs.Like.{fits, is_empty, letter_fits, first_and_rest, behind_some_run}
@@ -76,19 +75,6 @@ letters-lacks (p ∷ ps) lacks = ap (λ b. if b then letters ps else letters ps 
 pub letters-run : (ps : List ℕ) → letters (37 ∷ ps) ≡ letters ps
 letters-run ps = refl
 
-pub letters-one : (letter : ℕ) (ps : List ℕ) → (letter == 37) ≡ false → letters (letter ∷ ps) ≡ letters ps + 1
-letters-one letter ps one = ap (λ b. if b then letters ps else letters ps + 1) one
-
--- a pattern whose last letter is a run, or is not
-pub letters-before-run : (more left : List ℕ) (letter : ℕ) → left ≡ more ++ letter ∷ [] → letter ≡ 37 → letters left ≡ letters more
-letters-before-run more left letter last is = ap letters last ∙ letters-append more (letter ∷ []) ∙ ap (λ l. letters more + letters (l ∷ [])) is ∙ omega arith
-
-pub is_one : (letter : ℕ) → letter ≢ 37 → (letter == 37) ≡ false
-is_one letter differs = grind (arith, nat_tests, differs)
-
-pub letters-before-one : (more left : List ℕ) (letter : ℕ) → left ≡ more ++ letter ∷ [] → letter ≢ 37 → letters left ≡ letters more + 1
-letters-before-one more left letter last differs = ap letters last ∙ letters-append more (letter ∷ []) ∙ omega (arith, letters-one letter [] (is_one letter differs))
-
 none_behind : (rest : List ℕ → Bool) (cs : List ℕ) → ((ds : List ℕ) → length ds ≤ length cs → rest ds ≡ false) → behind_some_run rest cs ≡ false
 none_behind rest [] fails = fails [] (omega arith)
 none_behind rest (c ∷ cs) fails = ap (λ b. b || behind_some_run rest cs) (fails (c ∷ cs) (omega arith)) ∙ none_behind rest cs (λ ds le. fails ds (omega (arith, le)))
@@ -162,16 +148,6 @@ gap_before asked behind text place some = at (drop place (chars text)) refl ∙ 
     at (c ∷ cs) is = always (fits_from asked behind (place + 1) text) ∙ ap (λ ds. fits_from asked behind (place + 1) text && Has ds) (sym is)
 
 module _ (places : ℕ) (behind : List ℕ) (text : List ℕ) where
-  -- a run before the pattern, where there is no character left
-  pub run_last : left_fits places behind places text ≡ left_fits places (37 ∷ behind) places text
-  run_last = at (is_empty (drop places (chars text))) refl
-    where
-      at : (b : Bool) → is_empty (drop places (chars text)) ≡ b → (b && fits behind (drop places (chars text))) ≡ (b && fits (37 ∷ behind) (drop places (chars text)))
-      at false is = refl
-      at true is =
-          let none = empty_is (drop places (chars text)) is in
-          ap (fits behind) none ∙ sym (one_run behind []) ∙ ap (fits (37 ∷ behind)) (sym none)
-
   -- a run before the pattern, at a place before the one from which on that is told
   pub run_before : (place : ℕ) → (left_fits places behind place text || left_fits places (37 ∷ behind) (place + 1) text) ≡ left_fits places (37 ∷ behind) place text
   run_before place =
@@ -184,27 +160,6 @@ module _ (places : ℕ) (behind : List ℕ) (text : List ℕ) where
       gathered : (a b c : Bool) → ((a && b) || (a && c)) ≡ (a && (b || c))
       gathered true b c = refl
       gathered false b c = refl
-
-  -- a run before the pattern, at the last place where it may stand
-  pub run_at_end : (place : ℕ) → place + letters behind ≡ places → left_fits places behind place text ≡ left_fits places (37 ∷ behind) place text
-  run_at_end place is = elim (cases_eq (letters behind) 0) [
-    | inl none ↦ (let same : places ≡ place = omega (arith, is, none) in
-        subst (λ k. left_fits places behind k text ≡ left_fits places (37 ∷ behind) k text) same run_last)
-    | inr some ↦ (let later : left_fits places (37 ∷ behind) (place + 1) text ≡ false = left_too_few places (37 ∷ behind) (place + 1) text (omega (arith, some, letters-run behind)) (omega (arith, is, letters-run behind)) in
-        alone (left_fits places behind place text) ∙ ap (λ b. left_fits places behind place text || b) (sym later) ∙ run_before place)
-  ]
-    where
-      alone : (b : Bool) → b ≡ (b || false)
-      alone true = refl
-      alone false = refl
-
-  -- a run and nothing behind it
-  pub run_alone : (place : ℕ) → is_short places text ≡ left_fits places (37 ∷ []) place text
-  run_alone place = alone (is_short places text) ∙ ap (λ b. is_short places text && b) (sym (each_fits (drop place (chars text))))
-    where
-      alone : (b : Bool) → b ≡ (b && true)
-      alone true = refl
-      alone false = refl
 
 -- ---- all texts
 

@@ -23,6 +23,11 @@ asks_each spare (a ∷ more) text = asks spare a text && asks_each spare more te
 abbrev pub IsWithin : (spare places : ℕ) → AskedLetter → Type 0
 IsWithin spare places a = (spare ≤ a.place) × (a.place < places)
 
+-- the values that pass a test are those that are in each of four sets
+pub record Meets {V : Type 0} (test : V → Bool) (values : List V) (a b c d : List Bool) : Type 0 where
+  pub counts : (length a ≡ length values) × ((length b ≡ length values) × ((length c ≡ length values) × (length d ≡ length values)))
+  pub each : (i : ℕ) (v : V) → i < length values → test (get_or values i v) ≡ (((get_or a i false && get_or b i false) && get_or c i false) && get_or d i false)
+
 -- of the texts that were told of behind, those that pass a test are added
 pub record Gains {V : Type 0} (test : V → Bool) (values : List V) (behind before after : List Bool) : Type 0 where
   pub count : length after ≡ length before
@@ -46,6 +51,11 @@ pub record IsPiece (text : List ℕ) (end : ℕ) (is_last : Bool) (p : Piece) : 
 abbrev pub runs : List (List ℕ) → List ℕ
 runs [] = []
 runs (p ∷ ps) = 37 ∷ p ++ runs ps
+
+-- two patterns fit the same texts, and as many of their letters are one character each
+pub record AreAlike (some others : List ℕ) : Type 0 where
+  pub letters : letters some ≡ letters others
+  pub fits : (cs : List ℕ) → fits some cs ≡ fits others cs
 
 -- there are sets of so many rows for each number of places to spare
 abbrev pub IsShaped : (rows spares : ℕ) → Behind → Type 0

@@ -5,7 +5,7 @@ ghost use Rattle.dr_like.specs.Like.{fits as fits_of, is_empty, first_and_rest, 
 ghost use Rattle.dr_rowindex.specs.Orders.{Tell};
 ghost use Rattle.dr_letters.specs.Codes.{Keeps};
 ghost use Rattle.dr_letters.specs.declared.asked_letter.AskedLetter.{AskedLetter};
-ghost use Rattle.dr_letters.specs.Pieces.{IsWithin, Gains, asks, asks_each};
+ghost use Rattle.dr_letters.specs.Pieces.{IsWithin, Gains, Meets, asks, asks_each};
 ghost use Rattle.dr_letters.specs.Places.{ArePlaces};
 ghost use Rattle.dr_letters.specs.States.{AreLong, is_short};
 
@@ -92,11 +92,39 @@ impl<'a> LetterRows<'a> {
         ensures set { length set.new ≡ length self.now.0 }
         ensures found { Gains (asks_each spare letters.now) self.now.0 behind.now found.old found.new }
     {
-        if self.may_have_each(letters, spare) {
-            set.copy_from(behind);
-            self.keep_each(letters, spare, set);
-            found.or(set);
+        if !self.may_have_each(letters, spare) {
+            return;
         }
+        match self.few(letters, spare) {
+            Some((a, b, c, d)) => {
+                found.or_and_four(behind, a, b, c, d);
+            }
+            None => {
+                set.copy_from(behind);
+                self.keep_each(letters, spare, set);
+                found.or(set);
+            }
+        }
+    }
+
+    // The texts that have each of some letters, which are one to four, where these are kept: of fewer than four the first stands for others.
+    fn few(
+        &self,
+        letters: &[AskedLetter],
+        spare: usize,
+    ) -> Option<(&RowSet, &RowSet, &RowSet, &RowSet)>
+        requires { All (λ a. IsWithin spare self.now.1 a) letters.now }
+        ensures { IfSome result (λ r. Meets (asks_each spare letters.now) self.now.0 r.0.now r.1.now r.2.now r.3.now) }
+    {
+        let count = letters.len();
+        if count == 0 || count > 4 {
+            return None;
+        }
+        let a = self.texts_at(&letters[0], spare)?;
+        let b = self.texts_at(&letters[place_or_first(1, count)], spare)?;
+        let c = self.texts_at(&letters[place_or_first(2, count)], spare)?;
+        let d = self.texts_at(&letters[place_or_first(3, count)], spare)?;
+        Some((a, b, c, d))
     }
 
     // Keeps of some texts those that have each of some letters of a pattern where it is asked.
@@ -240,4 +268,14 @@ impl<'a> LetterRows<'a> {
         }
         Ok(())
     }
+}
+
+// A place among so many, or the first where there are no more.
+fn place_or_first(place: usize, count: usize) -> usize
+    requires { 0 < count }
+    ensures within { result < count }
+    ensures there { place < count → result ≡ place }
+    ensures first { count ≤ place → result ≡ 0 }
+{
+    if place < count { place } else { 0 }
 }

@@ -5,3 +5,4 @@ pub mod Ways
 pub mod Places
 pub mod Overs
 pub mod PieceParts
+pub mod Runs

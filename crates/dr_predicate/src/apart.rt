@@ -7,6 +7,7 @@ ghost use Rattle.dr_predicate.specs.Match.{passes};
 use crate::told_test::ToldTest;
 use crate::value_test::ValueTest;
 use dr_base::Text;
+use dr_patterns::runs_joined;
 use std::alloc::{AllocError, Global};
 
 /// What is asked of a value beside texts and ranges: patterns of which it is to fit each, patterns of which it is to fit none, and
@@ -31,22 +32,29 @@ impl Apart {
     }
 
     // Asks that a test holds, or that it doesn't.
-    pub(crate) fn add(&mut self, test: ValueTest, holds: bool) -> Result<(), AllocError>
+    pub(crate) fn add(
+        &mut self,
+        alloc: Global,
+        test: ValueTest,
+        holds: bool,
+    ) -> Result<(), AllocError>
         ensures { OnOk result ((value : List ℕ) → apart_told self.new value ≡ (apart_told self.old value && told holds (passes test value))) }
     {
         match test {
-            ValueTest::Like(pattern) => self.add_pattern(pattern, holds),
+            ValueTest::Like(pattern) => self.add_pattern(alloc, pattern, holds),
             other => self.add_other(other, holds),
         }
     }
 
-    fn add_pattern(&mut self, pattern: Text, holds: bool) -> Result<(), AllocError>
+    // Of a pattern each `%` that follows another one is left out.
+    fn add_pattern(&mut self, alloc: Global, pattern: Text, holds: bool) -> Result<(), AllocError>
         ensures { OnOk result ((value : List ℕ) → apart_told self.new value ≡ (apart_told self.old value && told holds (fits_text pattern value))) }
     {
+        let joined = runs_joined(alloc, pattern)?;
         if holds {
-            self.add_fit(pattern)
+            self.add_fit(joined)
         } else {
-            self.add_no_pattern(pattern)
+            self.add_no_pattern(joined)
         }
     }
 

@@ -58,7 +58,7 @@ impl ValueTests {
             ValueTest::Among(texts) => self.ask_texts(alloc, AskedTexts::Several(texts))?,
             ValueTest::Within(bounds) => self.within.narrow(bounds),
             ValueTest::WithinOne(ranges) => self.deny_ranges(ranges.into_gaps(alloc)?)?,
-            apart => self.add_apart(apart, true)?,
+            apart => self.add_apart(alloc, apart, true)?,
         }
         Ok(())
     }
@@ -71,7 +71,7 @@ impl ValueTests {
             ValueTest::Among(texts) => self.deny_texts(alloc, AskedTexts::Several(texts))?,
             ValueTest::Within(bounds) => self.no_ranges.push(bounds)?,
             ValueTest::WithinOne(ranges) => self.deny_ranges(ranges.into_bounds())?,
-            apart => self.add_apart(apart, false)?,
+            apart => self.add_apart(alloc, apart, false)?,
         }
         Ok(())
     }
@@ -105,10 +105,10 @@ impl ValueTests {
         Ok(())
     }
 
-    fn add_apart(&mut self, test: ValueTest, holds: bool) -> Result<(), AllocError>
+    fn add_apart(&mut self, alloc: Global, test: ValueTest, holds: bool) -> Result<(), AllocError>
         ensures { OnOk result ((value : List ℕ) → all_asked self.new value ≡ (all_asked self.old value && told holds (passes test value))) }
     {
-        self.apart.add(test, holds)?;
+        self.apart.add(alloc, test, holds)?;
         Ok(())
     }
 }

@@ -1,11 +1,11 @@
 -- Truths that are kept as the bits of words.
-use Rattle.std.proofs.Common.{inl, inr, ◌≡◌, ◌∙◌, sym, refl, ap, subst, ℕ, ◌+◌, ◌*◌, ◌/◌, ◌%◌, ◌<◌, ◌≤◌, ◌≢◌, ◌&&◌, Bool, true, false, List, length, get_or, set, replicate, arith}
+use Rattle.std.proofs.Common.{inl, inr, ◌≡◌, ◌∙◌, sym, refl, ap, subst, ℕ, ◌+◌, ◌*◌, ◌/◌, ◌%◌, ◌<◌, ◌≤◌, ◌≢◌, ◌&&◌, ◌||◌, Bool, true, false, List, length, get_or, set, replicate, arith}
 use Rattle.std.proofs.lemmas.Bool.{cases_eq}
 use Rattle.std.proofs.lemmas.List.{length-set, get_or-set_same, get_or-set_other, get_or-replicate, get_or_past, length-replicate, ext_get_or}
 use Rattle.std.proofs.lemmas.List.FromFn.{length-map-range_with_len, get_or-map-range_with_len}
 use Rattle.std.proofs.lemmas.Nat.{div_below, mod_below, div-add-mod'}
-use Rattle.std.specs.Int.RustNames.{bit_and}
-use Rattle.dr_bits.proofs.BitLemmas.{bit-and}
+use Rattle.std.specs.Int.RustNames.{bit_and, bit_or}
+use Rattle.dr_bits.proofs.BitLemmas.{bit-and, bit-or}
 use Rattle.dr_rowindex.specs.Truths.{truths, truth_in, has_bit, Joined}
 
 pub length-truths : (words : List ℕ) (count : ℕ) → length (truths words count) ≡ count
@@ -133,12 +133,11 @@ met-same ws aws bws cws dws xs as' bs cs ds after x a b c d each k lt =
 bit_seen : (self : List Bool) (ws : List ℕ) (n m i : ℕ) → truths ws m ≡ self → m ≡ n → i < n → has_bit (get_or ws (i / 64) 0) (i % 64) ≡ get_or self i false
 bit_seen self ws n m i is same lt = sym (truth-at ws m i (omega (arith, lt, same))) ∙ ap (λ l. get_or l i false) is
 
-pub four-sets : (self a b c d : List Bool) (ws aws bws cws dws after : List ℕ) (n na nb nc nd : ℕ) → truths ws n ≡ self
-    → truths aws na ≡ a → truths bws nb ≡ b → truths cws nc ≡ c → truths dws nd ≡ d → na ≡ n → nb ≡ n → nc ≡ n → nd ≡ n → length ws ≡ n / 64 + 1
-    → ((k : ℕ) → k < length ws → get_or after k 0 ≡ met ws aws bws cws dws k)
-    → (i : ℕ) → i < length self → get_or (truths after n) i false ≡ ((((get_or self i false && get_or a i false) && get_or b i false) && get_or c i false) && get_or d i false)
-four-sets self a b c d ws aws bws cws dws after n na nb nc nd is isa isb isc isd sa sb sc sd long each i lt =
-    let lt' : i < n = omega (arith, lt, sym (ap length is) ∙ length-truths ws n) in
+-- a bit of words that were met
+met_seen : (self a b c d : List Bool) (ws aws bws cws dws : List ℕ) (n ns na nb nc nd : ℕ) → truths ws ns ≡ self
+    → truths aws na ≡ a → truths bws nb ≡ b → truths cws nc ≡ c → truths dws nd ≡ d → ns ≡ n → na ≡ n → nb ≡ n → nc ≡ n → nd ≡ n
+    → (i : ℕ) → i < n → has_bit (met ws aws bws cws dws (i / 64)) (i % 64) ≡ ((((get_or self i false && get_or a i false) && get_or b i false) && get_or c i false) && get_or d i false)
+met_seen self a b c d ws aws bws cws dws n ns na nb nc nd is isa isb isc isd ss sa sb sc sd i lt =
     let q = i / 64 in
     let r = i % 64 in
     let w0 = get_or ws q 0 in
@@ -146,12 +145,43 @@ four-sets self a b c d ws aws bws cws dws after n na nb nc nd is isa isb isc isd
     let w2 = get_or bws q 0 in
     let w3 = get_or cws q 0 in
     let w4 = get_or dws q 0 in
-    truth-at after n i lt'
-    ∙ ap (λ w. has_bit w r) (each q (word-within n i (length ws) lt' long))
-    ∙ bit-and (bit_and (bit_and (bit_and w0 w1) w2) w3) w4 r
+    bit-and (bit_and (bit_and (bit_and w0 w1) w2) w3) w4 r
     ∙ ap (λ x. x && has_bit w4 r) (bit-and (bit_and (bit_and w0 w1) w2) w3 r ∙ ap (λ x. x && has_bit w3 r) (bit-and (bit_and w0 w1) w2 r ∙ ap (λ x. x && has_bit w2 r) (bit-and w0 w1 r)))
-    ∙ ap (λ x. (((x && has_bit w1 r) && has_bit w2 r) && has_bit w3 r) && has_bit w4 r) (bit_seen self ws n n i is refl lt')
-    ∙ ap (λ x. (((get_or self i false && x) && has_bit w2 r) && has_bit w3 r) && has_bit w4 r) (bit_seen a aws n na i isa sa lt')
-    ∙ ap (λ x. (((get_or self i false && get_or a i false) && x) && has_bit w3 r) && has_bit w4 r) (bit_seen b bws n nb i isb sb lt')
-    ∙ ap (λ x. (((get_or self i false && get_or a i false) && get_or b i false) && x) && has_bit w4 r) (bit_seen c cws n nc i isc sc lt')
-    ∙ ap (λ x. (((get_or self i false && get_or a i false) && get_or b i false) && get_or c i false) && x) (bit_seen d dws n nd i isd sd lt')
+    ∙ ap (λ x. (((x && has_bit w1 r) && has_bit w2 r) && has_bit w3 r) && has_bit w4 r) (bit_seen self ws n ns i is ss lt)
+    ∙ ap (λ x. (((get_or self i false && x) && has_bit w2 r) && has_bit w3 r) && has_bit w4 r) (bit_seen a aws n na i isa sa lt)
+    ∙ ap (λ x. (((get_or self i false && get_or a i false) && x) && has_bit w3 r) && has_bit w4 r) (bit_seen b bws n nb i isb sb lt)
+    ∙ ap (λ x. (((get_or self i false && get_or a i false) && get_or b i false) && x) && has_bit w4 r) (bit_seen c cws n nc i isc sc lt)
+    ∙ ap (λ x. (((get_or self i false && get_or a i false) && get_or b i false) && get_or c i false) && x) (bit_seen d dws n nd i isd sd lt)
+
+pub four-sets : (self a b c d : List Bool) (ws aws bws cws dws after : List ℕ) (n na nb nc nd : ℕ) → truths ws n ≡ self
+    → truths aws na ≡ a → truths bws nb ≡ b → truths cws nc ≡ c → truths dws nd ≡ d → na ≡ n → nb ≡ n → nc ≡ n → nd ≡ n → length ws ≡ n / 64 + 1
+    → ((k : ℕ) → k < length ws → get_or after k 0 ≡ met ws aws bws cws dws k)
+    → (i : ℕ) → i < length self → get_or (truths after n) i false ≡ ((((get_or self i false && get_or a i false) && get_or b i false) && get_or c i false) && get_or d i false)
+four-sets self a b c d ws aws bws cws dws after n na nb nc nd is isa isb isc isd sa sb sc sd long each i lt =
+    let lt' : i < n = omega (arith, lt, sym (ap length is) ∙ length-truths ws n) in
+    truth-at after n i lt'
+    ∙ ap (λ w. has_bit w (i % 64)) (each (i / 64) (word-within n i (length ws) lt' long))
+    ∙ met_seen self a b c d ws aws bws cws dws n n na nb nc nd is isa isb isc isd refl sa sb sc sd i lt'
+
+-- ---- what five sets have together is added to a sixth
+
+abbrev pub added : (ws ows aws bws cws dws : List ℕ) → ℕ → ℕ
+added ws ows aws bws cws dws k = bit_or (get_or ws k 0) (met ows aws bws cws dws k)
+
+pub added-same : (ws ows aws bws cws dws xs os as' bs cs ds after : List ℕ) → xs ≡ ws → os ≡ ows → as' ≡ aws → bs ≡ bws → cs ≡ cws → ds ≡ dws → ((k : ℕ) → k < length xs → get_or after k 0 ≡ added xs os as' bs cs ds k)
+    → (k : ℕ) → k < length ws → get_or after k 0 ≡ added ws ows aws bws cws dws k
+added-same ws ows aws bws cws dws xs os as' bs cs ds after x o a b c d each k lt =
+    each k (subst (λ l. k < length l) (sym x) lt) ∙ ap (λ l. bit_or (get_or l k 0) (met os as' bs cs ds k)) x
+    ∙ ap (bit_or (get_or ws k 0)) (ap (λ l. met l as' bs cs ds k) o ∙ ap (λ l. met ows l bs cs ds k) a ∙ ap (λ l. met ows aws l cs ds k) b ∙ ap (λ l. met ows aws bws l ds k) c ∙ ap (λ l. met ows aws bws cws l k) d)
+
+pub sets-added : (self o a b c d : List Bool) (ws ows aws bws cws dws after : List ℕ) (n ne na nb nc nd : ℕ) → truths ws n ≡ self
+    → truths ows ne ≡ o → truths aws na ≡ a → truths bws nb ≡ b → truths cws nc ≡ c → truths dws nd ≡ d → ne ≡ n → na ≡ n → nb ≡ n → nc ≡ n → nd ≡ n → length ws ≡ n / 64 + 1
+    → ((k : ℕ) → k < length ws → get_or after k 0 ≡ added ws ows aws bws cws dws k)
+    → (i : ℕ) → i < length self → get_or (truths after n) i false ≡ (get_or self i false || ((((get_or o i false && get_or a i false) && get_or b i false) && get_or c i false) && get_or d i false))
+sets-added self o a b c d ws ows aws bws cws dws after n ne na nb nc nd is iso isa isb isc isd se sa sb sc sd long each i lt =
+    let lt' : i < n = omega (arith, lt, sym (ap length is) ∙ length-truths ws n) in
+    truth-at after n i lt'
+    ∙ ap (λ w. has_bit w (i % 64)) (each (i / 64) (word-within n i (length ws) lt' long))
+    ∙ bit-or (get_or ws (i / 64) 0) (met ows aws bws cws dws (i / 64)) (i % 64)
+    ∙ ap (λ x. x || has_bit (met ows aws bws cws dws (i / 64)) (i % 64)) (bit_seen self ws n n i is refl lt')
+    ∙ ap (λ x. get_or self i false || x) (met_seen o a b c d ows aws bws cws dws n ne na nb nc nd iso isa isb isc isd se sa sb sc sd i lt')

@@ -1,5 +1,5 @@
 -- Words without a bit, and sets of no rows.
-use Rattle.std.proofs.Common.{inl, inr, ◌≡◌, ◌∙◌, sym, refl, ap, ℕ, zero, suc, ◌+◌, ◌<◌, ◌≤◌, ◌/◌, ◌%◌, ◌&&◌, not, eqb, Bool, true, false, List, length, get_or, set, arith}
+use Rattle.std.proofs.Common.{inl, inr, ◌≡◌, ◌∙◌, sym, refl, ap, ℕ, zero, suc, ◌+◌, ◌<◌, ◌≤◌, ◌/◌, ◌%◌, ◌&&◌, ◌||◌, not, eqb, Bool, true, false, List, length, get_or, set, arith}
 use Rattle.std.specs.Int.RustNames.{bit_or}
 use Rattle.std.proofs.lemmas.Bool.{cases_lt}
 use Rattle.std.proofs.lemmas.Nat.{le_or_l, le_or_r}
@@ -65,3 +65,14 @@ pub none-of-four : (self a b c d : List Bool) (words : List ℕ) (count : ℕ) �
 none-of-four self a b c d words count is zeros i lt =
     let none : get_or self i false ≡ false = ap (λ l. get_or l i false) (sym is) ∙ zero-truth words count i zeros in
     none ∙ sym (ap (λ x. (((x && get_or a i false) && get_or b i false) && get_or c i false) && get_or d i false) none)
+
+-- nor is any added where the first has none
+pub none-added : (self o a b c d : List Bool) (words : List ℕ) (count : ℕ) → truths words count ≡ o → AreZero words
+    → (i : ℕ) → i < length self → get_or self i false ≡ (get_or self i false || ((((get_or o i false && get_or a i false) && get_or b i false) && get_or c i false) && get_or d i false))
+none-added self o a b c d words count is zeros i lt =
+    let none : get_or o i false ≡ false = ap (λ l. get_or l i false) (sym is) ∙ zero-truth words count i zeros in
+    alone (get_or self i false) ∙ ap (λ x. get_or self i false || ((((x && get_or a i false) && get_or b i false) && get_or c i false) && get_or d i false)) (sym none)
+  where
+    alone : (x : Bool) → x ≡ (x || false)
+    alone true = refl
+    alone false = refl

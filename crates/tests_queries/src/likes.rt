@@ -1,5 +1,5 @@
 use dr_base::Text;
-use dr_patterns::Patterns;
+use dr_patterns::{Patterns, runs_joined};
 use dr_places::fits_by_places;
 use std::alloc::{AllocError, Global};
 use std::test::Fail;
@@ -47,6 +47,36 @@ fn patterns_and_their_copy_hold_texts_by_their_table(rt: HostRuntime) -> Result<
     let copy = patterns.copy()?;
     assert!(rt; first_other(&patterns) == 12);
     assert!(rt; first_other(&copy) == 12);
+    Ok(())
+}
+
+// Patterns, and what is left of them where a run behind a run is left out.
+const JOINED: [(&str, &str); 9] = [
+    ("", ""),
+    ("ab_", "ab_"),
+    ("%", "%"),
+    ("%%", "%"),
+    ("%%%é", "%é"),
+    ("é%%%", "é%"),
+    ("a%%b%%%_%%c", "a%b%_%c"),
+    ("%a%b%", "%a%b%"),
+    ("%%_%%%%_%", "%_%_%"),
+];
+
+// Which place in the list is told otherwise, the length of the list where none is.
+fn first_other_joined(alloc: Global) -> Result<usize, AllocError> {
+    for (place, (pattern, expected)) in JOINED.iter().enumerate() {
+        let joined = runs_joined(alloc, Text::from_str(alloc, pattern)?)?;
+        if joined.as_str() != *expected {
+            return Ok(place);
+        }
+    }
+    Ok(JOINED.len())
+}
+
+#[test]
+fn runs_that_follow_each_other_are_one(rt: HostRuntime) -> Result<(), Fail> {
+    assert!(rt; first_other_joined(rt.alloc())? == JOINED.len());
     Ok(())
 }
 

@@ -1,4 +1,4 @@
-ghost use Rattle.std.specs.Prelude.{◌≡◌, length};
+ghost use Rattle.std.specs.Prelude.{◌≡◌, true, length};
 
 use dr_base::Text;
 use dr_dict::TextSet;
@@ -55,6 +55,85 @@ fn a_set_that_has_none_left_can_be_filled_again(rt: HostRuntime) -> Result<(), F
     assert!(rt; are_rows(&set, &[]) && are_rows(&copy, &[63, 64, 129]));
     put(&mut set, &[5]);
     assert!(rt; are_rows(&set, &[5]));
+    Ok(())
+}
+
+// A set of 130 rows that has these.
+fn row_set_of(alloc: Global, rows: &[usize]) -> Result<RowSet, AllocError> {
+    let mut set = RowSet::none(alloc, 130)?;
+    put(&mut set, rows);
+    Ok(set)
+}
+
+// Whether another set is of as many rows.
+fn are_as_many(set: &RowSet, other: &RowSet) -> bool
+    ensures { result ≡ true → length other.now ≡ length set.now }
+{
+    other.row_count() == set.row_count()
+}
+
+// Keeps the rows that are in each of four other sets of as many rows too.
+fn keep_four(set: &mut RowSet, a: &RowSet, b: &RowSet, c: &RowSet, d: &RowSet) {
+    if are_as_many(set, a) && are_as_many(set, b) && are_as_many(set, c) && are_as_many(set, d) {
+        set.and_four(a, b, c, d);
+    }
+}
+
+// Adds the rows of another set of as many rows that are in each of four more.
+fn add_met(set: &mut RowSet, other: &RowSet, a: &RowSet, b: &RowSet, c: &RowSet, d: &RowSet) {
+    if are_as_many(set, other)
+        && are_as_many(set, a)
+        && are_as_many(set, b)
+        && are_as_many(set, c)
+        && are_as_many(set, d)
+    {
+        set.or_and_four(other, a, b, c, d);
+    }
+}
+
+#[test]
+fn five_sets_are_met_at_once(rt: HostRuntime) -> Result<(), Fail> {
+    let a = row_set_of(rt.alloc(), &[1, 63, 64, 129])?;
+    let b = row_set_of(rt.alloc(), &[1, 63, 64, 128, 129])?;
+    let c = row_set_of(rt.alloc(), &[0, 1, 63, 64, 129])?;
+    let d = row_set_of(rt.alloc(), &[1, 2, 64, 129])?;
+    let mut set = row_set_of(rt.alloc(), &[1, 5, 64])?;
+    let mut found = row_set_of(rt.alloc(), &[7])?;
+    add_met(&mut found, &set, &a, &b, &c, &d);
+    assert!(rt; are_rows(&found, &[1, 7, 64]));
+    keep_four(&mut set, &a, &b, &c, &d);
+    assert!(rt; are_rows(&set, &[1, 64]) && !set.has_none());
+    add_met(&mut found, &a, &a, &b, &c, &d);
+    assert!(rt; are_rows(&found, &[1, 7, 64, 129]));
+    let none = RowSet::none(rt.alloc(), 130)?;
+    keep_four(&mut set, &a, &b, &none, &d);
+    assert!(rt; are_rows(&set, &[]) && set.has_none());
+    add_met(&mut found, &set, &a, &b, &c, &d);
+    assert!(rt; are_rows(&found, &[1, 7, 64, 129]));
+    Ok(())
+}
+
+// Has in a set the rows of another one of as many, and one row more where that is told.
+fn take(set: &mut RowSet, other: &RowSet, row: usize, told: bool) {
+    if set.row_count() == other.row_count() && row < set.row_count() {
+        set.copy_from(other);
+        set.insert_if(row, told);
+    }
+}
+
+#[test]
+fn a_set_takes_the_rows_of_another_and_what_is_told(rt: HostRuntime) -> Result<(), Fail> {
+    let other = row_set_of(rt.alloc(), &[63, 129])?;
+    let mut set = row_set_of(rt.alloc(), &[0, 5, 64])?;
+    take(&mut set, &other, 64, false);
+    assert!(rt; are_rows(&set, &[63, 129]));
+    take(&mut set, &other, 64, true);
+    assert!(rt; are_rows(&set, &[63, 64, 129]) && are_rows(&other, &[63, 129]));
+    let none = RowSet::none(rt.alloc(), 130)?;
+    take(&mut set, &none, 3, false);
+    assert!(rt; are_rows(&set, &[]) && set.has_none());
+    take(&mut set, &none, 3, true);
+    assert!(rt; are_rows(&set, &[3]) && !set.has_none());
     Ok(())
 }
 

@@ -1,15 +1,15 @@
-use Rattle.std.proofs.Common.{◌≡◌, ◌++◌, ◌∷◌, length, map}
+use Rattle.std.proofs.Common.{◌++◌, ◌∷◌, length, map}
 use denote.Shadow.{shadow}
 use denote.Text.{Utf8}
 use Rattle.std.specs.List.{All}
 use Rattle.std.specs.Str.{chars}
 use Rattle.dr_like.specs.Letters.{Lacks}
-use Rattle.dr_letters.specs.Pieces.{runs}
+use Rattle.dr_letters.specs.Pieces.{AreAlike, runs}
 use Rattle.dr_letters.proofs.pieces.pieces_of.Given as goal
 
 abbrev pub invariant-loop-piece : goal.invariant-loop-piece
 invariant-loop-piece l = record {
-  parts : runs (map (λ p. chars p.now) l.pieces.items) ++ 37 ∷ chars l.left ≡ 37 ∷ chars l.pattern;
+  whole : AreAlike (runs (map (λ p. chars p.now) l.pieces.items) ++ 37 ∷ chars l.left) (37 ∷ chars l.pattern);
   lacks : All (λ p. Lacks 37 (chars p.now)) l.pieces.items;
   left_utf8 : shadow (Utf8 l.left);
 }

@@ -5,19 +5,19 @@ use Rattle.std.proofs.lemmas.Bool.Decides.{nat_tests}
 use Rattle.std.proofs.lemmas.List.{length-map}
 use Rattle.dr_like.specs.Letters.{Lacks}
 use Rattle.dr_rowindex.specs.Orders.{Tell}
-use Rattle.dr_letters.specs.Pieces.{IsBehind, runs}
+use Rattle.dr_letters.specs.Pieces.{AreAlike, IsBehind, runs}
 use Rattle.dr_letters.specs.States.{left_fits, letters}
 use Rattle.dr_letters.proofs.StateLemmas.{letters-lacks, letters-run}
-use Rattle.dr_letters.proofs.PieceLemmas.{letters-at, letters-later, runs-at}
+use Rattle.dr_letters.proofs.PieceLemmas.{alike-tell, letters-at, letters-later, runs-at}
 use Rattle.dr_letters.proofs.letter_rows.LetterRows.fitting_run.Goals as goal
 
 differs : (n m : ℕ) → (n == m) ≡ false → n ≡ m → ⊥
 differs n m fails same = absurd (grind (arith, nat_tests, fails, same))
 
 -- the letters of a piece and of all behind it, where they end, and how many there are in all
-room : (pieces : List (List ℕ)) (more : List ℕ) (k end places : ℕ) (p : List ℕ) → runs pieces ≡ 37 ∷ more → k < length pieces → end + letters (runs (drop (k + 1) pieces)) ≡ places → letters (get_or pieces k p) ≡ length (get_or pieces k p)
+room : (pieces : List (List ℕ)) (more : List ℕ) (k end places : ℕ) (p : List ℕ) → AreAlike (runs pieces) (37 ∷ more) → k < length pieces → end + letters (runs (drop (k + 1) pieces)) ≡ places → letters (get_or pieces k p) ≡ length (get_or pieces k p)
     → length (get_or pieces k p) + places ≤ letters more + end
-room pieces more k end places p whole lt at lacks = omega (arith, at, lacks, letters-at pieces k p lt, letters-later pieces k, ap letters whole, letters-run more)
+room pieces more k end places p whole lt at lacks = omega (arith, at, lacks, letters-at pieces k p lt, letters-later pieces k, whole.letters, letters-run more)
 
 pub overflow_add-spares : goal.overflow_add-spares
 overflow_add-spares c = record { fits = omega (arith, c.place_count.ensures.few) }
@@ -102,10 +102,12 @@ returns c =
     let behind = runs (drop (0 + 1) all) in
     let spares = c.place_count.result - c.args.place - c.letter_count.result + 1 in
     let follows = subst (λ n. IsBehind (runs (drop (n + 1) all)) texts places c.loop-left.end spares c.loop-left.behind) first c.loop-left.invariant.told in
-    let whole : 37 ∷ chars p.now ++ behind ≡ 37 ∷ more = ap (λ q. 37 ∷ q ++ behind) (sym text) ∙ sym (runs-at all 0 (chars p.now) lt) ∙ c.in_ok-pieces.ensures.whole in
+    let alike = c.in_ok-pieces.ensures.whole in
+    let whole : 37 ∷ chars p.now ++ behind ≡ runs all = ap (λ q. 37 ∷ q ++ behind) (sym text) ∙ sym (runs-at all 0 (chars p.now) lt) in
     let last : (c.loop-left.end == c.place_count-2.result) ≡ false → 0 < letters behind = λ fails. omega (arith, follows.at, c.place_count-2.ensures.value, differs c.loop-left.end c.place_count-2.result fails) in
     let lacks = subst (Lacks 37) (sym text) c.in_ok-piece-2.ensures.lacks in
-    let counted : letters more ≡ length (chars p.now) + letters behind = omega (arith, ap letters c.in_ok-pieces.ensures.whole, letters-run more, letters-at all 0 (chars p.now) lt, letters-lacks (get_or all 0 (chars p.now)) lacks, ap length text) in
-    subst (λ q. Tell (left_fits places q c.args.place) texts c.in_ok-set.set) whole
+    let counted : letters more ≡ length (chars p.now) + letters behind = omega (arith, alike.letters, letters-run more, letters-at all 0 (chars p.now) lt, letters-lacks (get_or all 0 (chars p.now)) lacks, ap length text) in
+    alike-tell places c.args.place (runs all) (37 ∷ more) texts c.in_ok-set.set alike
+    (subst (λ q. Tell (left_fits places q c.args.place) texts c.in_ok-set.set) whole
     (c.in_ok-set.ensures (chars p.now) behind c.loop-left.end c.args.place (c.loop-left.end == c.place_count-2.result) c.in_ok-piece-2.ensures follows last
-    (omega (arith, counted, follows.at, c.in_ok-piece-2.ensures.from, c.requires, c.place_count.ensures.value, c.letter_count.ensures)))
+    (omega (arith, counted, follows.at, c.in_ok-piece-2.ensures.from, c.requires, c.place_count.ensures.value, c.letter_count.ensures))))
