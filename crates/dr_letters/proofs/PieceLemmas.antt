@@ -1,8 +1,8 @@
 -- Patterns by their pieces.
 use Rattle.std.proofs.Common.{◌≡◌, ◌∙◌, sym, refl, ap, ℕ, zero, suc, ◌+◌, ◌-◌, ◌<◌, ◌≤◌, ◌==◌, ◌&&◌, ◌||◌, Bool, true, false, List, [], ◌∷◌, ◌++◌, length, get_or, take, drop, map, replicate, arith}
 use Rattle.std.specs.Str.{chars}
-use Rattle.std.proofs.lemmas.List.{length-replicate, get_or-replicate, take_more, append_assoc, append-nil}
-use Rattle.dr_like.specs.Like.{fits, letter_fits, first_and_rest}
+use Rattle.std.proofs.lemmas.List.{length-drop, length-replicate, get_or-replicate, take_more, append_assoc, append-nil}
+use Rattle.dr_like.specs.Like.{fits, is_empty, letter_fits, first_and_rest}
 use Rattle.dr_like.proofs.Runs.{same_behind, two_runs}
 use Rattle.dr_rowindex.specs.Orders.{Tell}
 use Rattle.dr_rowindex.specs.Truths.{Joined}
@@ -10,7 +10,7 @@ use Rattle.dr_letters.specs.declared.asked_letter.AskedLetter.{AskedLetter}
 use Rattle.dr_letters.specs.Codes.{Keeps}
 use Rattle.dr_letters.specs.States.{fits_from, is_short, left_fits, letters}
 use Rattle.dr_letters.specs.declared.piece.Piece.{Piece}
-use Rattle.dr_letters.specs.Pieces.{asks, asks_each, AreAlike, AreAsked, Gains, IsPiece, Meets, runs}
+use Rattle.dr_letters.specs.Pieces.{asks, asks_each, AreAlike, AreAsked, Gains, IsPiece, Meets, MeetsTwo, runs}
 use Rattle.dr_letters.proofs.StateLemmas.{letter_before, gap_before, letters-append, tell-alike}
 
 and_true : (b : Bool) → b ≡ (b && true)
@@ -20,6 +20,10 @@ and_true false = refl
 and_never : (b : Bool) → (b && false) ≡ false
 and_never true = refl
 and_never false = refl
+
+or_false : (b : Bool) → b ≡ (b || false)
+or_false true = refl
+or_false false = refl
 
 grouped : (a b c : Bool) → ((a && b) && c) ≡ (a && (b && c))
 grouped true b c = refl
@@ -120,72 +124,112 @@ gains-none test texts behind before fails = record {
   count = refl;
   each = λ i t lt. or_false (get_or before i false) ∙ ap (λ b. get_or before i false || b) (sym (ap (λ b. get_or behind i false && b) (fails i t lt) ∙ and_never (get_or behind i false)));
 }
+
+pub gains-behind-none : (test : List ℕ → Bool) (texts : List (List ℕ)) (behind before : List Bool) → ((i : ℕ) → get_or behind i false ≡ false) → Gains test texts behind before before
+gains-behind-none test texts behind before none = record {
+  count = refl;
+  each = λ i t lt. or_false (get_or before i false) ∙ ap (λ b. get_or before i false || (b && test (get_or texts i t))) (sym (none i));
+}
+
+-- the first letters, and those behind them
+pub asks-apart : (spare : ℕ) (asked : List AskedLetter) (k : ℕ) (text : List ℕ) → asks_each spare asked text ≡ (asks_each spare (take k asked) text && asks_each spare (drop k asked) text)
+asks-apart spare asked zero text = refl
+asks-apart spare [] (suc k) text = refl
+asks-apart spare (a ∷ asked) (suc k) text = ap (λ b. asks spare a text && b) (asks-apart spare asked k text) ∙ sym (grouped (asks spare a text) (asks_each spare (take k asked) text) (asks_each spare (drop k asked) text))
+
+take_all : (asked : List AskedLetter) (n : ℕ) → length asked ≤ n → take n asked ≡ asked
+take_all [] zero le = refl
+take_all [] (suc n) le = refl
+take_all (a ∷ asked) zero le = absurd (omega (arith, le))
+take_all (a ∷ asked) (suc n) le = ap (λ l. a ∷ l) (take_all asked n (omega (arith, le)))
+
+-- the letters from a place on
+pub those-behind : (asked : List AskedLetter) (k : ℕ) → take (length asked - k) (drop k asked) ≡ drop k asked
+those-behind asked k = take_all (drop k asked) (length asked - k) (omega (arith, length-drop k asked))
+
+pub gains-later : (spare : ℕ) (asked : List AskedLetter) (k : ℕ) (texts : List (List ℕ)) (behind set before after : List Bool) → Keeps (asks_each spare (take k asked)) texts behind set
+    → Gains (asks_each spare (drop k asked)) texts set before after → Gains (asks_each spare asked) texts behind before after
+gains-later spare asked k texts behind set before after keeps gains = record {
+  count = gains.count;
+  each = λ i t lt.
+      let x = get_or texts i t in
+      gains.each i t lt ∙ ap (λ b. get_or before i false || (b && asks_each spare (drop k asked) x)) (keeps.each i t lt)
+      ∙ ap (λ b. get_or before i false || b) (grouped (get_or behind i false) (asks_each spare (take k asked) x) (asks_each spare (drop k asked) x) ∙ ap (λ b. get_or behind i false && b) (sym (asks-apart spare asked k x)));
+}
+
+-- ---- few letters
+
+-- one or two
+pub asks-two : (spare : ℕ) (asked : List AskedLetter) (x : AskedLetter) (text : List ℕ) → 0 < length asked → length asked ≤ 2
+    → asks_each spare asked text ≡ (asks spare (get_or asked 0 x) text && asks spare (get_or asked (length asked - 1) x) text)
+asks-two spare [] x text some few = absurd (omega (arith, some))
+asks-two spare (p ∷ []) x text some few = same (asks spare p text)
   where
-    or_false : (b : Bool) → b ≡ (b || false)
-    or_false true = refl
-    or_false false = refl
-
--- ---- one to four letters
-
-abbrev pub four : (spare : ℕ) (letters_asked : List AskedLetter) (x : AskedLetter) (j k l : ℕ) (text : List ℕ) → Bool
-four spare letters_asked x j k l text = ((asks spare (get_or letters_asked 0 x) text && asks spare (get_or letters_asked j x) text) && asks spare (get_or letters_asked k x) text) && asks spare (get_or letters_asked l x) text
-
-placed : (spare : ℕ) (letters_asked : List AskedLetter) (x : AskedLetter) (second third fourth : ℕ) (text : List ℕ) (j k l : ℕ) → second ≡ j → third ≡ k → fourth ≡ l
-    → four spare letters_asked x j k l text ≡ four spare letters_asked x second third fourth text
-placed spare letters_asked x second third fourth text j k l is is' is'' =
-    ap (λ n. four spare letters_asked x n k l text) (sym is) ∙ ap (λ n. four spare letters_asked x second n l text) (sym is') ∙ ap (λ n. four spare letters_asked x second third n text) (sym is'')
-
--- the first stands for those that there aren't
-pub asks-few : (spare : ℕ) (letters_asked : List AskedLetter) (x : AskedLetter) (second third fourth : ℕ) (text : List ℕ) → 0 < length letters_asked → length letters_asked ≤ 4
-    → (1 < length letters_asked → second ≡ 1) → (length letters_asked ≤ 1 → second ≡ 0) → (2 < length letters_asked → third ≡ 2) → (length letters_asked ≤ 2 → third ≡ 0)
-    → (3 < length letters_asked → fourth ≡ 3) → (length letters_asked ≤ 3 → fourth ≡ 0)
-    → asks_each spare letters_asked text ≡ four spare letters_asked x second third fourth text
-asks-few spare [] x second third fourth text some few a a' b b' c c' = absurd (omega (arith, some))
-asks-few spare (p ∷ []) x second third fourth text some few a a' b b' c c' = same (asks spare p text) ∙ placed spare (p ∷ []) x second third fourth text 0 0 0 (a' (omega arith)) (b' (omega arith)) (c' (omega arith))
-  where
-    same : (e : Bool) → (e && true) ≡ (((e && e) && e) && e)
+    same : (e : Bool) → (e && true) ≡ (e && e)
     same true = refl
     same false = refl
-asks-few spare (p ∷ q ∷ []) x second third fourth text some few a a' b b' c c' = same (asks spare p text) (asks spare q text) ∙ placed spare (p ∷ q ∷ []) x second third fourth text 1 0 0 (a (omega arith)) (b' (omega arith)) (c' (omega arith))
+asks-two spare (p ∷ q ∷ []) x text some few = ap (λ e. asks spare p text && e) (sym (and_true (asks spare q text)))
+asks-two spare (p ∷ q ∷ r ∷ more) x text some few = absurd (omega (arith, few))
+
+-- three or four
+pub asks-three : (spare : ℕ) (asked : List AskedLetter) (x : AskedLetter) (text : List ℕ) → 3 ≤ length asked → length asked ≤ 4
+    → asks_each spare asked text ≡ (((asks spare (get_or asked 0 x) text && asks spare (get_or asked 1 x) text) && asks spare (get_or asked 2 x) text) && asks spare (get_or asked (length asked - 1) x) text)
+asks-three spare [] x text some few = absurd (omega (arith, some))
+asks-three spare (p ∷ []) x text some few = absurd (omega (arith, some))
+asks-three spare (p ∷ q ∷ []) x text some few = absurd (omega (arith, some))
+asks-three spare (p ∷ q ∷ r ∷ []) x text some few = same (asks spare p text) (asks spare q text) (asks spare r text)
   where
-    same : (e f : Bool) → (e && (f && true)) ≡ (((e && f) && e) && e)
-    same true true = refl
-    same true false = refl
-    same false f = refl
-asks-few spare (p ∷ q ∷ r ∷ []) x second third fourth text some few a a' b b' c c' = same (asks spare p text) (asks spare q text) (asks spare r text) ∙ placed spare (p ∷ q ∷ r ∷ []) x second third fourth text 1 2 0 (a (omega arith)) (b (omega arith)) (c' (omega arith))
-  where
-    same : (e f g : Bool) → (e && (f && (g && true))) ≡ (((e && f) && g) && e)
+    same : (e f g : Bool) → (e && (f && (g && true))) ≡ (((e && f) && g) && g)
     same true true true = refl
     same true true false = refl
     same true false g = refl
     same false f g = refl
-asks-few spare (p ∷ q ∷ r ∷ s ∷ []) x second third fourth text some few a a' b b' c c' = same (asks spare p text) (asks spare q text) (asks spare r text) (asks spare s text) ∙ placed spare (p ∷ q ∷ r ∷ s ∷ []) x second third fourth text 1 2 3 (a (omega arith)) (b (omega arith)) (c (omega arith))
+asks-three spare (p ∷ q ∷ r ∷ s ∷ []) x text some few = same (asks spare p text) (asks spare q text) (asks spare r text) (asks spare s text)
   where
     same : (e f g h : Bool) → (e && (f && (g && (h && true)))) ≡ (((e && f) && g) && h)
-    same true true true h = and_false_free h
-      where
-        and_false_free : (y : Bool) → (y && true) ≡ y
-        and_false_free true = refl
-        and_false_free false = refl
+    same true true true true = refl
+    same true true true false = refl
     same true true false h = refl
     same true false g h = refl
     same false f g h = refl
-asks-few spare (p ∷ q ∷ r ∷ s ∷ t ∷ more) x second third fourth text some few a a' b b' c c' = absurd (omega (arith, few))
+asks-three spare (p ∷ q ∷ r ∷ s ∷ t ∷ more) x text some few = absurd (omega (arith, few))
 
--- the texts that have each of them are told of
-pub meets-few : (spare : ℕ) (letters_asked : List AskedLetter) (x : AskedLetter) (second third fourth : ℕ) (texts : List (List ℕ)) (a b c d : List Bool)
-    → ((text : List ℕ) → asks_each spare letters_asked text ≡ four spare letters_asked x second third fourth text)
-    → Tell (asks spare (get_or letters_asked 0 x)) texts a → Tell (asks spare (get_or letters_asked second x)) texts b → Tell (asks spare (get_or letters_asked third x)) texts c → Tell (asks spare (get_or letters_asked fourth x)) texts d
-    → Meets (asks_each spare letters_asked) texts a b c d
-meets-few spare letters_asked x second third fourth texts a b c d same in_a in_b in_c in_d = record {
+pub meets-two : (spare : ℕ) (asked : List AskedLetter) (x y : AskedLetter) (texts : List (List ℕ)) (a b : List Bool) → 0 < length asked → length asked ≤ 2
+    → x ≡ get_or asked 0 x → y ≡ get_or asked (length asked - 1) x → Tell (asks spare x) texts a → Tell (asks spare y) texts b → MeetsTwo (asks_each spare asked) texts a b
+meets-two spare asked x y texts a b some few is_x is_y in_a in_b = record {
+  counts = (in_a.count, in_b.count);
+  each = λ i t lt.
+      let z = get_or texts i t in
+      asks-two spare asked x z some few ∙ ap (λ k. asks spare k z && asks spare (get_or asked (length asked - 1) x) z) (sym is_x) ∙ ap (λ k. asks spare x z && asks spare k z) (sym is_y)
+      ∙ ap (λ e. e && asks spare y z) (sym (in_a.each i t lt)) ∙ ap (λ e. get_or a i false && e) (sym (in_b.each i t lt));
+}
+
+pub meets-four : (spare : ℕ) (asked : List AskedLetter) (x y z w : AskedLetter) (texts : List (List ℕ)) (a b c d : List Bool) → 3 ≤ length asked → length asked ≤ 4
+    → x ≡ get_or asked 0 x → y ≡ get_or asked 1 x → z ≡ get_or asked 2 x → w ≡ get_or asked (length asked - 1) x
+    → Tell (asks spare x) texts a → Tell (asks spare y) texts b → Tell (asks spare z) texts c → Tell (asks spare w) texts d → Meets (asks_each spare asked) texts a b c d
+meets-four spare asked x y z w texts a b c d some few is_x is_y is_z is_w in_a in_b in_c in_d = record {
   counts = (in_a.count, (in_b.count, (in_c.count, in_d.count)));
   each = λ i t lt.
-      let y = get_or texts i t in
-      let at : ℕ → Bool = λ k. asks spare (get_or letters_asked k x) y in
-      same y ∙ ap (λ e. ((e && at second) && at third) && at fourth) (sym (in_a.each i t lt))
-      ∙ ap (λ e. ((get_or a i false && e) && at third) && at fourth) (sym (in_b.each i t lt))
-      ∙ ap (λ e. ((get_or a i false && get_or b i false) && e) && at fourth) (sym (in_c.each i t lt))
+      let v = get_or texts i t in
+      let at : AskedLetter → Bool = λ k. asks spare k v in
+      asks-three spare asked x v some few
+      ∙ ap (λ k. ((at k && at (get_or asked 1 x)) && at (get_or asked 2 x)) && at (get_or asked (length asked - 1) x)) (sym is_x)
+      ∙ ap (λ k. ((at x && at k) && at (get_or asked 2 x)) && at (get_or asked (length asked - 1) x)) (sym is_y)
+      ∙ ap (λ k. ((at x && at y) && at k) && at (get_or asked (length asked - 1) x)) (sym is_z)
+      ∙ ap (λ k. ((at x && at y) && at z) && at k) (sym is_w)
+      ∙ ap (λ e. ((e && at y) && at z) && at w) (sym (in_a.each i t lt))
+      ∙ ap (λ e. ((get_or a i false && e) && at z) && at w) (sym (in_b.each i t lt))
+      ∙ ap (λ e. ((get_or a i false && get_or b i false) && e) && at w) (sym (in_c.each i t lt))
       ∙ ap (λ e. ((get_or a i false && get_or b i false) && get_or c i false) && e) (sym (in_d.each i t lt));
+}
+
+pub gains-two : (test : List ℕ → Bool) (texts : List (List ℕ)) (behind a b before after : List Bool) → MeetsTwo test texts a b → length before ≡ length texts → length after ≡ length before
+    → ((i : ℕ) → i < length before → get_or after i false ≡ (get_or before i false || ((get_or behind i false && get_or a i false) && get_or b i false)))
+    → Gains test texts behind before after
+gains-two test texts behind a b before after meets rows count each = record {
+  count = count;
+  each = λ i t lt. each i (omega (arith, lt, rows)) ∙ ap (λ e. get_or before i false || e) (grouped (get_or behind i false) (get_or a i false) (get_or b i false)
+      ∙ ap (λ e. get_or behind i false && e) (sym (meets.each i t lt)));
 }
 
 pub gains-met : (test : List ℕ → Bool) (texts : List (List ℕ)) (behind a b c d before after : List Bool) → Meets test texts a b c d → length before ≡ length texts → length after ≡ length before
@@ -265,6 +309,10 @@ letters-later (q ∷ pieces) (suc k) = let rest = letters-later pieces k in omeg
 pub letters-at : (pieces : List (List ℕ)) (k : ℕ) (p : List ℕ) → k < length pieces → letters (runs (drop k pieces)) ≡ letters (get_or pieces k p) + letters (runs (drop (k + 1) pieces))
 letters-at pieces k p lt = ap letters (runs-at pieces k p lt) ∙ letters-append (get_or pieces k p) (runs (drop (k + 1) pieces))
 
+pub some-letters : (cs : List ℕ) → is_empty cs ≡ false → 0 < length cs
+some-letters [] some = absurd (cc some)
+some-letters (c ∷ cs) some = omega arith
+
 -- ---- patterns that fit the same
 
 pub alike-same : (p q : List ℕ) → p ≡ q → AreAlike p q
@@ -283,14 +331,6 @@ alike-run start pattern = record {
 pub alike-tell : (places place : ℕ) (some others : List ℕ) (texts : List (List ℕ)) (told : List Bool) → AreAlike some others → Tell (left_fits places some place) texts told → Tell (left_fits places others place) texts told
 alike-tell places place some others texts told alike was =
     tell-alike (left_fits places some place) (left_fits places others place) texts told (λ t. ap (λ b. is_short places t && b) (alike.fits (drop place (chars t)))) was
-
--- ---- behind the last piece there is nothing
-
-pub runs-end : (pieces : List (List ℕ)) (k : ℕ) → length pieces ≤ k → runs (drop k pieces) ≡ []
-runs-end [] zero le = refl
-runs-end [] (suc k) le = refl
-runs-end (q ∷ pieces) zero le = absurd (omega (arith, le))
-runs-end (q ∷ pieces) (suc k) le = runs-end pieces k (omega (arith, le))
 
 -- ---- a start
 

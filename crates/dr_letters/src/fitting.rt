@@ -5,9 +5,9 @@ ghost use Rattle.dr_like.specs.Letters.{Lacks};
 ghost use Rattle.dr_rowindex.specs.Orders.{Tell};
 ghost use Rattle.dr_letters.specs.States.{fits_from, left_fits};
 
+use crate::counting::letter_count;
 use crate::letter_rows::LetterRows;
 use crate::piece::Piece;
-use crate::pieces::letter_count;
 use crate::reading::is_ended;
 use dr_like::split_at_letter;
 use dr_rowindex::RowSet;

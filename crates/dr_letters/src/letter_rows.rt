@@ -1,11 +1,10 @@
-ghost use Rattle.std.specs.Prelude.{◌≡◌, ◌<◌, ◌≤◌, ◌+◌, ◌-◌, ◌&&◌, Bool, true, false, ℕ, List, length, get_or, take, drop, map, IfOk, IfSome, OnOk};
+ghost use Rattle.std.specs.Prelude.{◌≡◌, ◌<◌, ◌≤◌, ◌&&◌, true, false, ℕ, List, length, get_or, drop, map, IfOk, IfSome, OnOk};
 ghost use Rattle.std.specs.List.{All};
 ghost use Rattle.std.specs.Str.{chars};
 ghost use Rattle.dr_like.specs.Like.{fits as fits_of, is_empty, first_and_rest, letter_fits};
 ghost use Rattle.dr_rowindex.specs.Orders.{Tell};
 ghost use Rattle.dr_letters.specs.Codes.{Keeps};
-ghost use Rattle.dr_letters.specs.declared.asked_letter.AskedLetter.{AskedLetter};
-ghost use Rattle.dr_letters.specs.Pieces.{IsWithin, Gains, Meets, asks, asks_each};
+ghost use Rattle.dr_letters.specs.Pieces.{IsWithin, asks, asks_each};
 ghost use Rattle.dr_letters.specs.Places.{ArePlaces};
 ghost use Rattle.dr_letters.specs.States.{AreLong, is_short};
 
@@ -75,120 +74,8 @@ impl<'a> LetterRows<'a> {
         self.places.len()
     }
 
-    // Adds those of some texts that have each of some letters of a pattern where it is asked while so many places are to spare. What is in
-    // the set that is lent for it isn't asked.
-    pub(crate) fn insert_asked(
-        &self,
-        letters: &[AskedLetter],
-        spare: usize,
-        behind: &RowSet,
-        set: &mut RowSet,
-        found: &mut RowSet,
-    )
-        requires places { All (λ a. IsWithin spare self.now.1 a) letters.now }
-        requires behind { length behind.now ≡ length self.now.0 }
-        requires set { length set.old ≡ length self.now.0 }
-        requires found { length found.old ≡ length self.now.0 }
-        ensures set { length set.new ≡ length self.now.0 }
-        ensures found { Gains (asks_each spare letters.now) self.now.0 behind.now found.old found.new }
-    {
-        if !self.may_have_each(letters, spare) {
-            return;
-        }
-        match self.few(letters, spare) {
-            Some((a, b, c, d)) => {
-                found.or_and_four(behind, a, b, c, d);
-            }
-            None => {
-                set.copy_from(behind);
-                self.keep_each(letters, spare, set);
-                found.or(set);
-            }
-        }
-    }
-
-    // The texts that have each of some letters, which are one to four, where these are kept: of fewer than four the first stands for others.
-    fn few(
-        &self,
-        letters: &[AskedLetter],
-        spare: usize,
-    ) -> Option<(&RowSet, &RowSet, &RowSet, &RowSet)>
-        requires { All (λ a. IsWithin spare self.now.1 a) letters.now }
-        ensures { IfSome result (λ r. Meets (asks_each spare letters.now) self.now.0 r.0.now r.1.now r.2.now r.3.now) }
-    {
-        let count = letters.len();
-        if count == 0 || count > 4 {
-            return None;
-        }
-        let a = self.texts_at(&letters[0], spare)?;
-        let b = self.texts_at(&letters[place_or_first(1, count)], spare)?;
-        let c = self.texts_at(&letters[place_or_first(2, count)], spare)?;
-        let d = self.texts_at(&letters[place_or_first(3, count)], spare)?;
-        Some((a, b, c, d))
-    }
-
-    // Keeps of some texts those that have each of some letters of a pattern where it is asked.
-    pub(crate) fn keep_each(&self, letters: &[AskedLetter], spare: usize, set: &mut RowSet)
-        requires places { All (λ a. IsWithin spare self.now.1 a) letters.now }
-        requires rows { length set.old ≡ length self.now.0 }
-        ensures { Keeps (asks_each spare letters.now) self.now.0 set.old set.new }
-    {
-        let mut k = 0;
-        while k < letters.len() {
-            if set.has_none() {
-                return;
-            }
-            k = self.keep_from(letters, k, spare, set);
-        }
-    }
-
-    // Keeps of some texts those that have the letter at a place among these, or it and the next three, which takes less time together.
-    // Answers the place behind.
-    fn keep_from(&self, letters: &[AskedLetter], k: usize, spare: usize, set: &mut RowSet) -> usize
-        requires some { k < length letters.now }
-        requires places { All (λ a. IsWithin spare self.now.1 a) letters.now }
-        requires rows { length set.old ≡ length self.now.0 }
-        ensures more { k < result }
-        ensures within { result ≤ length letters.now }
-        ensures kept { (before : List Bool) → Keeps (asks_each spare (take k letters.now)) self.now.0 before set.old → Keeps (asks_each spare (take result letters.now)) self.now.0 before set.new }
-    {
-        match self.four_from(letters, k, spare) {
-            Some((a, b, c, d)) => {
-                set.and_four(a, b, c, d);
-                k + 4
-            }
-            None => {
-                let asked = &letters[k];
-                self.keep(asked.place - spare, asked.letter, set);
-                k + 1
-            }
-        }
-    }
-
-    // The texts that have each of four letters from a place among these on, where these are kept.
-    fn four_from(
-        &self,
-        letters: &[AskedLetter],
-        k: usize,
-        spare: usize,
-    ) -> Option<(&RowSet, &RowSet, &RowSet, &RowSet)>
-        requires some { k < length letters.now }
-        requires places { All (λ a. IsWithin spare self.now.1 a) letters.now }
-        ensures within { IfSome result (λ r. k + 4 ≤ length letters.now) }
-        ensures told { IfSome result (λ r. (a : AskedLetter) → Tell (asks spare (get_or letters.now k a)) self.now.0 r.0.now × (Tell (asks spare (get_or letters.now (k + 1) a)) self.now.0 r.1.now × (Tell (asks spare (get_or letters.now (k + 2) a)) self.now.0 r.2.now × Tell (asks spare (get_or letters.now (k + 3) a)) self.now.0 r.3.now))) }
-    {
-        if letters.len() - k < 4 {
-            return None;
-        }
-        let a = self.texts_at(&letters[k], spare)?;
-        let b = self.texts_at(&letters[k + 1], spare)?;
-        let c = self.texts_at(&letters[k + 2], spare)?;
-        let d = self.texts_at(&letters[k + 3], spare)?;
-        Some((a, b, c, d))
-    }
-
     // The texts that have a letter where it is asked, where these are kept.
-    fn texts_at(&self, asked: &AskedLetter, spare: usize) -> Option<&RowSet>
+    pub(crate) fn texts_at(&self, asked: &AskedLetter, spare: usize) -> Option<&RowSet>
         requires { IsWithin spare self.now.1 asked.now }
         ensures { IfSome result (λ s. Tell (asks spare asked.now) self.now.0 s.now) }
     {
@@ -221,7 +108,7 @@ impl<'a> LetterRows<'a> {
     }
 
     // Keeps of some texts those that have a character at a place that fits a letter of a pattern.
-    fn keep(&self, place: usize, letter: char, set: &mut RowSet)
+    pub(crate) fn keep(&self, place: usize, letter: char, set: &mut RowSet)
         requires place { place < self.now.1 }
         requires rows { length set.old ≡ length self.now.0 }
         ensures { Keeps (λ t. first_and_rest (letter_fits letter) (λ more. true) (drop place (chars t))) self.now.0 set.old set.new }
@@ -268,14 +155,4 @@ impl<'a> LetterRows<'a> {
         }
         Ok(())
     }
-}
-
-// A place among so many, or the first where there are no more.
-fn place_or_first(place: usize, count: usize) -> usize
-    requires { 0 < count }
-    ensures within { result < count }
-    ensures there { place < count → result ≡ place }
-    ensures first { count ≤ place → result ≡ 0 }
-{
-    if place < count { place } else { 0 }
 }

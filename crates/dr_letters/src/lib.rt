@@ -3,8 +3,9 @@
 #![tactic(auto)]
 
 mod asked_letter;
-mod behind;
+mod asking;
 mod common_code;
+mod counting;
 mod fitting;
 mod letter_rows;
 mod piece;
@@ -13,6 +14,7 @@ mod place_letters;
 mod reading;
 mod rest;
 mod runs;
+mod sought_piece;
 mod text_letter;
 
 pub use letter_rows::LetterRows;

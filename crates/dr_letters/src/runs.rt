@@ -1,20 +1,22 @@
-ghost use Rattle.std.specs.Prelude.{◌≡◌, ◌<◌, ◌≤◌, ◌+◌, ◌++◌, ◌∷◌, false, Bool, ℕ, List, length, IfOk};
-ghost use Rattle.std.specs.List.{All};
+ghost use Rattle.std.specs.Prelude.{◌≡◌, ◌<◌, ◌≤◌, ◌++◌, ◌∷◌, ◌+◌, ℕ, List, length, map, IfOk};
+ghost use Rattle.std.specs.List.{All, AllByRecursion};
 ghost use Rattle.std.specs.Str.{chars};
+ghost use Rattle.dr_like.specs.Letters.{Lacks};
 ghost use Rattle.dr_rowindex.specs.Orders.{Tell};
-ghost use Rattle.dr_letters.specs.Pieces.{IsBehind, IsPiece, IsShaped};
+ghost use Rattle.dr_letters.specs.Pieces.{AreGained, AreLookedFor, AreReady, last_run, runs};
 ghost use Rattle.dr_letters.specs.States.{left_fits, letters};
 
-use crate::behind::Behind;
+use crate::counting::letter_count;
 use crate::letter_rows::LetterRows;
 use crate::piece::Piece;
-use crate::pieces::{letter_count, pieces_of};
+use crate::pieces::Pieces;
+use crate::sought_piece::SoughtPiece;
 use dr_rowindex::RowSet;
 use std::alloc::{AllocError, Global};
 
 impl<'a> LetterRows<'a> {
-    // Those that fit a run from a place on, and what follows it, of the texts that have no more characters than there are places. The
-    // pieces of what follows are put one before the other, from the last one on: how many places are to spare is the same for all.
+    // Those that fit a run from a place on, and what follows it, of the texts that have no more characters than there are places. All pieces
+    // of what follows are looked for while no place is to spare, while one is, and so on: how many are to spare is the same for all.
     pub(crate) fn fitting_run(
         &self,
         alloc: Global,
@@ -25,87 +27,67 @@ impl<'a> LetterRows<'a> {
         ensures { IfOk result (λ s. Tell (left_fits self.now.1 (37 ∷ chars more.now) place) self.now.0 s) }
     {
         let spares = self.place_count() - place - letter_count(more) + 1;
-        let pieces = pieces_of(alloc, more)?;
-        let mut behind = Behind::Nothing;
+        let parts = Pieces::of(alloc, more)?;
+        let mut pieces = self.sought(alloc, parts.texts.as_slice())?;
+        let mut set = RowSet::none(alloc, self.text_count())?;
+        for spare in 0..spares {
+            let behind = self.behind_all(parts.ends_with_run, self.place_count() - spare);
+            self.look_for(pieces.as_mut_slice(), spare, behind, &mut set);
+        }
+        match pieces.pop() {
+            Some(first) => Ok(first.found),
+            None => Ok(self.behind_all(parts.ends_with_run, place).copy(alloc)?),
+        }
+    }
+
+    // The pieces of a pattern from the last one on, which weren't looked for yet.
+    fn sought(&self, alloc: Global, texts: &[&str]) -> Result<Vec<SoughtPiece>, AllocError>
+        requires within { letters (runs (map (λ p. chars p.now) texts.now)) ≤ self.now.1 }
+        requires lacks { All (λ p. Lacks 37 (chars p.now)) texts.now }
+        requires some { All (λ p. 0 < length (chars p.now)) texts.now }
+        ensures { IfOk result (λ pieces. (last : List ℕ) → letters last ≡ 0 → AreLookedFor self.now.0 self.now.1 0 last (runs (map (λ p. chars p.now) texts.now) ++ last) pieces.items) }
+    {
+        let mut pieces = Vec::new(alloc);
         let mut end = self.place_count();
-        let mut left = pieces.len() - 1;
+        let mut left = texts.len();
         while left > 0 {
-            let piece = Piece::of(alloc, pieces[left], end, end == self.place_count())?;
-            behind = self.with_piece(alloc, &piece, spares, &behind)?;
-            end = piece.from;
             left -= 1;
+            let piece = Piece::of(alloc, texts[left], end, end == self.place_count())?;
+            end = piece.from;
+            let found = RowSet::none(alloc, self.text_count())?;
+            pieces.push(SoughtPiece { piece, found })?;
         }
-        let piece = Piece::of(alloc, pieces[0], end, end == self.place_count())?;
-        let set = self.fitting_piece(alloc, &piece, spares, &behind)?;
-        Ok(set)
+        Ok(pieces)
     }
 
-    // Puts a run and a piece before what follows.
-    fn with_piece(
-        &self,
-        alloc: Global,
-        piece: &Piece,
-        spares: usize,
-        behind: &Behind,
-    ) -> Result<Behind, AllocError>
-        requires from { piece.now.from ≤ self.now.1 }
-        requires spares { spares ≤ piece.now.from + 1 }
-        requires places { All (λ a. (piece.now.from ≤ a.place) × (a.place < self.now.1)) piece.now.letters.items }
-        requires shape { IsShaped (length self.now.0) spares behind.now }
-        ensures shape { IfOk result (IsShaped (length self.now.0) spares) }
-        ensures told { IfOk result (λ all. (text pattern : List ℕ) (end : ℕ) (is_last : Bool) → IsPiece text end is_last piece.now → IsBehind pattern self.now.0 self.now.1 end spares behind.now → (is_last ≡ false → 0 < letters pattern) → IsBehind (37 ∷ text ++ pattern) self.now.0 self.now.1 piece.now.from spares all) }
+    // The texts that fit what follows the last piece from a place on: a run, or nothing.
+    fn behind_all(&self, ends_with_run: bool, place: usize) -> &RowSet
+        requires { place ≤ self.now.1 }
+        ensures { Tell (left_fits self.now.1 (last_run ends_with_run) place) self.now.0 result.now }
     {
-        if piece.from == self.place_count() {
-            return Ok(Behind::Run);
+        if ends_with_run {
+            return self.short();
         }
-        let mut states = Vec::with_capacity(alloc, spares)?;
-        let mut set = RowSet::none(alloc, self.text_count())?;
-        let mut found = RowSet::none(alloc, self.text_count())?;
-        for spare in 0..spares {
-            let told = self.told_behind(behind, spare);
-            self.insert_asked(piece.letters.as_slice(), spare, told, &mut set, &mut found);
-            states.push(found.copy(alloc)?)?;
-        }
-        Ok(Behind::More(states))
+        self.ended(place)
     }
 
-    // The texts that fit a run, a piece and what follows it while one place less than so many is to spare.
-    fn fitting_piece(
-        &self,
-        alloc: Global,
-        piece: &Piece,
-        spares: usize,
-        behind: &Behind,
-    ) -> Result<RowSet, AllocError>
-        requires from { piece.now.from ≤ self.now.1 }
-        requires spares { spares ≤ piece.now.from + 1 }
-        requires places { All (λ a. (piece.now.from ≤ a.place) × (a.place < self.now.1)) piece.now.letters.items }
-        requires shape { IsShaped (length self.now.0) spares behind.now }
-        ensures { IfOk result (λ s. (text pattern : List ℕ) (end place : ℕ) (is_last : Bool) → IsPiece text end is_last piece.now → IsBehind pattern self.now.0 self.now.1 end spares behind.now → (is_last ≡ false → 0 < letters pattern) → place + spares ≡ piece.now.from + 1 → Tell (left_fits self.now.1 (37 ∷ text ++ pattern) place) self.now.0 s) }
+    // Looks for pieces while so many places are to spare: the first of these, among the texts that fit what follows it then, and so on.
+    fn look_for(&self, pieces: &mut [SoughtPiece], spare: usize, behind: &RowSet, set: &mut RowSet)
+        requires pieces { AllByRecursion (AreReady spare self.now.1 (length self.now.0)) pieces.old }
+        requires behind { length behind.now ≡ length self.now.0 }
+        requires set { length set.old ≡ length self.now.0 }
+        ensures set { length set.new ≡ length self.now.0 }
+        ensures gains { AreGained spare self.now.0 behind.now pieces.old pieces.new }
     {
-        if piece.from == self.place_count() {
-            return Ok(self.short().copy(alloc)?);
-        }
-        let mut set = RowSet::none(alloc, self.text_count())?;
-        let mut found = RowSet::none(alloc, self.text_count())?;
-        for spare in 0..spares {
-            let told = self.told_behind(behind, spare);
-            self.insert_asked(piece.letters.as_slice(), spare, told, &mut set, &mut found);
-        }
-        Ok(found)
-    }
-
-    // The texts that fit what follows a piece while so many places are to spare.
-    fn told_behind<'b>(&'b self, behind: &'b Behind, spare: usize) -> &'b RowSet
-        requires places { spare ≤ self.now.1 }
-        requires shape { IsShaped (length self.now.0) (spare + 1) behind.now }
-        ensures count { length result.now ≡ length self.now.0 }
-        ensures told { (pattern : List ℕ) (end place spares : ℕ) → IsBehind pattern self.now.0 self.now.1 end spares behind.now → spare < spares → place + spare ≡ end → Tell (left_fits self.now.1 pattern place) self.now.0 result.now }
-    {
-        match behind {
-            Behind::Nothing => self.ended(self.place_count() - spare),
-            Behind::Run => self.short(),
-            Behind::More(states) => &states[spare],
+        if let Some((piece, others)) = pieces.split_first_mut() {
+            self.insert_asked(
+                piece.piece.letters.as_slice(),
+                spare,
+                behind,
+                set,
+                &mut piece.found,
+            );
+            self.look_for(others, spare, &piece.found, set);
         }
     }
 }

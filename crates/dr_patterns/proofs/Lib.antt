@@ -4,3 +4,4 @@ pub mod Behind
 pub mod Ended
 pub mod Implied
 pub mod Literals
+pub mod RunLemmas

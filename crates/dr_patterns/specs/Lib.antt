@@ -3,4 +3,5 @@ pub mod Divided
 pub mod Each
 pub mod Fitting
 pub mod Literals
+pub mod Runs
 pub mod Sides

@@ -50,7 +50,7 @@ impl Apart {
     fn add_pattern(&mut self, alloc: Global, pattern: Text, holds: bool) -> Result<(), AllocError>
         ensures { OnOk result ((value : List ℕ) → apart_told self.new value ≡ (apart_told self.old value && told holds (fits_text pattern value))) }
     {
-        let joined = runs_joined(alloc, pattern)?;
+        let joined = runs_joined(alloc, pattern.as_str())?;
         if holds {
             self.add_fit(joined)
         } else {

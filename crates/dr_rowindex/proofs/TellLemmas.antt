@@ -136,3 +136,31 @@ tell-list test (r ∷ rs) told was =
 
 pub tell-same : {V : Type 0} → (f g : V → Bool) (rows : List V) (told : List Bool) → ((row : V) → f row ≡ g row) → Tell f rows told → Tell g rows told
 tell-same f g rows told same was = record { count = was.count; each = λ i row lt. was.each i row lt ∙ same (get_or rows i row) }
+
+-- ---- where none is left
+
+pub with-nothing : {V : Type 0} → (left whole : V → Bool) (rows : List V) (told : List Bool) → ((i : ℕ) → get_or told i false ≡ false) → TellWith (λ a b. a && b) left whole rows told → Tell whole rows told
+with-nothing left whole rows told none was = record {
+  count = was.count;
+  each = λ i row lt. none i ∙ sym (ap (λ x. x && left (get_or rows i row)) (none i)) ∙ was.each i row lt;
+}
+
+pub tell-all : {V : Type 0} → (left test : V → Bool) (rows : List V) (told all : List Bool) (n : ℕ) → ((i : ℕ) → get_or told i false ≡ false) → TellWith (λ a b. a && b) left (λ row. not (test row)) rows told
+    → all ≡ replicate n true → n ≡ length rows → Tell test rows all
+tell-all left test rows told all n none was is long = record {
+  count = ap length is ∙ length-replicate n true ∙ long;
+  each = λ i row lt.
+      let fails = with-nothing left (λ row. not (test row)) rows told none was in
+      ap (λ l. get_or l i false) is ∙ get_or-replicate n i true false (omega (arith, lt, long)) ∙ passes (test (get_or rows i row)) (sym (none i) ∙ fails.each i row lt);
+}
+  where
+    passes : (b : Bool) → false ≡ not b → true ≡ b
+    passes true fails = refl
+    passes false fails = sym fails
+
+pub tell-twice : {V : Type 0} → (test : V → Bool) (rows : List V) (all left after : List Bool) (n : ℕ) → all ≡ replicate n true → n ≡ length rows → Tell (λ row. not (test row)) rows left → Joined (λ a b. a && not b) left all after → Tell test rows after
+tell-twice test rows all left after n is long told joined = tell-same (λ row. not (not (test row))) test rows after (λ row. twice (test row)) (tell-not (λ row. not (test row)) rows all left after n is long told joined)
+  where
+    twice : (b : Bool) → not (not b) ≡ b
+    twice true = refl
+    twice false = refl

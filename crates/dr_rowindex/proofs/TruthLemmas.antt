@@ -185,3 +185,51 @@ sets-added self o a b c d ws ows aws bws cws dws after n ne na nb nc nd is iso i
     ∙ bit-or (get_or ws (i / 64) 0) (met ows aws bws cws dws (i / 64)) (i % 64)
     ∙ ap (λ x. x || has_bit (met ows aws bws cws dws (i / 64)) (i % 64)) (bit_seen self ws n n i is refl lt')
     ∙ ap (λ x. get_or self i false || x) (met_seen o a b c d ows aws bws cws dws n ne na nb nc nd iso isa isb isc isd se sa sb sc sd i lt')
+
+-- ---- what three sets have together is added to a fourth
+
+abbrev pub added_three : (ws ows aws bws : List ℕ) → ℕ → ℕ
+added_three ws ows aws bws k = bit_or (get_or ws k 0) (bit_and (bit_and (get_or ows k 0) (get_or aws k 0)) (get_or bws k 0))
+
+pub added_three-same : (ws ows aws bws xs os as' bs after : List ℕ) → xs ≡ ws → os ≡ ows → as' ≡ aws → bs ≡ bws → ((k : ℕ) → k < length xs → get_or after k 0 ≡ added_three xs os as' bs k)
+    → (k : ℕ) → k < length ws → get_or after k 0 ≡ added_three ws ows aws bws k
+added_three-same ws ows aws bws xs os as' bs after x o a b each k lt =
+    each k (subst (λ l. k < length l) (sym x) lt) ∙ ap (λ l. added_three l os as' bs k) x ∙ ap (λ l. added_three ws l as' bs k) o ∙ ap (λ l. added_three ws ows l bs k) a ∙ ap (λ l. added_three ws ows aws l k) b
+
+pub three-added : (self o a b : List Bool) (ws ows aws bws after : List ℕ) (n ne na nb : ℕ) → truths ws n ≡ self
+    → truths ows ne ≡ o → truths aws na ≡ a → truths bws nb ≡ b → ne ≡ n → na ≡ n → nb ≡ n → length ws ≡ n / 64 + 1
+    → ((k : ℕ) → k < length ws → get_or after k 0 ≡ added_three ws ows aws bws k)
+    → (i : ℕ) → i < length self → get_or (truths after n) i false ≡ (get_or self i false || ((get_or o i false && get_or a i false) && get_or b i false))
+three-added self o a b ws ows aws bws after n ne na nb is iso isa isb se sa sb long each i lt =
+    let lt' : i < n = omega (arith, lt, sym (ap length is) ∙ length-truths ws n) in
+    let q = i / 64 in
+    let r = i % 64 in
+    let w0 = get_or ows q 0 in
+    let w1 = get_or aws q 0 in
+    let w2 = get_or bws q 0 in
+    truth-at after n i lt'
+    ∙ ap (λ w. has_bit w r) (each q (word-within n i (length ws) lt' long))
+    ∙ bit-or (get_or ws q 0) (bit_and (bit_and w0 w1) w2) r
+    ∙ ap (λ x. x || has_bit (bit_and (bit_and w0 w1) w2) r) (bit_seen self ws n n i is refl lt')
+    ∙ ap (λ x. get_or self i false || x) (bit-and (bit_and w0 w1) w2 r ∙ ap (λ x. x && has_bit w2 r) (bit-and w0 w1 r)
+    ∙ ap (λ x. (x && has_bit w1 r) && has_bit w2 r) (bit_seen o ows n ne i iso se lt')
+    ∙ ap (λ x. (get_or o i false && x) && has_bit w2 r) (bit_seen a aws n na i isa sa lt')
+    ∙ ap (λ x. (get_or o i false && get_or a i false) && x) (bit_seen b bws n nb i isb sb lt'))
+
+-- ---- what five sets have together is put for a sixth
+
+pub put-same : (ws ows aws bws cws dws xs os as' bs cs ds after : List ℕ) → xs ≡ ws → os ≡ ows → as' ≡ aws → bs ≡ bws → cs ≡ cws → ds ≡ dws → ((k : ℕ) → k < length xs → get_or after k 0 ≡ met os as' bs cs ds k)
+    → (k : ℕ) → k < length ws → get_or after k 0 ≡ met ows aws bws cws dws k
+put-same ws ows aws bws cws dws xs os as' bs cs ds after x o a b c d each k lt =
+    each k (subst (λ l. k < length l) (sym x) lt)
+    ∙ ap (λ l. met l as' bs cs ds k) o ∙ ap (λ l. met ows l bs cs ds k) a ∙ ap (λ l. met ows aws l cs ds k) b ∙ ap (λ l. met ows aws bws l ds k) c ∙ ap (λ l. met ows aws bws cws l k) d
+
+pub sets-put : (self o a b c d : List Bool) (ws ows aws bws cws dws after : List ℕ) (n ne na nb nc nd : ℕ) → truths ws n ≡ self
+    → truths ows ne ≡ o → truths aws na ≡ a → truths bws nb ≡ b → truths cws nc ≡ c → truths dws nd ≡ d → ne ≡ n → na ≡ n → nb ≡ n → nc ≡ n → nd ≡ n → length ws ≡ n / 64 + 1
+    → ((k : ℕ) → k < length ws → get_or after k 0 ≡ met ows aws bws cws dws k)
+    → (i : ℕ) → i < length self → get_or (truths after n) i false ≡ ((((get_or o i false && get_or a i false) && get_or b i false) && get_or c i false) && get_or d i false)
+sets-put self o a b c d ws ows aws bws cws dws after n ne na nb nc nd is iso isa isb isc isd se sa sb sc sd long each i lt =
+    let lt' : i < n = omega (arith, lt, sym (ap length is) ∙ length-truths ws n) in
+    truth-at after n i lt'
+    ∙ ap (λ w. has_bit w (i % 64)) (each (i / 64) (word-within n i (length ws) lt' long))
+    ∙ met_seen o a b c d ows aws bws cws dws n ne na nb nc nd iso isa isb isc isd se sa sb sc sd i lt'

@@ -76,3 +76,13 @@ none-added self o a b c d words count is zeros i lt =
     alone : (x : Bool) → x ≡ (x || false)
     alone true = refl
     alone false = refl
+
+pub none-added-two : (self o a b : List Bool) (words : List ℕ) (count : ℕ) → truths words count ≡ o → AreZero words
+    → (i : ℕ) → i < length self → get_or self i false ≡ (get_or self i false || ((get_or o i false && get_or a i false) && get_or b i false))
+none-added-two self o a b words count is zeros i lt =
+    let none : get_or o i false ≡ false = ap (λ l. get_or l i false) (sym is) ∙ zero-truth words count i zeros in
+    alone (get_or self i false) ∙ ap (λ x. get_or self i false || ((x && get_or a i false) && get_or b i false)) (sym none)
+  where
+    alone : (x : Bool) → x ≡ (x || false)
+    alone true = refl
+    alone false = refl

@@ -1,7 +1,10 @@
 ghost use Rattle.std.specs.Prelude.{◌≡◌, ◌<◌, ◌&&◌, ◌||◌, ℕ, Bool, true, false, not, length, get_or, set, replicate, IfOk};
 ghost use Rattle.dr_rowindex.specs.Truths.{Joined};
 
-use crate::words::{add_bits, add_bits_of_five, drop_bits, keep_bits, keep_bits_of_four};
+use crate::words::{
+    add_bits, add_bits_of_five, add_bits_of_three, drop_bits, keep_bits, keep_bits_of_four,
+    put_bits_of_five,
+};
 use dr_bits::{is_set, with_bit};
 use std::alloc::{AllocError, Global};
 use std::marker::Model;
@@ -75,6 +78,34 @@ impl RowSet {
         self.may_have = other.may_have;
     }
 
+    /// Has the rows of another set that are in each of four more in place of its own. It takes time by the rows, 64 at once, less than by
+    /// `copy_from` and `and_four`.
+    pub fn copy_from_and_four(
+        &mut self,
+        other: &RowSet,
+        one: &RowSet,
+        two: &RowSet,
+        three: &RowSet,
+        four: &RowSet,
+    )
+        requires other { length other.now ≡ length self.old }
+        requires one { length one.now ≡ length self.old }
+        requires two { length two.now ≡ length self.old }
+        requires three { length three.now ≡ length self.old }
+        requires four { length four.now ≡ length self.old }
+        ensures count { length self.new ≡ length self.old }
+        ensures each { (i : ℕ) → i < length self.old → get_or self.new i false ≡ ((((get_or other.now i false && get_or one.now i false) && get_or two.now i false) && get_or three.now i false) && get_or four.now i false) }
+    {
+        self.may_have = put_bits_of_five(
+            self.words.as_mut_slice(),
+            other.words.as_slice(),
+            one.words.as_slice(),
+            two.words.as_slice(),
+            three.words.as_slice(),
+            four.words.as_slice(),
+        );
+    }
+
     /// Puts a row into the set. It takes constant time.
     pub fn insert(&mut self, row: usize)
         requires { row < length self.old }
@@ -140,6 +171,25 @@ impl RowSet {
         if other.may_have {
             add_bits(self.words.as_mut_slice(), other.words.as_slice());
             self.may_have = true;
+        }
+    }
+
+    /// Adds the rows of another set that are in each of two more. It takes time by the rows, 64 at once, less than by `and` and `or`, and
+    /// constant time where `and`, `and_four` or `and_not` left none in the first of these.
+    pub fn or_and_two(&mut self, other: &RowSet, one: &RowSet, two: &RowSet)
+        requires other { length other.now ≡ length self.old }
+        requires one { length one.now ≡ length self.old }
+        requires two { length two.now ≡ length self.old }
+        ensures count { length self.new ≡ length self.old }
+        ensures each { (i : ℕ) → i < length self.old → get_or self.new i false ≡ (get_or self.old i false || ((get_or other.now i false && get_or one.now i false) && get_or two.now i false)) }
+    {
+        if other.may_have {
+            self.may_have = add_bits_of_three(
+                self.words.as_mut_slice(),
+                other.words.as_slice(),
+                one.words.as_slice(),
+                two.words.as_slice(),
+            );
         }
     }
 

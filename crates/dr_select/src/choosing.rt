@@ -110,27 +110,35 @@ fn met(alloc: Global, filter: &FilterTree, lot: &Lot<'_>) -> Result<RowSet, Allo
     }
 }
 
-// The rows that meet all of some filters.
+// The rows that meet all of some filters. Once no row is left, no more are asked.
 #[cycle(choosing)]
 fn met_by_every(alloc: Global, filters: &[FilterTree], lot: &Lot<'_>) -> Result<RowSet, AllocError>
     ensures { IfOk result (λ s. Tell (λ row. every_matches row.time row.dims.now (conditions_in filters.now)) lot.now.rows.now s) }
 {
     let mut set = RowSet::all(alloc, lot.rows.len())?;
     for filter in filters {
+        if set.has_none() {
+            return Ok(set);
+        }
         set.and(&met(alloc, filter, lot)?);
     }
     Ok(set)
 }
 
-// The rows that meet one of some filters.
+// The rows that meet one of some filters. Once each row does, no more are asked.
 #[cycle(choosing)]
 fn met_by_some(alloc: Global, filters: &[FilterTree], lot: &Lot<'_>) -> Result<RowSet, AllocError>
     ensures { IfOk result (λ s. Tell (λ row. some_matches row.time row.dims.now (conditions_in filters.now)) lot.now.rows.now s) }
 {
-    let mut set = RowSet::none(alloc, lot.rows.len())?;
+    let mut left = RowSet::all(alloc, lot.rows.len())?;
     for filter in filters {
-        set.or(&met(alloc, filter, lot)?);
+        if left.has_none() {
+            return Ok(RowSet::all(alloc, lot.rows.len())?);
+        }
+        left.and_not(&met(alloc, filter, lot)?);
     }
+    let mut set = RowSet::all(alloc, lot.rows.len())?;
+    set.and_not(&left);
     Ok(set)
 }
 

@@ -66,7 +66,7 @@ const JOINED: [(&str, &str); 9] = [
 // Which place in the list is told otherwise, the length of the list where none is.
 fn first_other_joined(alloc: Global) -> Result<usize, AllocError> {
     for (place, (pattern, expected)) in JOINED.iter().enumerate() {
-        let joined = runs_joined(alloc, Text::from_str(alloc, pattern)?)?;
+        let joined = runs_joined(alloc, pattern)?;
         if joined.as_str() != *expected {
             return Ok(place);
         }

@@ -91,6 +91,25 @@ fn add_met(set: &mut RowSet, other: &RowSet, a: &RowSet, b: &RowSet, c: &RowSet,
     }
 }
 
+// Adds the rows of another set of as many rows that are in each of two more.
+fn add_met_by_two(set: &mut RowSet, other: &RowSet, a: &RowSet, b: &RowSet) {
+    if are_as_many(set, other) && are_as_many(set, a) && are_as_many(set, b) {
+        set.or_and_two(other, a, b);
+    }
+}
+
+// Has the rows of another set of as many rows that are in each of four more.
+fn put_met(set: &mut RowSet, other: &RowSet, a: &RowSet, b: &RowSet, c: &RowSet, d: &RowSet) {
+    if are_as_many(set, other)
+        && are_as_many(set, a)
+        && are_as_many(set, b)
+        && are_as_many(set, c)
+        && are_as_many(set, d)
+    {
+        set.copy_from_and_four(other, a, b, c, d);
+    }
+}
+
 #[test]
 fn five_sets_are_met_at_once(rt: HostRuntime) -> Result<(), Fail> {
     let a = row_set_of(rt.alloc(), &[1, 63, 64, 129])?;
@@ -110,6 +129,27 @@ fn five_sets_are_met_at_once(rt: HostRuntime) -> Result<(), Fail> {
     assert!(rt; are_rows(&set, &[]) && set.has_none());
     add_met(&mut found, &set, &a, &b, &c, &d);
     assert!(rt; are_rows(&found, &[1, 7, 64, 129]));
+    put_met(&mut set, &b, &a, &c, &d, &found);
+    assert!(rt; are_rows(&set, &[1, 64, 129]) && !set.has_none());
+    put_met(&mut set, &b, &a, &c, &d, &none);
+    assert!(rt; are_rows(&set, &[]) && set.has_none());
+    Ok(())
+}
+
+#[test]
+fn three_sets_are_met_at_once(rt: HostRuntime) -> Result<(), Fail> {
+    let a = row_set_of(rt.alloc(), &[1, 63, 64, 129])?;
+    let b = row_set_of(rt.alloc(), &[1, 2, 64, 128])?;
+    let other = row_set_of(rt.alloc(), &[0, 1, 63, 64, 128])?;
+    let mut found = row_set_of(rt.alloc(), &[7])?;
+    add_met_by_two(&mut found, &other, &a, &b);
+    assert!(rt; are_rows(&found, &[1, 7, 64]) && !found.has_none());
+    let none = RowSet::none(rt.alloc(), 130)?;
+    add_met_by_two(&mut found, &none, &a, &b);
+    assert!(rt; are_rows(&found, &[1, 7, 64]));
+    let mut empty = RowSet::none(rt.alloc(), 130)?;
+    add_met_by_two(&mut empty, &other, &none, &b);
+    assert!(rt; are_rows(&empty, &[]) && empty.has_none());
     Ok(())
 }
 

@@ -1,113 +1,82 @@
-use Rattle.std.proofs.Common.{◌≡◌, ◌∙◌, ap, sym, subst, ℕ, List, ◌+◌, ◌-◌, ◌≤◌, ◌<◌, ◌∷◌, ◌++◌, ◌==◌, false, length, get_or, drop, map, arith}
+use Rattle.std.proofs.Common.{◌≡◌, ◌∙◌, sym, ap, subst, ℕ, [], ◌∷◌, ◌+◌, ◌-◌, ◌++◌, length, map, take, arith}
+use Rattle.std.specs.List.{AllByRecursion}
 use Rattle.std.specs.Str.{chars}
-use Rattle.std.proofs.Math.ListN.{get_or-map}
-use Rattle.std.proofs.lemmas.Bool.Decides.{nat_tests}
-use Rattle.std.proofs.lemmas.List.{length-map}
-use Rattle.dr_like.specs.Letters.{Lacks}
+use Rattle.std.proofs.lemmas.List.{with_items_is}
 use Rattle.dr_rowindex.specs.Orders.{Tell}
-use Rattle.dr_letters.specs.Pieces.{AreAlike, IsBehind, runs}
+use Rattle.dr_letters.specs.Pieces.{last_run, runs, AreGained, AreReady, AreSought}
 use Rattle.dr_letters.specs.States.{left_fits, letters}
-use Rattle.dr_letters.proofs.StateLemmas.{letters-lacks, letters-run}
-use Rattle.dr_letters.proofs.PieceLemmas.{alike-tell, letters-at, letters-later, runs-at}
+use Rattle.dr_letters.proofs.PieceLemmas.{alike-tell}
+use Rattle.dr_letters.proofs.RunLemmas.{all-more, all-ready, found-whole, gained-count, last-none, none-sought}
+use Rattle.dr_letters.proofs.StateLemmas.{letters-append, letters-run}
 use Rattle.dr_letters.proofs.letter_rows.LetterRows.fitting_run.Goals as goal
 
-differs : (n m : ℕ) → (n == m) ≡ false → n ≡ m → ⊥
-differs n m fails same = absurd (grind (arith, nat_tests, fails, same))
+pub sought-requires-clause-within : goal.sought-requires-clause-within
+sought-requires-clause-within c =
+    let parts = c.in_ok-parts.parts in
+    let all = runs (map (λ p. chars p.now) parts.texts.items) in
+    omega (arith, ap (λ l. letters (runs (map (λ p. chars p.now) l))) c.as_slice.ensures.value, c.in_ok-parts.ensures.whole.letters, letters-append all (last_run parts.ends_with_run), letters-run (chars c.args.more.now), c.requires)
 
--- the letters of a piece and of all behind it, where they end, and how many there are in all
-room : (pieces : List (List ℕ)) (more : List ℕ) (k end places : ℕ) (p : List ℕ) → AreAlike (runs pieces) (37 ∷ more) → k < length pieces → end + letters (runs (drop (k + 1) pieces)) ≡ places → letters (get_or pieces k p) ≡ length (get_or pieces k p)
-    → length (get_or pieces k p) + places ≤ letters more + end
-room pieces more k end places p whole lt at lacks = omega (arith, at, lacks, letters-at pieces k p lt, letters-later pieces k, whole.letters, letters-run more)
+pub look_for-requires-clause-pieces : goal.look_for-requires-clause-pieces
+look_for-requires-clause-pieces c =
+    let at = c.loop-spare in
+    let parts = c.in_ok-parts.parts in
+    let texts = c.args.self.now.0 in
+    let places = c.args.self.now.1 in
+    let was = at.invariant.sought in
+    subst (AllByRecursion (AreReady at.spare places (length texts))) (sym c.as_mut_slice.ensures.value)
+    (all-ready texts places at.spare (last_run parts.ends_with_run) was.parts at.pieces.items was.sought
+    (omega (arith, ap letters was.same, c.in_ok-parts.ensures.whole.letters, letters-run (chars c.args.more.now), c.requires, c.loop-spare-test.true, c.place_count.ensures.value, c.letter_count.ensures)))
 
-pub overflow_add-spares : goal.overflow_add-spares
-overflow_add-spares c = record { fits = omega (arith, c.place_count.ensures.few) }
-
-pub of-requires-clause-within : goal.of-requires-clause-within
-of-requires-clause-within c =
-    let pieces = c.in_ok-pieces.pieces.items in
-    let all = map (λ p. chars p.now) pieces in
-    let k = c.loop-left.left in
-    let p = c.index.result.now in
-    let text : get_or all k (chars p.now) ≡ chars p.now = get_or-map (λ p. chars p.now) pieces k p ∙ ap (λ p. chars p.now) (sym c.index.ensures) in
-    let lacks = subst (Lacks 37) (sym (get_or-map (λ p. chars p.now) pieces k p)) (c.in_ok-pieces.ensures.lacks k p c.loop-left.invariant.within) in
-    let fits = room all (chars c.args.more.now) k c.loop-left.end c.args.self.now.1 (chars p.now) c.in_ok-pieces.ensures.whole (omega (arith, c.loop-left.invariant.within, length-map pieces (λ p. chars p.now))) c.loop-left.invariant.told.at (letters-lacks (get_or all k (chars p.now)) lacks) in
-    omega (arith, fits, ap length text, c.requires)
-
-pub with_piece-requires-clause-spares : goal.with_piece-requires-clause-spares
-with_piece-requires-clause-spares c =
-    let pieces = c.in_ok-pieces.pieces.items in
-    let all = map (λ p. chars p.now) pieces in
-    let k = c.loop-left.left in
-    let p = c.index.result.now in
-    let text : get_or all k (chars p.now) ≡ chars p.now = get_or-map (λ p. chars p.now) pieces k p ∙ ap (λ p. chars p.now) (sym c.index.ensures) in
-    let lacks = subst (Lacks 37) (sym text) c.in_ok-piece.ensures.lacks in
-    let fits = room all (chars c.args.more.now) k c.loop-left.end c.args.self.now.1 (chars p.now) c.in_ok-pieces.ensures.whole (omega (arith, c.loop-left.invariant.within, length-map pieces (λ p. chars p.now))) c.loop-left.invariant.told.at (letters-lacks (get_or all k (chars p.now)) lacks) in
-    omega (arith, fits, ap length text, c.requires, c.in_ok-piece.ensures.from, c.place_count.ensures.value, c.letter_count.ensures)
-
-pub loop-left-preserved : goal.loop-left-preserved
-loop-left-preserved c =
-    let pieces = c.in_ok-pieces.pieces.items in
-    let all = map (λ p. chars p.now) pieces in
-    let k = c.loop-left.left in
-    let p = c.index.result.now in
-    let text : get_or all k (chars p.now) ≡ chars p.now = get_or-map (λ p. chars p.now) pieces k p ∙ ap (λ p. chars p.now) (sym c.index.ensures) in
-    let lt : k < length all = omega (arith, c.loop-left.invariant.within, length-map pieces (λ p. chars p.now)) in
-    let follows = c.loop-left.invariant.told in
-    let behind = runs (drop (k + 1) all) in
-    let back : k ≡ k - 1 + 1 = omega (arith, c.loop-left-test.true) in
-    let whole : 37 ∷ chars p.now ++ behind ≡ runs (drop (k - 1 + 1) all) = ap (λ q. 37 ∷ q ++ behind) (sym text) ∙ sym (runs-at all k (chars p.now) lt) ∙ ap (λ n. runs (drop n all)) back in
-    let last : (c.loop-left.end == c.place_count-in-loop-left.result) ≡ false → 0 < letters behind = λ fails. omega (arith, follows.at, c.place_count-in-loop-left.ensures.value, differs c.loop-left.end c.place_count-in-loop-left.result fails) in
+pub loop-spare-preserved : goal.loop-spare-preserved
+loop-spare-preserved c =
+    let at = c.loop-spare in
+    let last = last_run c.in_ok-parts.parts.ends_with_run in
+    let texts = c.args.self.now.0 in
+    let places = c.args.self.now.1 in
+    let was = at.invariant.sought in
+    let after = c.look_for.new.pieces in
+    let behind = c.behind_all-behind.result.now in
+    let gained = subst (λ l. AreGained at.spare texts behind l after) c.as_mut_slice.ensures.value c.look_for.ensures.gains in
+    let tells : (place : ℕ) → place + letters last + at.spare ≡ places → Tell (left_fits places last place) texts behind =
+    λ place here. subst (λ k. Tell (left_fits places last k) texts behind) (omega (arith, here, last-none c.in_ok-parts.parts.ends_with_run, c.place_count-in-loop-spare.ensures.value)) c.behind_all-behind.ensures in
     record {
-      within = omega (arith, c.loop-left.invariant.within);
-      shape = c.in_ok-behind.ensures.shape;
-      told = subst (λ q. IsBehind q c.args.self.now.0 c.args.self.now.1 c.in_ok-piece.piece.from (c.place_count.result - c.args.place - c.letter_count.result + 1) c.in_ok-behind.behind) whole
-          (c.in_ok-behind.ensures.told (chars p.now) behind c.loop-left.end (c.loop-left.end == c.place_count-in-loop-left.result) c.in_ok-piece.ensures follows last);
+      set = c.look_for.ensures.set;
+      sought = record {
+        parts = was.parts;
+        sought = subst (AreSought texts places (at.spare + 1) last was.parts) (sym (with_items_is at.pieces after (gained-count at.spare texts behind c.as_mut_slice.result.now after c.look_for.ensures.gains ∙ c.as_mut_slice.ensures.len)))
+            (all-more texts places at.spare last was.parts at.pieces.items after behind tells gained was.sought);
+        same = was.same;
+      };
     }
 
-pub of-requires-2-clause-within : goal.of-requires-2-clause-within
-of-requires-2-clause-within c =
-    let pieces = c.in_ok-pieces.pieces.items in
-    let all = map (λ p. chars p.now) pieces in
-    let p = c.index-2.result.now in
-    let first : c.loop-left.left ≡ 0 = omega (arith, c.loop-left-test.false) in
-    let text : get_or all 0 (chars p.now) ≡ chars p.now = get_or-map (λ p. chars p.now) pieces 0 p ∙ ap (λ p. chars p.now) (sym c.index-2.ensures) in
-    let lacks = subst (Lacks 37) (sym (get_or-map (λ p. chars p.now) pieces 0 p)) (c.in_ok-pieces.ensures.lacks 0 p c.in_ok-pieces.ensures.some) in
-    let at = subst (λ n. c.loop-left.end + letters (runs (drop (n + 1) all)) ≡ c.args.self.now.1) first c.loop-left.invariant.told.at in
-    let fits = room all (chars c.args.more.now) 0 c.loop-left.end c.args.self.now.1 (chars p.now) c.in_ok-pieces.ensures.whole (omega (arith, c.in_ok-pieces.ensures.some, length-map pieces (λ p. chars p.now))) at (letters-lacks (get_or all 0 (chars p.now)) lacks) in
-    omega (arith, fits, ap length text, c.requires)
-
-pub fitting_piece-requires-clause-spares : goal.fitting_piece-requires-clause-spares
-fitting_piece-requires-clause-spares c =
-    let pieces = c.in_ok-pieces.pieces.items in
-    let all = map (λ p. chars p.now) pieces in
-    let p = c.index-2.result.now in
-    let first : c.loop-left.left ≡ 0 = omega (arith, c.loop-left-test.false) in
-    let text : get_or all 0 (chars p.now) ≡ chars p.now = get_or-map (λ p. chars p.now) pieces 0 p ∙ ap (λ p. chars p.now) (sym c.index-2.ensures) in
-    let lacks = subst (Lacks 37) (sym text) c.in_ok-piece-2.ensures.lacks in
-    let at = subst (λ n. c.loop-left.end + letters (runs (drop (n + 1) all)) ≡ c.args.self.now.1) first c.loop-left.invariant.told.at in
-    let fits = room all (chars c.args.more.now) 0 c.loop-left.end c.args.self.now.1 (chars p.now) c.in_ok-pieces.ensures.whole (omega (arith, c.in_ok-pieces.ensures.some, length-map pieces (λ p. chars p.now))) at (letters-lacks (get_or all 0 (chars p.now)) lacks) in
-    omega (arith, fits, ap length text, c.requires, c.in_ok-piece-2.ensures.from, c.place_count.ensures.value, c.letter_count.ensures)
+pub returns-in-Some : goal.returns-in-Some
+returns-in-Some c =
+    let at = c.loop-spare in
+    let last = last_run c.in_ok-parts.parts.ends_with_run in
+    let texts = c.args.self.now.0 in
+    let places = c.args.self.now.1 in
+    let place = c.args.place in
+    let all = runs (map (λ p. chars p.now) c.in_ok-parts.parts.texts.items) ++ last in
+    let more = 37 ∷ chars c.args.more.now in
+    let was = at.invariant.sought in
+    let whole = c.in_ok-parts.ensures.whole in
+    alike-tell places place all more texts c.in-Some.first.found whole
+    (subst (λ l. Tell (left_fits places l place) texts c.in-Some.first.found) was.same
+    (found-whole texts places at.spare last was.parts c.pop.new.self.items c.in-Some.first (subst (AreSought texts places at.spare last was.parts) c.in-Some.ensures.items was.sought) place
+    (omega (arith, ap letters was.same, whole.letters, letters-run (chars c.args.more.now), c.requires, c.loop-spare-test.false, at.auto.spare-end, c.place_count.ensures.value, c.letter_count.ensures))))
 
 pub returns : goal.returns
 returns c =
-    let pieces = c.in_ok-pieces.pieces.items in
-    let all = map (λ p. chars p.now) pieces in
-    let more = chars c.args.more.now in
+    let at = c.loop-spare in
+    let last = last_run c.in_ok-parts.parts.ends_with_run in
     let texts = c.args.self.now.0 in
     let places = c.args.self.now.1 in
-    let p = c.index-2.result.now in
-    let first : c.loop-left.left ≡ 0 = omega (arith, c.loop-left-test.false) in
-    let text : get_or all 0 (chars p.now) ≡ chars p.now = get_or-map (λ p. chars p.now) pieces 0 p ∙ ap (λ p. chars p.now) (sym c.index-2.ensures) in
-    let lt : 0 < length all = omega (arith, c.in_ok-pieces.ensures.some, length-map pieces (λ p. chars p.now)) in
-    let behind = runs (drop (0 + 1) all) in
-    let spares = c.place_count.result - c.args.place - c.letter_count.result + 1 in
-    let follows = subst (λ n. IsBehind (runs (drop (n + 1) all)) texts places c.loop-left.end spares c.loop-left.behind) first c.loop-left.invariant.told in
-    let alike = c.in_ok-pieces.ensures.whole in
-    let whole : 37 ∷ chars p.now ++ behind ≡ runs all = ap (λ q. 37 ∷ q ++ behind) (sym text) ∙ sym (runs-at all 0 (chars p.now) lt) in
-    let last : (c.loop-left.end == c.place_count-2.result) ≡ false → 0 < letters behind = λ fails. omega (arith, follows.at, c.place_count-2.ensures.value, differs c.loop-left.end c.place_count-2.result fails) in
-    let lacks = subst (Lacks 37) (sym text) c.in_ok-piece-2.ensures.lacks in
-    let counted : letters more ≡ length (chars p.now) + letters behind = omega (arith, alike.letters, letters-run more, letters-at all 0 (chars p.now) lt, letters-lacks (get_or all 0 (chars p.now)) lacks, ap length text) in
-    alike-tell places c.args.place (runs all) (37 ∷ more) texts c.in_ok-set.set alike
-    (subst (λ q. Tell (left_fits places q c.args.place) texts c.in_ok-set.set) whole
-    (c.in_ok-set.ensures (chars p.now) behind c.loop-left.end c.args.place (c.loop-left.end == c.place_count-2.result) c.in_ok-piece-2.ensures follows last
-    (omega (arith, counted, follows.at, c.in_ok-piece-2.ensures.from, c.requires, c.place_count.ensures.value, c.letter_count.ensures))))
+    let place = c.args.place in
+    let all = runs (map (λ p. chars p.now) c.in_ok-parts.parts.texts.items) ++ last in
+    let more = 37 ∷ chars c.args.more.now in
+    let was = at.invariant.sought in
+    let none : at.pieces.items ≡ [] = c.in-None.ensures.items ∙ ap (λ l. l ++ []) (c.in-None.ensures.rest ∙ ap (λ n. take (n - 1) at.pieces.items) c.in-None.ensures.cases.0) in
+    let alone : last ≡ all = sym (none-sought texts places at.spare last was.parts (subst (AreSought texts places at.spare last was.parts) none was.sought)) ∙ was.same in
+    subst (Tell (left_fits places more place) texts) (sym c.in_ok-copy-in-None.ensures)
+    (alike-tell places place all more texts c.behind_all.result.now c.in_ok-parts.ensures.whole
+    (subst (λ l. Tell (left_fits places l place) texts c.behind_all.result.now) alone c.behind_all.ensures))

@@ -1,14 +1,10 @@
-use Rattle.std.proofs.Common.{◌<◌, ◌+◌, length, drop, map}
+use Rattle.std.proofs.Common.{◌≡◌, ◌++◌, length, map}
 use Rattle.std.specs.Str.{chars}
-use Rattle.dr_letters.specs.Pieces.{IsBehind, IsShaped, runs}
+use Rattle.dr_letters.specs.Pieces.{AreLookedFor, last_run, runs}
 use Rattle.dr_letters.proofs.letter_rows.LetterRows.fitting_run.Given as goal
 
-abbrev pub invariant-loop-left : goal.invariant-loop-left
-invariant-loop-left l = record {
-  within : l.left < length l.pieces.items;
-  shape : IsShaped (length l.self.0) l.spares l.behind;
-  told : IsBehind (runs (drop (l.left + 1) (map (λ p. chars p.now) l.pieces.items))) l.self.0 l.self.1 l.end l.spares l.behind;
+abbrev pub invariant-loop-spare : goal.invariant-loop-spare
+invariant-loop-spare l = record {
+  set : length l.set ≡ length l.self.0;
+  sought : AreLookedFor l.self.0 l.self.1 l.spare (last_run l.parts.ends_with_run) (runs (map (λ p. chars p.now) l.parts.texts.items) ++ last_run l.parts.ends_with_run) l.pieces.items;
 }
-
-abbrev pub decreases-loop-left : goal.decreases-loop-left
-decreases-loop-left l = l.left

@@ -1,0 +1,11 @@
+use Rattle.std.proofs.Common.{get_or}
+use Rattle.std.specs.Int.RustNames.{bit_and, bit_or}
+use Rattle.dr_rowindex.proofs.WordLemmas.{DoneTo}
+use Rattle.dr_rowindex.proofs.ZeroLemmas.{AreGathered}
+use Rattle.dr_rowindex.proofs.words.add_bits_of_three.Given as goal
+
+abbrev pub invariant-loop-k : goal.invariant-loop-k
+invariant-loop-k l = record {
+  done : DoneTo l.k (λ j. bit_or (get_or l.initial.words j 0) (bit_and (bit_and (get_or l.others j 0) (get_or l.a j 0)) (get_or l.b j 0))) l.initial.words l.words;
+  gathered : AreGathered l.k l.left l.words;
+}
