@@ -102,8 +102,8 @@ impl<'a> LetterRows<'a> {
         Some((a, b, c, d))
     }
 
-    // Puts those of some texts that have each of the first of some letters: of all but the last four at most, or of as many as leave any.
-    // Answers how many these first letters are.
+    // Puts those of some texts that have each of the first of some letters: all but the last four at most, or fewer where these leave no
+    // text. Answers how many these first letters are.
     fn put_front(
         &self,
         letters: &[AskedLetter],
@@ -124,8 +124,8 @@ impl<'a> LetterRows<'a> {
         k
     }
 
-    // Puts those of some texts that have each of the first four letters, where it is kept which have them, and else all of them. Answers of
-    // how many letters it puts them.
+    // Puts those of some texts that have each of the first four letters, where it is kept which texts have them, and else all. Answers how
+    // many letters were asked.
     fn put_first(
         &self,
         letters: &[AskedLetter],

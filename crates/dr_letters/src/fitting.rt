@@ -17,8 +17,8 @@ impl<'a> LetterRows<'a> {
     /// The texts that fit a pattern of `like` (Apache Druid documentation, query filters: like). The only error is that memory ran out.
     /// A letter of the pattern before its first `%` takes time by the texts, 64 at once, and that for each bit of a character where one text
     /// has the letter there, but not one in 64; each other one takes that as often as there are places where it may stand: one more than the
-    /// places are that the pattern has no letter for. The sets of texts for these take memory by a bit for each text. Where letters leave no
-    /// text, the next ones take no time, nor does a `_` that has another letter behind it; and nothing is asked at a place where a letter
+    /// places are that the pattern has no letter for. For each part behind a `%` it takes memory by a bit for each text. Where letters leave
+    /// no text, the next ones take no time, nor does a `_` that has another letter behind it; and nothing is asked at a place where a letter
     /// stands that no text has there. A text that has more characters than places are known is asked by itself, as by
     /// [`fits_soonest`](dr_places::fits_soonest), unless those that are known tell whether it fits: of a pattern without `%`, or with one at
     /// its end alone, that has no more letters than these.
