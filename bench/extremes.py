@@ -343,7 +343,7 @@ def likes_of_long_texts(begin, end, first="", letters=22, patterns=12000):
 
 def likes_of_common_letters(letters, asked, patterns, ones):
     """Patterns of a part, so many letters of which so many are asked, over texts of 300 letters that have each of them at many places: of
-    these so many in a hundred are a `1`."""
+    these so many in a hundred are a `1`. One row more fits none, so that each pattern is asked."""
     def letter(random):
         return "1" if random.randrange(100) < ones else "0"
 
@@ -358,13 +358,15 @@ def likes_of_common_letters(letters, asked, patterns, ones):
         yield spec()
         for it in range(n):
             yield event(BEGIN + it % DAY, "".join(letter(random) for _ in range(300)))
+        yield event(BEGIN, "2")
         asked_for = series(filter=one_of(*({"type": "like", "dimension": "page", "pattern": pattern(random)} for _ in range(patterns))))
         yield from (asked_for, f"seal {instant(1)}", f"publish {instant(1)} 0 1", asked_for)
     return lines
 
 
 def likes_of_parts(parts, letters, patterns):
-    """Patterns of so many parts, each of so many letters with a gap among them, over texts of 300 letters."""
+    """Patterns of so many parts, each of so many letters with a gap among them, over texts of 300 letters. One row more fits none, so that
+    each pattern is asked."""
     def part(random):
         inner = [random.choice("01") for _ in range(letters + 1)]
         inner[random.randrange(1, letters)] = "_"
@@ -375,6 +377,7 @@ def likes_of_parts(parts, letters, patterns):
         yield spec()
         for it in range(n):
             yield event(BEGIN + it % DAY, f"{random.getrandbits(300):0300b}")
+        yield event(BEGIN, "2")
         asked = series(filter=one_of(*({"type": "like", "dimension": "page", "pattern": "%" + "%".join(part(random) for _ in range(parts)) + "%"} for _ in range(patterns))))
         yield from (asked, f"seal {instant(1)}", f"publish {instant(1)} 0 1", asked)
     return lines
