@@ -8,7 +8,7 @@ use Rattle.dr_rowindex.specs.Orders.{Tell}
 use Rattle.dr_letters.specs.declared.piece.Piece.{Piece}
 use Rattle.dr_letters.specs.declared.sought_piece.SoughtPiece.{SoughtPiece}
 use Rattle.dr_letters.specs.States.{is_short, left_fits, letters}
-use Rattle.dr_letters.specs.Pieces.{asks_each, before, last_run, runs, AreGained, AreLookedFor, AreReady, AreSought, Gains, IsPiece, IsSought}
+use Rattle.dr_letters.specs.Pieces.{asks_each, before, last_run, runs, AreGained, AreLookedFor, AreSought, Gains, IsPiece, IsReady, IsSought}
 use Rattle.dr_letters.proofs.PieceLemmas.{letters-at, letters-later, runs-at}
 use Rattle.dr_letters.proofs.StateLemmas.{each_fits, run_before, left_too_few, letters-append, letters-lacks, letters-run}
 
@@ -106,7 +106,7 @@ module _ (texts : List (List ℕ)) (places : ℕ) where
 
   -- they can be looked for
   pub all-ready : (spare : ℕ) (pattern : List ℕ) (parts : List (List ℕ)) (ps : List SoughtPiece) → AreSought texts places spare pattern parts ps → spare + letters (before pattern parts) ≤ places
-      → AllByRecursion (AreReady spare places (length texts)) ps
+      → AllByRecursion (IsReady spare places (length texts)) ps
   all-ready spare pattern [] [] was room = tt
   all-ready spare pattern [] (p ∷ ps) was room = absurd was
   all-ready spare pattern (t ∷ ts) [] was room = absurd was

@@ -66,7 +66,7 @@ abbrev pub last_run : (ends_with_run : Bool) → List ℕ
 last_run ends_with_run = if ends_with_run then 37 ∷ [] else []
 
 -- a piece can be looked for while so many places are to spare
-pub record AreReady (spare places rows : ℕ) (p : SoughtPiece) : Type 0 where
+pub record IsReady (spare places rows : ℕ) (p : SoughtPiece) : Type 0 where
   pub count : length p.found ≡ rows
   pub within : All (λ (a : AskedLetter). IsWithin spare places a) p.piece.letters.items
 

@@ -3,7 +3,7 @@ ghost use Rattle.std.specs.List.{All, AllByRecursion};
 ghost use Rattle.std.specs.Str.{chars};
 ghost use Rattle.dr_like.specs.Letters.{Lacks};
 ghost use Rattle.dr_rowindex.specs.Orders.{Tell};
-ghost use Rattle.dr_letters.specs.Pieces.{AreGained, AreLookedFor, AreReady, last_run, runs};
+ghost use Rattle.dr_letters.specs.Pieces.{AreGained, AreLookedFor, IsReady, last_run, runs};
 ghost use Rattle.dr_letters.specs.States.{left_fits, letters};
 
 use crate::counting::letter_count;
@@ -73,7 +73,7 @@ impl<'a> LetterRows<'a> {
 
     // Looks for pieces while so many places are to spare: the first of these, among the texts that fit what follows it then, and so on.
     fn look_for(&self, pieces: &mut [SoughtPiece], spare: usize, behind: &RowSet, set: &mut RowSet)
-        requires pieces { AllByRecursion (AreReady spare self.now.1 (length self.now.0)) pieces.old }
+        requires pieces { AllByRecursion (IsReady spare self.now.1 (length self.now.0)) pieces.old }
         requires behind { length behind.now ≡ length self.now.0 }
         requires set { length set.old ≡ length self.now.0 }
         ensures set { length set.new ≡ length self.now.0 }

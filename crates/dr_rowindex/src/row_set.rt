@@ -130,8 +130,8 @@ impl RowSet {
         self.may_have |= told;
     }
 
-    /// Keeps the rows that are in another set too. It takes time by the rows, 64 at once, and constant time where `and` or `and_not` left
-    /// none before.
+    /// Keeps the rows that are in another set too. It takes time by the rows, 64 at once, and constant time where it is known that there are
+    /// none.
     pub fn and(&mut self, other: &RowSet)
         requires { length other.now ≡ length self.old }
         ensures { Joined (λ a b. a && b) other.now self.old self.new }
@@ -142,7 +142,7 @@ impl RowSet {
     }
 
     /// Keeps the rows that are in each of four other sets too. It takes time by the rows, 64 at once, less than by one after the other, and
-    /// constant time where `and`, `and_four` or `and_not` left none before.
+    /// constant time where it is known that there are none.
     pub fn and_four(&mut self, a: &RowSet, b: &RowSet, c: &RowSet, d: &RowSet)
         requires a { length a.now ≡ length self.old }
         requires b { length b.now ≡ length self.old }
@@ -162,8 +162,7 @@ impl RowSet {
         }
     }
 
-    /// Adds the rows of another set. It takes time by the rows, 64 at once, and constant time where `and`, `and_four` or `and_not` left none
-    /// in the other one.
+    /// Adds the rows of another set. It takes time by the rows, 64 at once, and constant time where it is known that the other one has none.
     pub fn or(&mut self, other: &RowSet)
         requires { length other.now ≡ length self.old }
         ensures { Joined (λ a b. a || b) other.now self.old self.new }
@@ -175,7 +174,7 @@ impl RowSet {
     }
 
     /// Adds the rows of another set that are in each of two more. It takes time by the rows, 64 at once, less than by `and` and `or`, and
-    /// constant time where `and`, `and_four` or `and_not` left none in the first of these.
+    /// constant time where it is known that the first of these has none.
     pub fn or_and_two(&mut self, other: &RowSet, one: &RowSet, two: &RowSet)
         requires other { length other.now ≡ length self.old }
         requires one { length one.now ≡ length self.old }
@@ -194,7 +193,7 @@ impl RowSet {
     }
 
     /// Adds the rows of another set that are in each of four more. It takes time by the rows, 64 at once, less than by `and_four` and `or`,
-    /// and constant time where `and`, `and_four` or `and_not` left none in the first of these.
+    /// and constant time where it is known that the first of these has none.
     pub fn or_and_four(
         &mut self,
         other: &RowSet,
@@ -223,8 +222,8 @@ impl RowSet {
         }
     }
 
-    /// Takes out the rows that are in another set. It takes time by the rows, 64 at once, and constant time where `and` or `and_not` left
-    /// none in one of the two.
+    /// Takes out the rows that are in another set. It takes time by the rows, 64 at once, and constant time where it is known that one of the
+    /// two has none.
     pub fn and_not(&mut self, other: &RowSet)
         requires { length other.now ≡ length self.old }
         ensures { Joined (λ a b. a && not b) other.now self.old self.new }
@@ -244,7 +243,9 @@ impl RowSet {
         is_set(self.words[row / 64], row % 64)
     }
 
-    /// Whether it is known that no row is in the set, since `and`, `and_four` or `and_not` left none. It takes constant time.
+    /// Whether it is known that no row is in the set: of one that was made by `none`, where no row was put in since, and where `and`,
+    /// `and_four`, `and_not`, `or_and_two`, `or_and_four` or `copy_from_and_four` left none; `copy` and `copy_from` know it where the other
+    /// one does. It takes constant time.
     pub fn has_none(&self) -> bool
         ensures { result ≡ true → (i : ℕ) → get_or self.now i false ≡ false }
     {

@@ -3,7 +3,7 @@ use Rattle.std.specs.List.{AllByRecursion}
 use Rattle.std.specs.Str.{chars}
 use Rattle.std.proofs.lemmas.List.{with_items_is}
 use Rattle.dr_rowindex.specs.Orders.{Tell}
-use Rattle.dr_letters.specs.Pieces.{last_run, runs, AreGained, AreReady, AreSought}
+use Rattle.dr_letters.specs.Pieces.{last_run, runs, AreGained, AreSought, IsReady}
 use Rattle.dr_letters.specs.States.{left_fits, letters}
 use Rattle.dr_letters.proofs.PieceLemmas.{alike-tell}
 use Rattle.dr_letters.proofs.RunLemmas.{all-more, all-ready, found-whole, gained-count, last-none, none-sought}
@@ -23,7 +23,7 @@ look_for-requires-clause-pieces c =
     let texts = c.args.self.now.0 in
     let places = c.args.self.now.1 in
     let was = at.invariant.sought in
-    subst (AllByRecursion (AreReady at.spare places (length texts))) (sym c.as_mut_slice.ensures.value)
+    subst (AllByRecursion (IsReady at.spare places (length texts))) (sym c.as_mut_slice.ensures.value)
     (all-ready texts places at.spare (last_run parts.ends_with_run) was.parts at.pieces.items was.sought
     (omega (arith, ap letters was.same, c.in_ok-parts.ensures.whole.letters, letters-run (chars c.args.more.now), c.requires, c.loop-spare-test.true, c.place_count.ensures.value, c.letter_count.ensures)))
 
