@@ -1,14 +1,16 @@
-ghost use Rattle.std.specs.Prelude.{◌≡◌, ◌≤◌, length, map, IfOk};
+ghost use Rattle.std.specs.Prelude.{◌≡◌, ◌≤◌, ◌&&◌, not, true, length, map, replicate, IfOk};
 ghost use Rattle.dr_predicate.specs.Match.{holds_of, passes};
 ghost use Rattle.dr_predicate.specs.declared.value_test.ValueTest.TheVariants.{Like};
 ghost use Rattle.dr_time.specs.Union.{union_holds};
 ghost use Rattle.dr_filter.specs.Condition.{condition_in, conditions_in, every_matches, some_matches};
 ghost use Rattle.dr_rowindex.specs.Orders.{Adds, Tell};
+ghost use Rattle.dr_rowindex.specs.Truths.{Joined};
 ghost use Rattle.dr_select.specs.Parts.{AddsPart};
 ghost use Rattle.dr_select.specs.Rows.{meets, value_of};
 
 use crate::asked_for::AskedFor;
 use crate::bounds::rows_at_once;
+use crate::by_row::{are_few, keep_every, keep_none};
 use crate::lot::Lot;
 use crate::passing::insert_passing;
 use dr_filter::{Filter, FilterTree};
@@ -19,6 +21,9 @@ use dr_rowindex::{NumberOrder, RowSet, asks_for_many};
 use dr_time::{Interval, Union};
 use std::alloc::{AllocError, Global};
 
+// Behind so many tests that are joined it is looked if few rows are left to be asked.
+const LOOKED_BEHIND: usize = 64;
+
 /// The rows that a filter keeps, each lent by its key. The only error is that memory ran out.
 ///
 /// The rows are put in the order of their values once for each dimension that [`Filter::asked`] asks for 8 times or more, and of their
@@ -27,6 +32,9 @@ use std::alloc::{AllocError, Global};
 /// once; where an `in` has more texts than a sixteenth of the rows, or ranges or intervals that are asked together are as many, each
 /// value that differs, or each time, is looked up among them. Of the other dimensions each row is asked by itself. Each `and`, `or` and
 /// `not` takes time by the rows, 64 at once.
+///
+/// Behind each 64th test that an `and` or an `or` joins it is looked if one row in 256 at most is left, which no test decided yet. Then each
+/// of these is asked the other tests by itself, up to the first that decides it.
 ///
 /// Where a dimension is asked by a pattern 8 times or more, the characters of its values are read, and a pattern takes what
 /// [`LetterRows::fitting`](dr_letters::LetterRows::fitting) does. For that 16,384 rows are asked at once, where it is one dimension, and
@@ -110,36 +118,59 @@ fn met(alloc: Global, filter: &FilterTree, lot: &Lot<'_>) -> Result<RowSet, Allo
     }
 }
 
-// The rows that meet all of some filters. Once no row is left, no more are asked.
+// The rows that meet all of some filters. Once no row is left, no more are asked, and few that are left are asked by themselves.
 #[cycle(choosing)]
 fn met_by_every(alloc: Global, filters: &[FilterTree], lot: &Lot<'_>) -> Result<RowSet, AllocError>
     ensures { IfOk result (λ s. Tell (λ row. every_matches row.time row.dims.now (conditions_in filters.now)) lot.now.rows.now s) }
 {
     let mut set = RowSet::all(alloc, lot.rows.len())?;
-    for filter in filters {
+    for k in 0..filters.len() {
         if set.has_none() {
             return Ok(set);
         }
-        set.and(&met(alloc, filter, lot)?);
+        if is_looked_at(k) && are_few(&set, lot.rows.len()) {
+            let kept = keep_every(alloc, &filters[k..], lot.rows, &set)?;
+            return Ok(kept);
+        }
+        set.and(&met(alloc, &filters[k], lot)?);
     }
     Ok(set)
 }
 
-// The rows that meet one of some filters. Once each row does, no more are asked.
+// The rows that meet one of some filters. Once each row does, no more are asked, and the others, where these are few, by themselves.
 #[cycle(choosing)]
 fn met_by_some(alloc: Global, filters: &[FilterTree], lot: &Lot<'_>) -> Result<RowSet, AllocError>
     ensures { IfOk result (λ s. Tell (λ row. some_matches row.time row.dims.now (conditions_in filters.now)) lot.now.rows.now s) }
 {
     let mut left = RowSet::all(alloc, lot.rows.len())?;
-    for filter in filters {
+    for k in 0..filters.len() {
         if left.has_none() {
             return Ok(RowSet::all(alloc, lot.rows.len())?);
         }
-        left.and_not(&met(alloc, filter, lot)?);
+        if is_looked_at(k) && are_few(&left, lot.rows.len()) {
+            let kept = keep_none(alloc, &filters[k..], lot.rows, &left)?;
+            let set = others(alloc, lot.rows.len(), &kept)?;
+            return Ok(set);
+        }
+        left.and_not(&met(alloc, &filters[k], lot)?);
     }
-    let mut set = RowSet::all(alloc, lot.rows.len())?;
-    set.and_not(&left);
+    let set = others(alloc, lot.rows.len(), &left)?;
     Ok(set)
+}
+
+// All of so many rows but those in a set.
+fn others(alloc: Global, count: usize, set: &RowSet) -> Result<RowSet, AllocError>
+    requires { length set.now ≡ count }
+    ensures { IfOk result (λ s. Joined (λ a b. a && not b) set.now (replicate count true) s) }
+{
+    let mut all = RowSet::all(alloc, count)?;
+    all.and_not(set);
+    Ok(all)
+}
+
+// Whether it is looked behind so many tests if few rows are left.
+fn is_looked_at(tests: usize) -> bool {
+    tests > 0 && tests % LOOKED_BEHIND == 0
 }
 
 // The rows whose value passes a test.

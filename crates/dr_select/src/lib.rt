@@ -4,6 +4,7 @@
 
 mod asked_for;
 mod bounds;
+mod by_row;
 mod choosing;
 mod long_patterns;
 mod lot;
