@@ -2,7 +2,7 @@
 use Rattle.std.proofs.Common.{inl, inr, ◌≡◌, ◌∙◌, sym, subst, ℕ, ◌+◌, ◌<◌, ◌≤◌, ◌&&◌, Bool, true, false, List, length, get_or, set, arith}
 use Rattle.std.proofs.lemmas.Bool.{cases_lt}
 use Rattle.std.proofs.lemmas.List.{length-set, get_or-set_same, get_or-set_other}
-use Rattle.dr_select.specs.Rows.{Keeps}
+use Rattle.dr_select.specs.Parts.{Keeps}
 
 -- the rows before a place were kept, where they were to be
 pub record KeptTo {V : Type 0} (k : ℕ) (test : V → Bool) (rows : List V) (before after : List Bool) : Type 0 where

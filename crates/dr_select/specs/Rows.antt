@@ -1,5 +1,5 @@
 -- Rows of which a filter is asked all at once.
-use Rattle.std.specs.Prelude.{◌≡◌, ℕ, ◌<◌, ◌&&◌, Bool, false, List, Option, length, get_or}
+use Rattle.std.specs.Prelude.{ℕ, Bool, List, Option}
 use Rattle.dr_base.specs.declared.key.Key.{Key}
 use Rattle.dr_rollup.specs.declared.key_of.KeyOf.{KeyOf}
 use Rattle.dr_filter.specs.Condition.{Condition, matches}
@@ -16,8 +16,3 @@ meets condition row = matches row.time row.dims.now condition
 -- the value of a row at a place among the dimensions
 abbrev pub value_of : Option ℕ → KeyOf → List ℕ
 value_of place row = value_at place row.dims.now
-
--- of the rows that were told of those are left whose value passes a test
-pub record Keeps {V : Type 0} (test : V → Bool) (rows : List V) (before after : List Bool) : Type 0 where
-  pub count : length after ≡ length rows
-  pub each : (i : ℕ) (row : V) → i < length rows → get_or after i false ≡ (get_or before i false && test (get_or rows i row))

@@ -1,7 +1,8 @@
 ghost use Rattle.std.specs.Prelude.{◌≡◌, not, IfOk};
 ghost use Rattle.dr_predicate.specs.Match.{holds_of};
 ghost use Rattle.dr_filter.specs.Condition.{condition_in, conditions_in, every_matches, some_matches};
-ghost use Rattle.dr_select.specs.Rows.{Keeps, meets};
+ghost use Rattle.dr_select.specs.Parts.{Keeps};
+ghost use Rattle.dr_select.specs.Rows.{meets};
 
 use dr_filter::FilterTree;
 use dr_places::fits_soonest;
