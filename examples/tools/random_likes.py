@@ -1,5 +1,6 @@
 """Writes random scripts of filters of many `like`s, over values of up to 600 characters in up to 17 dimensions, with what they have to
-print by answers.py: asked of open rows, of the raw events and of published ones. Script number N is the same each time.
+print by answers.py: asked of open rows, of the raw events and of published ones. In one script of four a pattern decides all rows
+but a few. Script number N is the same each time.
 
     python3 random_likes.py FOLDER FIRST COUNT [PROGRAM [W ..]]    as random_queries.py has them
 """
@@ -22,6 +23,9 @@ class LikeWriter:
         self.dims = ["d%d" % i for i in range(r.choice([1, 1, 2, 3, 17]))]
         self.letters = r.choice(["ab", "abé", "a", "01", "abcdefgh😀"])
         self.lengths = r.choice(LENGTHS)
+        self.crowd = r.choice([300, 600, 1100]) if r.random() < 0.25 else 0
+        if self.crowd:
+            self.dims, self.lengths = self.dims[:2], LENGTHS[0]
         self.known = [self.text() for _ in range(r.choice([3, 20, 100]))]
 
     def text(self):
@@ -29,6 +33,13 @@ class LikeWriter:
 
     def events(self):
         r = self.random
+        for i in range(self.crowd):
+            yield "+ " + compact({"t": BEGIN + i, self.dims[0]: "q" + self.text(), self.dims[-1]: "q" + self.text(), "v": 1})
+        if self.crowd:
+            few = r.choice([1, 2, self.crowd // 256, self.crowd // 256 + 1])
+            for i in range(few):
+                yield "+ " + compact({"t": BEGIN + i} | {it: r.choice(self.known) for it in self.dims} | {"v": 1 << 20 + i})
+            return
         share = 0.9 if len(self.dims) < 5 else 0.2
         for i in range(r.choice([5, 40, 60, 200 if len(self.dims) < 5 else 1100])):
             values = {it: r.choice(self.known) if r.random() < 0.5 else self.text() for it in self.dims if r.random() < share}
@@ -52,9 +63,23 @@ class LikeWriter:
             pattern[r.randrange(len(pattern))] = r.choice("z_%")
         return "".join(pattern).replace("%", r.choice(["%"] * 9 + ["%%%"]))
 
+    def with_gap(self, text):
+        place = self.random.randrange(len(text))
+        return text[:place] + "_" + text[place + 1 :] + self.random.choice(["", "%"])
+
+    def like(self, pattern):
+        return {"type": "like", "dimension": self.random.choice(self.dims), "pattern": pattern}
+
     def filter(self):
         r = self.random
-        likes = [{"type": "like", "dimension": r.choice(self.dims), "pattern": self.pattern()} for _ in range(r.choice([33, 40, 64, 200]))]
+        if self.crowd:
+            # Most fit no row, two next to each other fit the crowd, and of the few others each may fit one that comes last.
+            likes = [self.like(self.pattern() + r.choice(["z", "z%", "_z"])) for _ in range(r.choice([140, 280]))]
+            place = r.randrange(0, 60, 2)
+            likes[place : place + 2] = [self.like(r.choice(["q_%", "q__%", "q%_"]))] * 2
+            likes += [self.like(self.with_gap(r.choice(self.known))) for _ in range(6)]
+        else:
+            likes = [self.like(self.pattern()) for _ in range(r.choice([33, 40, 64, 200]))]
         some = {"type": "or", "fields": likes}
         none = {"type": "and", "fields": [{"type": "not", "field": it} for it in likes[1::2]]}
         return r.choice([some, none, {"type": "and", "fields": [{"type": "or", "fields": likes[::2]}, none]}])

@@ -1,4 +1,4 @@
-ghost use Rattle.std.specs.Prelude.{◌≡◌, not, IfOk};
+ghost use Rattle.std.specs.Prelude.{◌≡◌, IfOk};
 ghost use Rattle.dr_predicate.specs.Match.{holds_of};
 ghost use Rattle.dr_filter.specs.Condition.{condition_in, conditions_in, every_matches, some_matches};
 ghost use Rattle.dr_select.specs.Parts.{Keeps};
@@ -42,24 +42,6 @@ pub fn keep_every(
     let mut kept = RowSet::none(alloc, rows.len())?;
     for i in 0..rows.len() {
         if some.contains(i) && meets_every(alloc, filters, &rows[i])? {
-            kept.insert(i);
-        }
-    }
-    Ok(kept)
-}
-
-// Those of some rows that meet none of some filters, each asked by itself.
-pub fn keep_none(
-    alloc: Global,
-    filters: &[FilterTree],
-    rows: &[KeyOf<'_>],
-    some: &RowSet,
-) -> Result<RowSet, AllocError>
-    ensures { IfOk result (λ s. Keeps (λ row. not (some_matches row.time row.dims.now (conditions_in filters.now))) rows.now some.now s) }
-{
-    let mut kept = RowSet::none(alloc, rows.len())?;
-    for i in 0..rows.len() {
-        if some.contains(i) && !meets_some(alloc, filters, &rows[i])? {
             kept.insert(i);
         }
     }

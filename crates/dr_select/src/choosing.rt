@@ -10,7 +10,7 @@ ghost use Rattle.dr_select.specs.Rows.{meets, value_of};
 
 use crate::asked_for::AskedFor;
 use crate::bounds::rows_at_once;
-use crate::by_row::{are_few, keep_every, keep_none};
+use crate::by_row::{are_few, keep_every};
 use crate::lot::Lot;
 use crate::passing::insert_passing;
 use dr_filter::{Filter, FilterTree};
@@ -33,8 +33,8 @@ const LOOKED_BEHIND: usize = 64;
 /// value that differs, or each time, is looked up among them. Of the other dimensions each row is asked by itself. Each `and`, `or` and
 /// `not` takes time by the rows, 64 at once.
 ///
-/// Behind each 64th test that an `and` or an `or` joins it is looked if one row in 256 at most is left, which no test decided yet. Then each
-/// of these is asked the other tests by itself, up to the first that decides it.
+/// Behind each 64th test of an `and` it is looked if one row in 256 at most is left. Then each of these is asked the other tests by itself,
+/// up to the first that it fails. [`Filter::asked`] has no `or`, but the opposite of an `and` in its place.
 ///
 /// Where a dimension is asked by a pattern 8 times or more, the characters of its values are read, and a pattern takes what
 /// [`LetterRows::fitting`](dr_letters::LetterRows::fitting) does. For that 16,384 rows are asked at once, where it is one dimension, and
@@ -111,8 +111,7 @@ fn met(alloc: Global, filter: &FilterTree, lot: &Lot<'_>) -> Result<RowSet, Allo
         FilterTree::Or(filters) => met_by_some(alloc, filters.as_slice(), lot),
         FilterTree::Not(filter) => {
             let denied = met(alloc, filter, lot)?;
-            let mut set = RowSet::all(alloc, lot.rows.len())?;
-            set.and_not(&denied);
+            let set = others(alloc, lot.rows.len(), &denied)?;
             Ok(set)
         }
     }
@@ -137,24 +136,15 @@ fn met_by_every(alloc: Global, filters: &[FilterTree], lot: &Lot<'_>) -> Result<
     Ok(set)
 }
 
-// The rows that meet one of some filters. Once each row does, no more are asked, and the others, where these are few, by themselves.
+// The rows that meet one of some filters. A filter that was joined has no `or`: it has the opposite of an `and` in its place.
 #[cycle(choosing)]
 fn met_by_some(alloc: Global, filters: &[FilterTree], lot: &Lot<'_>) -> Result<RowSet, AllocError>
     ensures { IfOk result (λ s. Tell (λ row. some_matches row.time row.dims.now (conditions_in filters.now)) lot.now.rows.now s) }
 {
-    let mut left = RowSet::all(alloc, lot.rows.len())?;
-    for k in 0..filters.len() {
-        if left.has_none() {
-            return Ok(RowSet::all(alloc, lot.rows.len())?);
-        }
-        if is_looked_at(k) && are_few(&left, lot.rows.len()) {
-            let kept = keep_none(alloc, &filters[k..], lot.rows, &left)?;
-            let set = others(alloc, lot.rows.len(), &kept)?;
-            return Ok(set);
-        }
-        left.and_not(&met(alloc, &filters[k], lot)?);
+    let mut set = RowSet::none(alloc, lot.rows.len())?;
+    for filter in filters {
+        set.or(&met(alloc, filter, lot)?);
     }
-    let set = others(alloc, lot.rows.len(), &left)?;
     Ok(set)
 }
 
