@@ -528,6 +528,20 @@ def with_text(n):
     yield asked
 
 
+def few_left(share):
+    """Many `and`s that ask for one text, or another one, and for one of another dimension, of rows that have the one; another `and` is met
+    by all rows but one in so many, which have the first text."""
+    def lines(n):
+        yield spec(dims=("page", "lang"))
+        for it in range(n):
+            yield event(BEGIN + it % DAY, "p0" if it % share == 0 else "r", lang=f"l{it}")
+        both = lambda it: [{"type": "in", "dimension": "page", "values": ["p0", f"x{it}"]}, at("lang", f"b{it}")]
+        most = [from_to("page", "q", "s"), from_to("lang", "l", "m")]
+        asked = series(filter=one_of(*({"type": "and", "fields": it} for it in (most, *map(both, range(5000))))))
+        yield from (asked, f"seal {instant(1)}", f"publish {instant(1)} 0 1", asked)
+    return lines
+
+
 def by_turns(n):
     """Many `and`s of a stretch of time and a value, of one dimension and of another in turn."""
     yield spec(dims=("page", "lang"))
@@ -671,6 +685,8 @@ INPUTS = {
     "rows under an or of 4,500 ands of two ranges of two dimensions": (two_dimensions(one_of(*DENIED_RANGES)), 100000),
     "rows under an or of 5,700 ands of one selector and an interval": (windows, 100000),
     "rows with a text of each of 5,500 ands of an in and a selector, under their or": (with_text, 100000),
+    "rows under an or of 5,000 ands of an in and a selector, and one that all but one in 1,030 meet": (few_left(1030), 100000),
+    "rows under an or of 5,000 ands of an in and a selector, and one that all but one in 200 meet": (few_left(200), 100000),
     "rows under an or of 5,700 ands of an interval and a selector of two dimensions in turn": (by_turns, 100000),
     "rows under an or of 4,500 ands of two selectors, all the same, and an interval": (ranked(4500, 2, 1), 100000),
     "rows under an or of 4,500 ands of two selectors of 67 each and an interval": (ranked(4500, 2, 67), 100000),

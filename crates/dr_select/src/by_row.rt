@@ -12,7 +12,7 @@ use dr_rowindex::RowSet;
 use std::alloc::{AllocError, Global};
 
 // Those of some rows are few that are one in so many at most.
-const SHARE: usize = 256;
+const SHARE: usize = 1024;
 
 // Whether few rows are in a set, so that it takes less time to ask each of them by itself than to ask all at once. It takes time by the
 // rows.

@@ -33,7 +33,7 @@ const LOOKED_BEHIND: usize = 64;
 /// value that differs, or each time, is looked up among them. Of the other dimensions each row is asked by itself. Each `and`, `or` and
 /// `not` takes time by the rows, 64 at once.
 ///
-/// Behind each 64th test of an `and` it is looked if one row in 256 at most is left. Then each of these is asked the other tests by itself,
+/// Behind each 64th test of an `and` it is looked if one row in 1,024 at most is left. Then each of these is asked the other tests by itself,
 /// up to the first that it fails. [`Filter::asked`] has no `or`, but the opposite of an `and` in its place.
 ///
 /// Where a dimension is asked by a pattern 8 times or more, the characters of its values are read, and a pattern takes what
