@@ -13,6 +13,8 @@ import sys
 import threading
 from random import Random
 
+import alike
+
 DAY = 86400000
 BEGIN = 1704067200000
 
@@ -619,6 +621,24 @@ def plans(n):
         yield f"plan merge {instant(1)} 0 100"
 
 
+def rows_alike(n):
+    """Rows whose keys hash alike, and their groups."""
+    moment, begin = alike.time_and_begin(BEGIN)
+    yield spec()
+    for it in range(n):
+        yield event(moment, f"{begin}{it:08d}")
+    yield groups(granularity="none", limitSpec={"type": "default", "limit": 1})
+
+
+def values_alike(n):
+    """An `in` of 24,000 texts that hash alike, of which each row has one."""
+    values = [f"{alike.begin_of_texts()}{it:08d}" for it in range(24000)]
+    yield spec()
+    for it in range(n):
+        yield event(BEGIN + it % DAY, values[it % 24000])
+    yield series(filter={"type": "in", "dimension": "page", "values": values})
+
+
 def apart(n):
     yield spec(rollup=False)
     for it in range(n):
@@ -740,6 +760,8 @@ INPUTS = {
     "plans of 100 ranges": (plans, 20000),
     "equal rows that stay apart, sealed and published": (apart, 1000000),
     "falling times and values, sealed, published and grouped": (falling, 1000000),
+    "rows whose keys hash alike, grouped": (rows_alike, 20000),
+    "rows under an in of 24,000 texts that hash alike": (values_alike, 100000),
     "scans of all, by order, by batches of 1": (scan_of_all, 300000),
 }
 
