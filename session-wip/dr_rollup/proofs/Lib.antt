@@ -1,0 +1,10 @@
+pub mod Contributing
+pub mod Keys
+pub mod Rows
+pub mod Tables
+pub mod Flat
+pub mod Hashing
+pub mod Growing
+pub mod Adding
+pub mod Tables
+pub mod Standing
