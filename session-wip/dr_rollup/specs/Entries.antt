@@ -1,0 +1,34 @@
+-- Rows in the order in which they came. No public contract cites this file.
+use Rattle.std.specs.Prelude.{◌≡◌, ℕ, ℤ, Bool, false, List, Some, slice_get, slice_set}
+use Rattle.std.specs.List.{AllByRecursion}
+use Rattle.std.specs.Ordering.{eq_by_cmp}
+use Rattle.dr_base.specs.declared.key.Key.{Key}
+use Rattle.dr_base.specs.declared.row.Row.{Row}
+use Rattle.dr_base.specs.Order.{key_cmp}
+use Rattle.dr_agg.specs.declared.kind.Kind.{Kind}
+use Rattle.dr_agg.specs.Combination.{combine_columns}
+use Rattle.dr_rollup.specs.Unrolled.{contributions}
+
+-- a key and its metrics, as a row
+abbrev pub row_of : Key × List ℤ → Row
+row_of e = record { key = e.0; metrics = e.1 }
+
+-- the keys are the same
+abbrev pub same_keys : Key → Key → Bool
+same_keys = eq_by_cmp key_cmp
+
+-- the row at a place has that key
+abbrev pub HasKeyAt : Key → List Row → ℕ → Type 0
+HasKeyAt k rows place = (row : Row) × (slice_get rows place ≡ Some row) × (row.key ≡ k)
+
+-- no row has that key
+abbrev pub NoneHas : Key → List Row → Type 0
+NoneHas k rows = AllByRecursion (λ row. same_keys k row.key ≡ false) rows
+
+-- the row at a place with what an event adds
+abbrev pub combined_row : List Kind → List ℤ → Row → Row
+combined_row kinds inputs row = record { key = row.key; metrics = combine_columns kinds row.metrics (contributions kinds inputs) }
+
+-- what an event adds is combined into the row at a place
+abbrev pub Combines : List Kind → List ℤ → List Row → ℕ → List Row → Type 0
+Combines kinds inputs before place after = (row : Row) → slice_get before place ≡ Some row → after ≡ slice_set before place (combined_row kinds inputs row)

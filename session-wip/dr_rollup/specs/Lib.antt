@@ -1,0 +1,11 @@
+pub mod Refusal
+pub mod Unrolled
+pub mod OpenRows
+pub mod Lookup
+pub mod WideRows
+pub mod HeldRows
+pub mod Hashes
+pub mod Entries
+pub mod Sound
+pub mod Table
+pub mod Placed
