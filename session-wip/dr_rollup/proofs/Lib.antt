@@ -1,9 +1,0 @@
-pub mod Contributing
-pub mod Keys
-pub mod Rows
-pub mod Tables
-pub mod Flat
-pub mod Growing
-pub mod Adding
-pub mod Standing
-pub mod Copied
