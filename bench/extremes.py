@@ -632,7 +632,8 @@ def rows_alike(n):
 
 def values_alike(n):
     """An `in` of 24,000 texts that hash alike, of which each row has one."""
-    values = [f"{alike.begin_of_texts()}{it:08d}" for it in range(24000)]
+    begin = alike.begin_of_texts()
+    values = [f"{begin}{it:08d}" for it in range(24000)]
     yield spec()
     for it in range(n):
         yield event(BEGIN + it % DAY, values[it % 24000])
