@@ -640,6 +640,38 @@ def values_alike(n):
     yield series(filter={"type": "in", "dimension": "page", "values": values})
 
 
+def names_alike(n):
+    """Events of 24,000 names of no column, which hash alike."""
+    begin = alike.begin_of_texts()
+    yield spec()
+    for it in range(n):
+        yield event(BEGIN + it, **{f"{begin}{name:08d}": 1 for name in range(24000)})
+    yield series()
+
+
+def outputs_alike(n):
+    """1,000 groups of 7,000 outputs whose names hash alike, by each of which they are ordered."""
+    begin = alike.begin_of_texts()
+    names = [f"{begin}{it:08d}" for it in range(7000)]
+    yield spec()
+    for it in range(n):
+        yield event(BEGIN, f"{it:08d}")
+    columns = [{"dimension": it} for it in reversed(names)]
+    yield groups(aggregations=[{"type": "count", "name": it} for it in names], limitSpec={"type": "default", "limit": 1, "columns": columns})
+
+
+def published_alike(n):
+    """Rows of distinct values that hash alike, sealed, published and grouped."""
+    begin = alike.begin_of_texts()
+    yield spec()
+    for it in range(n):
+        yield event(BEGIN + it % DAY, f"{begin}{it:08d}")
+    yield groups(limitSpec={"type": "default", "limit": 1})
+    yield f"seal {instant(1)}"
+    yield f"publish {instant(1)} 0 1"
+    yield groups(limitSpec={"type": "default", "limit": 1})
+
+
 def apart(n):
     yield spec(rollup=False)
     for it in range(n):
@@ -763,6 +795,9 @@ INPUTS = {
     "falling times and values, sealed, published and grouped": (falling, 1000000),
     "rows whose keys hash alike, grouped": (rows_alike, 20000),
     "rows under an in of 24,000 texts that hash alike": (values_alike, 100000),
+    "rows of values that hash alike, published, grouped": (published_alike, 100000),
+    "events of 24,000 names that hash alike": (names_alike, 20),
+    "groups of 7,000 outputs whose names hash alike": (outputs_alike, 1000),
     "scans of all, by order, by batches of 1": (scan_of_all, 300000),
 }
 

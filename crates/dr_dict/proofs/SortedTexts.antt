@@ -1,7 +1,7 @@
 -- Distinct texts are sorted in one way.
 use Rattle.std.proofs.Common.{◌≡◌, ◌∙◌, sym, refl, ap, subst, ℕ, zero, suc, ◌+◌, ◌<◌, true, false, ◌||◌, List, [], ◌∷◌, ◌++◌, map, take, length, get_or, slice_get, Some, Contains, Fits, w32, bytes_eq, arith, true≢false, ◌≤◌}
 use Rattle.std.specs.List.{list_any, AllByRecursion, AllZip, IsDistinct}
-use Rattle.std.specs.List.Sorted.{IsSorted, IsSortedBy, IsNonDecreasingBy, IsPartitionPoint}
+use Rattle.std.specs.List.Sorted.{IsPermutation, IsSorted, IsSortedBy, IsNonDecreasingBy, IsPartitionPoint}
 use Rattle.std.specs.declared.cmp.Ordering.TheVariants.{Less, Equal, Greater}
 use Rattle.std.specs.Ordering.{nat_cmp, is_lt, ordering_reverse, ordering_index}
 use Rattle.std.specs.Cmp.Lexicographic.{slice_cmp, nat_list_cmp_total, nat_list_eq_equiv, bytes_decides}
@@ -13,6 +13,10 @@ use Rattle.std.proofs.lemmas.Option.{slice_get-get_or, slice_get_within}
 use native.Mathlib.Decide.{dec_lt}
 use Rattle.indexmap.proofs.MapLemmas.{distinct_permutation}
 use Rattle.dr_dict.specs.Sorted.{IsSortedOf}
+
+-- distinct texts stay distinct in another order
+pub distinct-moved : (texts others : List (List ℕ)) → IsPermutation texts others → IsDistinct bytes_eq texts → IsDistinct bytes_eq others
+distinct-moved = distinct_permutation nat_list_eq_equiv
 
 abbrev pub IsInOrder : List (List ℕ) → Type 0
 IsInOrder [] = Unit {0}
@@ -87,7 +91,7 @@ in_order (x ∷ xs) up = (
 pub sorted-unique : (texts sorted others : List (List ℕ)) → IsDistinct bytes_eq texts → IsSortedOf texts sorted → IsSortedOf texts others → sorted ≡ others
 sorted-unique texts sorted others distinct a b =
     same_sorted sorted others (in_order sorted a.rising) (in_order others b.rising)
-    (distinct_permutation nat_list_eq_equiv texts sorted a.moved distinct) (distinct_permutation nat_list_eq_equiv texts others b.moved distinct)
+    (distinct-moved texts sorted a.moved distinct) (distinct-moved texts others b.moved distinct)
     (λ t. sym (list_any-IsPermutation (bytes_eq t) texts sorted a.moved) ∙ list_any-IsPermutation (bytes_eq t) texts others b.moved)
 
 -- ---- a text that is looked for among sorted ones

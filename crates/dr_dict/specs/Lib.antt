@@ -1,3 +1,4 @@
 pub mod Refusal
 pub mod Dictionary
 pub mod Sorted
+pub mod TextPlaces

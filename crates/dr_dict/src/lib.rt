@@ -6,9 +6,11 @@ mod adding;
 mod dict_error;
 mod growing_dict;
 mod sorted_dict;
+mod text_places;
 mod text_set;
 
 pub use dict_error::DictError;
 pub use growing_dict::GrowingDict;
 pub use sorted_dict::{SortedDict, renumbering, sorted_is_unique};
+pub use text_places::TextPlaces;
 pub use text_set::TextSet;

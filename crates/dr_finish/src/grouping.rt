@@ -45,7 +45,7 @@ fn given_of(
     ensures { IfOk result (λ given. given.items ≡ given_by (group_by (asked_groups by.now)) (map (spread_over by.now.dimensions aggregations.now) (map result_row partial))) }
 {
     let limits = &by.limit_spec;
-    let groups = partial.into_groups()?;
+    let groups = partial.into_groups();
     let ordered = ordered(by, aggregations, kept(by, aggregations, groups)?)?;
     let given = limited(without_first(ordered, limits.offset), limits.limit);
     let spread = spread_rows(alloc, &by.dimensions, aggregations, given)?;

@@ -1,36 +1,40 @@
 ghost use Rattle.std.specs.Prelude.{◌≡◌, IfOk, bytes_eq};
 ghost use Rattle.std.specs.List.{position};
-ghost use Rattle.indexmap.specs.IndexMap.{get_by};
+ghost use Rattle.std.specs.Ordering.{nat_cmp};
+ghost use Rattle.std.specs.Cmp.Lexicographic.{slice_cmp};
+ghost use Rattle.std.specs.BTreeMap.{get_by};
 ghost use Rattle.dr_outputs.specs.Places.{AreFirst};
 
 use dr_base::Text;
-use indexmap::IndexMap;
 use std::alloc::{AllocError, Global};
+use std::collections::BTreeMap;
 use std::marker::Model;
 
-/// The names of outputs of a query, each found by hashing. A contract sees the list of them.
+/// The names of outputs of a query, each found in an ordered map. A contract sees the list of them.
 #[derive(Drop)]
 pub struct OutputNames<'n> {
     names: &'n [Text],
     // Where each name stands first.
-    places: IndexMap<&'n str, usize>,
+    places: BTreeMap<&'n str, usize>,
 }
 
 impl<'n> Model for OutputNames<'n> {
-    ghost use Rattle.std.specs.Prelude.{ℕ, List, bytes_eq};
-    ghost use Rattle.indexmap.specs.IndexMap.{get_by};
+    ghost use Rattle.std.specs.Prelude.{ℕ, List};
+    ghost use Rattle.std.specs.Ordering.{nat_cmp};
+    ghost use Rattle.std.specs.Cmp.Lexicographic.{slice_cmp};
+    ghost use Rattle.std.specs.BTreeMap.{get_by};
     ghost use Rattle.dr_outputs.specs.Places.{AreFirst};
 
     ghost Value = { List (List ℕ) };
 
     ghost view = { λ o. o.names.now };
 
-    ghost invariant = { λ o. AreFirst (λ name. get_by (λ k. bytes_eq name k.now) o.places) o.names.now };
+    ghost invariant = { λ o. AreFirst (λ name. get_by (λ k. slice_cmp nat_cmp name k.now) o.places) o.names.now };
 }
 
 impl<'n> OutputNames<'n> {
-    /// These names, which it borrows. The only error is that memory ran out. It takes memory for a place of each name, and
-    /// expected time by the bytes of the names.
+    /// These names, which it borrows. The only error is that memory ran out. It takes memory for a place of each name, and for each a
+    /// logarithm of the names times its bytes.
     pub fn of(alloc: Global, names: &'n [Text]) -> Result<OutputNames<'n>, AllocError>
         ensures { IfOk result (λ o. o ≡ names.now) }
     {
@@ -38,8 +42,8 @@ impl<'n> OutputNames<'n> {
         Ok(OutputNames { names, places })
     }
 
-    /// The place at which a name stands first, from 0; none where it isn't there. It takes no memory, and expected time by the
-    /// bytes of the name, however many names there are.
+    /// The place at which a name stands first, from 0; none where it isn't there. It takes no memory, and a logarithm of the names times
+    /// the bytes of this one.
     pub fn place_of(&self, name: &str) -> Option<usize>
         ensures { result ≡ position (bytes_eq name.now) self.now }
     {
@@ -51,10 +55,10 @@ impl<'n> OutputNames<'n> {
 fn first_places<'n>(
     alloc: Global,
     names: &'n [Text],
-) -> Result<IndexMap<&'n str, usize>, AllocError>
-    ensures { IfOk result (λ places. AreFirst (λ name. get_by (λ k. bytes_eq name k.now) places) names.now) }
+) -> Result<BTreeMap<&'n str, usize>, AllocError>
+    ensures { IfOk result (λ places. AreFirst (λ name. get_by (λ k. slice_cmp nat_cmp name k.now) places) names.now) }
 {
-    let mut places = IndexMap::new(alloc);
+    let mut places = BTreeMap::new(alloc);
     let mut place = names.len();
     while place > 0 {
         place -= 1;

@@ -1,15 +1,12 @@
 -- A partial result, once all rows are added.
-use Rattle.std.proofs.Common.{◌≡◌, ◌∙◌, sym, refl, ap, subst, ℤ, pos, Bool, true, false, true≢false, cond, List, [], ◌∷◌, map, length, Option, None, Some, IfSome, unwrap_or, if◌then◌else◌, arith, inl}
+use Rattle.std.proofs.Common.{◌≡◌, ◌∙◌, sym, refl, ap, subst, ℤ, pos, true, false, true≢false, cond, List, [], ◌∷◌, map, length, Option, None, Some, IfSome, unwrap_or, is_some, slice_get, ℕ, zero, suc, if◌then◌else◌, arith, inl}
 use Rattle.std.proofs.lemmas.Int.{ints}
-use Rattle.std.proofs.lemmas.List.{length-map}
 use Rattle.std.proofs.lemmas.List.Folds.{flat_map-map}
-use Rattle.std.specs.List.{All, AllByRecursion, flat_map}
-use Rattle.std.specs.Map.{lookup}
+use Rattle.std.specs.List.{All, AllByRecursion, IsDistinct, flat_map}
 use Rattle.dr_base.specs.declared.key.Key.{Key}
 use Rattle.dr_base.specs.declared.row.Row.{Row}
 use Rattle.dr_base.specs.declared.event.Event.{Event}
-use Rattle.dr_base.specs.Order.{key_cmp}
-use Rattle.std.specs.Ordering.{eq_by_cmp}
+use Rattle.std.specs.Ordering.{is_eq}
 use Rattle.dr_time.specs.Instant.{IsInstant}
 use Rattle.dr_time.specs.Printed.{IsPrintable}
 use Rattle.dr_time.specs.Union.{union_start}
@@ -20,14 +17,13 @@ use Rattle.dr_intervals.specs.Printable.{StartsPrintable}
 use Rattle.dr_intervals.proofs.PrintableIntervals.{union_start-printable}
 use Rattle.dr_agg.specs.declared.kind.Kind.{Kind}
 use Rattle.dr_agg.specs.Rollup.{rows_at, rollup_onto, add_row}
+use Rattle.dr_agg.proofs.KeyOrder.{itself}
 use Rattle.dr_agg.proofs.RollupLaws.{IsRollup-rollup, AllByRecursion-add_row}
 use Rattle.dr_schema.specs.declared.schema.Schema.{Schema}
 use Rattle.dr_schema.specs.Fits.{FitsSchema}
-use Rattle.dr_rollup.specs.Entries.{row_of}
-use Rattle.dr_rollup.specs.Lookup.{same_parts}
+use Rattle.dr_rollup.specs.Entries.{same_keys, NoneHas}
 use Rattle.dr_rollup.specs.Unrolled.{unrolled}
-use Rattle.dr_rollup.proofs.Keys.{parts-same_keys}
-use Rattle.dr_rollup.proofs.Rows.{rows-counted}
+use Rattle.dr_rollup.proofs.Rows.{rows-counted, same_keys-comm}
 use Rattle.dr_ask.specs.Asked.{Asked}
 use Rattle.dr_answers.specs.Groups.{bucket}
 use Rattle.dr_answers.specs.Selection.{selects, selected}
@@ -38,12 +34,12 @@ use Rattle.dr_rollup.proofs.Adding.{no_keys}
 
 -- ---- from no group on
 
-pub nothing-sound : (kinds : List Kind) (es : List (Key × List ℤ)) → es ≡ [] → IsSound kinds (map row_of es)
-nothing-sound kinds es none = subst (λ l. IsSound kinds (map row_of l)) (sym none) (record { fits = tt; apart = no_keys })
+pub nothing-sound : (kinds : List Kind) (groups : List Row) → groups ≡ [] → IsSound kinds groups
+nothing-sound kinds groups none = subst (IsSound kinds) (sym none) (record { fits = tt; apart = no_keys })
 
-pub made : (q : Asked) (es : List (Key × List ℤ)) (rows after : List Row) → es ≡ [] → AddsAll q (map row_of es) rows after → in_order after ≡ partial q rows
+pub made : (q : Asked) (groups rows after : List Row) → groups ≡ [] → AddsAll q groups rows after → in_order after ≡ partial q rows
 unfolding rollup_onto
-made q es rows after none adds = adds.groups ∙ ap (λ l. with_rows q (in_order (map row_of l)) rows) none
+made q groups rows after none adds = adds.groups ∙ ap (λ l. with_rows q (in_order l) rows) none
 
 -- pieces that are seen one by one
 pub pieces-of : {X : Type 0} (v : X → List Row) (xs : List X) → flat_map (λ rows. rows) (map v xs) ≡ flat_map v xs
@@ -98,18 +94,35 @@ instants s (e ∷ events) all = (one, instants s events all.1)
 
 -- ---- what is found of the groups
 
-pub counted : (es : List (Key × List ℤ)) → length (in_order (map row_of es)) ≡ length es
-counted es = rows-counted false [] (map row_of es) (λ h. absurd (true≢false (sym h))) ∙ length-map es row_of
+pub counted : (groups : List Row) → length (in_order groups) ≡ length groups
+counted groups = rows-counted false [] groups (λ h. absurd (true≢false (sym h)))
 
-looked-up : (b : ℤ) (es : List (Key × List ℤ)) → lookup (same_parts b []) es ≡ first_metrics (rows_at (record { time = b; dims = [] }) (map row_of es))
-looked-up b [] = refl
-looked-up b (e ∷ es) =
-    let k : Key = record { time = b; dims = [] } in
-    ap (λ (t : Bool). cond t (Some e.1) (lookup (same_parts b []) es)) (parts-same_keys k e.0)
-    ∙ (elim (eq_by_cmp key_cmp k e.0) as (λ t. cond t (Some e.1) (lookup (same_parts b []) es) ≡ first_metrics (cond t (row_of e ∷ rows_at k (map row_of es)) (rows_at k (map row_of es)))) [ true ↦ refl | false ↦ looked-up b es ])
+-- the group at a place is the only one of its key
+only-there : (k : Key) (groups : List Row) (place : ℕ) (g : Row) → IsDistinct same_keys (map (λ r. r.key) groups) → slice_get groups place ≡ Some g → g.key ≡ k → first_metrics (rows_at k groups) ≡ Some g.metrics
+unfolding IsDistinct
+only-there k [] place g apart at is = absurd (true≢false (sym (ap is_some at)))
+only-there k (r ∷ groups) zero g apart at is =
+    let here : r ≡ g = ap (λ o. unwrap_or o r) at in
+    ap (λ t. first_metrics (cond t (r ∷ rows_at k groups) (rows_at k groups))) (ap (same_keys k) (ap (λ (x : Row). x.key) here ∙ is) ∙ ap is_eq (itself k)) ∙ ap (λ (x : Row). Some x.metrics) here
+only-there k (r ∷ groups) (suc place) g apart at is =
+    let other : same_keys k r.key ≡ false = same_keys-comm k r.key ∙ ap (same_keys r.key) (sym is) ∙ differs groups place apart.0 at in
+    ap (λ t. first_metrics (cond t (r ∷ rows_at k groups) (rows_at k groups))) other ∙ only-there k groups place g apart.1 at is
+  where
+    differs : (rest : List Row) (p : ℕ) → AllByRecursion (λ j. same_keys r.key j ≡ false) (map (λ x. x.key) rest) → slice_get rest p ≡ Some g → same_keys r.key g.key ≡ false
+    differs [] p all there = absurd (true≢false (sym (ap is_some there)))
+    differs (x ∷ rest) zero all there = ap (λ o. same_keys r.key (unwrap_or o g).key) (sym there) ∙ all.0
+    differs (x ∷ rest) (suc p) all there = differs rest p all.1 there
 
--- by hashing the group is found that is the first in the order of the keys
-pub found-values : (b : ℤ) (es : List (Key × List ℤ)) → lookup (same_parts b []) es ≡ values_at b (in_order (map row_of es))
-found-values b es =
-    let k : Key = record { time = b; dims = [] } in
-    looked-up b es ∙ ap first_metrics (sym ((IsRollup-rollup false [] (map row_of es)).each k)) ∙ sym (values-first b (in_order (map row_of es)))
+none-there : (k : Key) (groups : List Row) → NoneHas k groups → first_metrics (rows_at k groups) ≡ None
+none-there k [] none = refl
+none-there k (r ∷ groups) none = ap (λ t. first_metrics (cond t (r ∷ rows_at k groups) (rows_at k groups))) none.0 ∙ none-there k groups none.1
+
+-- what is found of a bucket in the order of the keys
+first-found : (b : ℤ) (groups : List Row) → first_metrics (rows_at (record { time = b; dims = [] }) groups) ≡ values_at b (in_order groups)
+first-found b groups = ap first_metrics (sym ((IsRollup-rollup false [] groups).each (record { time = b; dims = [] }))) ∙ sym (values-first b (in_order groups))
+
+pub found-values : (b : ℤ) (groups : List Row) (place : ℕ) (g : Row) → IsDistinct same_keys (map (λ r. r.key) groups) → slice_get groups place ≡ Some g → g.key ≡ record { time = b; dims = [] } → Some g.metrics ≡ values_at b (in_order groups)
+found-values b groups place g apart at is = sym (only-there (record { time = b; dims = [] }) groups place g apart at is) ∙ first-found b groups
+
+pub no-values : (b : ℤ) (groups : List Row) → NoneHas (record { time = b; dims = [] }) groups → None ≡ values_at b (in_order groups)
+no-values b groups none = sym (none-there (record { time = b; dims = [] }) groups none) ∙ first-found b groups

@@ -1,7 +1,6 @@
 -- The groups of two partial results.
-use Rattle.std.proofs.Common.{◌≡◌, ◌∙◌, sym, ap, subst, ℤ, Bool, true, false, List, [], ◌∷◌, ◌++◌, map, Result, Ok, Err, IfOk}
+use Rattle.std.proofs.Common.{◌≡◌, ◌∙◌, sym, ap, subst, Bool, true, List, [], ◌∷◌, ◌++◌, map, Result, Ok, Err, IfOk}
 use Rattle.std.specs.List.{AllByRecursion, IsDistinct}
-use Rattle.std.specs.Map.{keys_of}
 use Rattle.std.proofs.lemmas.List.{map-append}
 use Rattle.std.proofs.lemmas.List.Elements.{filter-append}
 use Rattle.std.proofs.lemmas.List.Sorted.{IsPermutation-append_comm}
@@ -11,9 +10,7 @@ use Rattle.dr_agg.specs.declared.kind.Kind.{Kind}
 use Rattle.dr_agg.specs.Combination.{FitsColumns}
 use Rattle.dr_agg.specs.Rollup.{rollup, rollup_onto, add_row, AllFit}
 use Rattle.dr_agg.proofs.RollupLaws.{rollup-append, AllFit-rollup_onto, AllByRecursion-add_row}
-use Rattle.dr_rollup.specs.Entries.{row_of, same_keys}
-use Rattle.dr_rollup.specs.Lookup.{same_parts}
-use Rattle.dr_rollup.proofs.Keys.{parts-same_keys}
+use Rattle.dr_rollup.specs.Entries.{same_keys}
 use Rattle.dr_rollup.proofs.Rows.{moved-apart}
 use Rattle.dr_ask.specs.Asked.{Asked}
 use Rattle.dr_answers.specs.Selection.{selects, selected}
@@ -26,15 +23,6 @@ use Rattle.dr_rollup.proofs.Rows.{onto_append}
 
 -- ---- what is so of the groups of a partial result
 
-each-apart : (k : Key) (fs : List (Key × List ℤ)) → AllByRecursion (λ j. same_parts k.time k.dims j ≡ false) (keys_of fs) → AllByRecursion (λ j. same_keys k j ≡ false) (map (λ r. r.key) (map row_of fs))
-each-apart k [] all = tt
-each-apart k (f ∷ fs) all = (sym (parts-same_keys k f.0) ∙ all.0, each-apart k fs all.1)
-
-pub apart-rows : (es : List (Key × List ℤ)) → IsDistinct (λ (a b : Key). same_parts a.time a.dims b) (keys_of es) → IsDistinct same_keys (map (λ r. r.key) (map row_of es))
-unfolding IsDistinct
-apart-rows [] d = tt
-apart-rows (e ∷ es) d = (each-apart e.0 es d.0, apart-rows es d.1)
-
 fit-alone : (q : Asked) (rows : List Row) → AllFit (kinds_in q.aggregations) (map (alone q) rows)
 fit-alone q [] = tt
 fit-alone q (r ∷ rows) = (fits-folds q.aggregations (r ∷ []), fit-alone q rows)
@@ -45,8 +33,8 @@ fit-partial q groups is =
     all-moved (λ (r : Row). FitsColumns kinds r.metrics) groups (in_order groups) (moved-apart [] groups)
     (subst (AllFit kinds) (sym is.1) (AllFit-rollup_onto true kinds [] (map (alone q) (selected q is.0)) tt (fit-alone q (selected q is.0))))
 
-pub sound-partial : (q : Asked) (es : List (Key × List ℤ)) → IsDistinct (λ (a b : Key). same_parts a.time a.dims b) (keys_of es) → IsPartial q (in_order (map row_of es)) → IsSound (kinds_in q.aggregations) (map row_of es)
-sound-partial q es d is = record { fits = fit-partial q (map row_of es) is; apart = apart-rows es d }
+pub sound-partial : (q : Asked) (groups : List Row) → IsDistinct same_keys (map (λ r. r.key) groups) → IsPartial q (in_order groups) → IsSound (kinds_in q.aggregations) groups
+sound-partial q groups apart is = record { fits = fit-partial q groups is; apart = apart }
 
 -- ---- groups that are added one by one
 

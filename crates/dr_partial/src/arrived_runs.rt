@@ -1,9 +1,8 @@
-ghost use Rattle.std.specs.Prelude.{◌≡◌, ◌<◌, ◌≤◌, [], true, None, length, map, IfOk, OnOk, slice_range};
+ghost use Rattle.std.specs.Prelude.{◌≡◌, ◌<◌, ◌≤◌, [], true, None, length, IfOk, OnOk, slice_range};
 ghost use Rattle.std.specs.List.{AllByRecursion};
 ghost use Rattle.dr_ask.specs.Asked.{dimensions_by};
 ghost use Rattle.dr_ask.specs.Once.{asked_once};
 ghost use Rattle.dr_answers.specs.Fold.{folded, folds};
-ghost use Rattle.dr_rollup.specs.Entries.{row_of};
 ghost use Rattle.dr_partial.specs.Grouped.{IsSound, AddsAll};
 ghost use Rattle.dr_partial.specs.Partial.{kinds_in};
 ghost use Rattle.dr_partial.specs.Runs.{IsWithin, LiesIn};
@@ -14,9 +13,8 @@ use crate::rows::add_held;
 use crate::selecting::dimensions;
 use crate::window::Window;
 use dr_ask::{Aggregation, Query};
-use dr_base::{Key, Numbers, Text};
-use dr_rollup::{Arrived, KeyOf};
-use indexmap::IndexMap;
+use dr_base::{Numbers, Text};
+use dr_rollup::{Arrived, Groups, KeyOf};
 use std::alloc::{AllocError, Global};
 
 // How many rows beside each other are folded by themselves before they are added to their group.
@@ -41,7 +39,7 @@ pub fn run_end(rows: &Arrived<'_>, window: &Window, from: usize) -> usize
 /// Adds the rows from a place on, up to another, which an interval of the query holds and which lie in one bucket. `group` is memory
 /// to use again.
 pub fn add_run(
-    groups: &mut IndexMap<Key, Numbers>,
+    groups: &mut Groups,
     group: &mut Vec<Text>,
     query: &Query,
     rows: &Arrived<'_>,
@@ -52,8 +50,8 @@ pub fn add_run(
     requires some { from < to }
     requires within { to ≤ length rows.now }
     requires same { AllByRecursion (λ r. LiesIn (asked_once query.now) bucket r.key.time) (slice_range rows.now from to) }
-    requires sound { IsSound (kinds_in (asked_once query.now).aggregations) (map row_of groups.old.entries) }
-    ensures { OnOk result (AddsAll (asked_once query.now) (map row_of groups.old.entries) (slice_range rows.now from to) (map row_of groups.new.entries)) }
+    requires sound { IsSound (kinds_in (asked_once query.now).aggregations) groups.old }
+    ensures { OnOk result (AddsAll (asked_once query.now) groups.old (slice_range rows.now from to) groups.new) }
 {
     if to - from >= WORTH_A_FOLD && is_plain(query) {
         return add_whole_run(groups, query, rows, bucket, from, to);
@@ -71,7 +69,7 @@ fn is_plain(query: &Query) -> bool
 
 // Adds rows of one bucket, each where the filter passes it.
 fn add_each(
-    groups: &mut IndexMap<Key, Numbers>,
+    groups: &mut Groups,
     group: &mut Vec<Text>,
     query: &Query,
     rows: &Arrived<'_>,
@@ -82,8 +80,8 @@ fn add_each(
     requires some { from < to }
     requires within { to ≤ length rows.now }
     requires same { AllByRecursion (λ r. LiesIn (asked_once query.now) bucket r.key.time) (slice_range rows.now from to) }
-    requires sound { IsSound (kinds_in (asked_once query.now).aggregations) (map row_of groups.old.entries) }
-    ensures { OnOk result (AddsAll (asked_once query.now) (map row_of groups.old.entries) (slice_range rows.now from to) (map row_of groups.new.entries)) }
+    requires sound { IsSound (kinds_in (asked_once query.now).aggregations) groups.old }
+    ensures { OnOk result (AddsAll (asked_once query.now) groups.old (slice_range rows.now from to) groups.new) }
 {
     let mut last = 0;
     for i in from..to {
@@ -96,7 +94,7 @@ fn add_each(
 
 // Adds rows of one bucket, all of which are selected, to the group without dimension values: each aggregation is folded over them.
 fn add_whole_run(
-    groups: &mut IndexMap<Key, Numbers>,
+    groups: &mut Groups,
     query: &Query,
     rows: &Arrived<'_>,
     bucket: i64,
@@ -108,11 +106,11 @@ fn add_whole_run(
     requires same { AllByRecursion (λ r. LiesIn (asked_once query.now) bucket r.key.time) (slice_range rows.now from to) }
     requires every { (asked_once query.now).filter ≡ None }
     requires plain { dimensions_by (asked_once query.now).shape ≡ [] }
-    requires sound { IsSound (kinds_in (asked_once query.now).aggregations) (map row_of groups.old.entries) }
-    ensures { OnOk result (AddsAll (asked_once query.now) (map row_of groups.old.entries) (slice_range rows.now from to) (map row_of groups.new.entries)) }
+    requires sound { IsSound (kinds_in (asked_once query.now).aggregations) groups.old }
+    ensures { OnOk result (AddsAll (asked_once query.now) groups.old (slice_range rows.now from to) groups.new) }
 {
     let aggregations = query.aggregations.distinct();
-    let folds = folds_between(*groups.allocator(), aggregations, rows, from, to)?;
+    let folds = folds_between(groups.allocator(), aggregations, rows, from, to)?;
     let group = KeyOf {
         time: bucket,
         dims: &[],

@@ -1,25 +1,23 @@
-ghost use Rattle.std.specs.Prelude.{◌≡◌, ◌∷◌, [], ◌<◌, ◌≤◌, Some, length, map, option_map, slice_range, OnOk};
+ghost use Rattle.std.specs.Prelude.{◌≡◌, ◌∷◌, [], ◌<◌, ◌≤◌, Some, length, option_map, slice_range, OnOk};
 ghost use Rattle.std.specs.List.{AllByRecursion};
 ghost use Rattle.dr_answers.specs.Selection.{passes as passes_of, selects};
 ghost use Rattle.dr_ask.specs.Once.{asked_once};
 ghost use Rattle.dr_filter.specs.Condition.{condition_in};
-ghost use Rattle.dr_rollup.specs.Entries.{row_of};
 ghost use Rattle.dr_time.specs.Instant.{IsInstant};
 ghost use Rattle.dr_partial.specs.Grouped.{IsSound, AddsAll};
 ghost use Rattle.dr_partial.specs.Partial.{kinds_in};
 
 use crate::rows::add_selected;
 use dr_ask::Query;
-use dr_base::{Key, Numbers, Row, Text};
+use dr_base::{Row, Text};
 use dr_filter::Filter;
-use dr_rollup::{Arrived, KeyOf};
+use dr_rollup::{Arrived, Groups, KeyOf};
 use dr_select::{lot_end, select_arrived, select_rows};
-use indexmap::IndexMap;
 use std::alloc::AllocError;
 
 /// Adds the rows of an index, of which a filter is asked many at once. `group` is memory to use again.
 pub fn add_arrived_at_once(
-    groups: &mut IndexMap<Key, Numbers>,
+    groups: &mut Groups,
     group: &mut Vec<Text>,
     query: &Query,
     filter: &Filter,
@@ -27,8 +25,8 @@ pub fn add_arrived_at_once(
 ) -> Result<(), AllocError>
     requires filter { option_map condition_in query.now.filter ≡ Some (condition_in filter.now) }
     requires instants { AllByRecursion (λ r. IsInstant r.key.time) rows.now }
-    requires sound { IsSound (kinds_in (asked_once query.now).aggregations) (map row_of groups.old.entries) }
-    ensures { OnOk result (AddsAll (asked_once query.now) (map row_of groups.old.entries) rows.now (map row_of groups.new.entries)) }
+    requires sound { IsSound (kinds_in (asked_once query.now).aggregations) groups.old }
+    ensures { OnOk result (AddsAll (asked_once query.now) groups.old rows.now groups.new) }
 {
     let count = rows.len();
     let mut from = 0;
@@ -42,7 +40,7 @@ pub fn add_arrived_at_once(
 
 // Adds the rows of an index from a place on, up to another, of which the filter is asked at once.
 fn add_arrived_lot(
-    groups: &mut IndexMap<Key, Numbers>,
+    groups: &mut Groups,
     group: &mut Vec<Text>,
     query: &Query,
     filter: &Filter,
@@ -54,8 +52,8 @@ fn add_arrived_lot(
     requires within { to ≤ length rows.now }
     requires filter { option_map condition_in query.now.filter ≡ Some (condition_in filter.now) }
     requires instants { AllByRecursion (λ r. IsInstant r.key.time) rows.now }
-    requires sound { IsSound (kinds_in (asked_once query.now).aggregations) (map row_of groups.old.entries) }
-    ensures { OnOk result (AddsAll (asked_once query.now) (map row_of groups.old.entries) (slice_range rows.now from to) (map row_of groups.new.entries)) }
+    requires sound { IsSound (kinds_in (asked_once query.now).aggregations) groups.old }
+    ensures { OnOk result (AddsAll (asked_once query.now) groups.old (slice_range rows.now from to) groups.new) }
 {
     let told = select_arrived(*group.allocator(), filter, rows, from, to)?;
     for i in from..to {
@@ -68,7 +66,7 @@ fn add_arrived_lot(
 
 /// Adds the rows of a piece, of which a filter is asked many at once. `group` is memory to use again.
 pub fn add_rows_at_once(
-    groups: &mut IndexMap<Key, Numbers>,
+    groups: &mut Groups,
     group: &mut Vec<Text>,
     query: &Query,
     filter: &Filter,
@@ -76,8 +74,8 @@ pub fn add_rows_at_once(
 ) -> Result<(), AllocError>
     requires filter { option_map condition_in query.now.filter ≡ Some (condition_in filter.now) }
     requires instants { AllByRecursion (λ r. IsInstant r.key.time) rows.now }
-    requires sound { IsSound (kinds_in (asked_once query.now).aggregations) (map row_of groups.old.entries) }
-    ensures { OnOk result (AddsAll (asked_once query.now) (map row_of groups.old.entries) rows.now (map row_of groups.new.entries)) }
+    requires sound { IsSound (kinds_in (asked_once query.now).aggregations) groups.old }
+    ensures { OnOk result (AddsAll (asked_once query.now) groups.old rows.now groups.new) }
 {
     let count = rows.len();
     let mut from = 0;
@@ -91,7 +89,7 @@ pub fn add_rows_at_once(
 
 // Adds rows of which the filter is asked at once.
 fn add_lot(
-    groups: &mut IndexMap<Key, Numbers>,
+    groups: &mut Groups,
     group: &mut Vec<Text>,
     query: &Query,
     filter: &Filter,
@@ -99,8 +97,8 @@ fn add_lot(
 ) -> Result<(), AllocError>
     requires filter { option_map condition_in query.now.filter ≡ Some (condition_in filter.now) }
     requires instants { AllByRecursion (λ r. IsInstant r.key.time) rows.now }
-    requires sound { IsSound (kinds_in (asked_once query.now).aggregations) (map row_of groups.old.entries) }
-    ensures { OnOk result (AddsAll (asked_once query.now) (map row_of groups.old.entries) rows.now (map row_of groups.new.entries)) }
+    requires sound { IsSound (kinds_in (asked_once query.now).aggregations) groups.old }
+    ensures { OnOk result (AddsAll (asked_once query.now) groups.old rows.now groups.new) }
 {
     let told = select_rows(*group.allocator(), filter, rows)?;
     for i in 0..rows.len() {
@@ -123,7 +121,7 @@ fn add_lot(
 
 /// Adds a row, where the filter is known to pass it and an interval of the query holds its time.
 pub fn add_told(
-    groups: &mut IndexMap<Key, Numbers>,
+    groups: &mut Groups,
     group: &mut Vec<Text>,
     query: &Query,
     passed: bool,
@@ -132,8 +130,8 @@ pub fn add_told(
 ) -> Result<(), AllocError>
     requires passed { passed ≡ passes_of (option_map condition_in query.now.filter) (record { time = key.now.time; dims = key.now.dims.now }) }
     requires instant { IsInstant key.now.time }
-    requires sound { IsSound (kinds_in (asked_once query.now).aggregations) (map row_of groups.old.entries) }
-    ensures { OnOk result (AddsAll (asked_once query.now) (map row_of groups.old.entries) (record { key = record { time = key.now.time; dims = key.now.dims.now }; metrics = metrics.now } ∷ []) (map row_of groups.new.entries)) }
+    requires sound { IsSound (kinds_in (asked_once query.now).aggregations) groups.old }
+    ensures { OnOk result (AddsAll (asked_once query.now) groups.old (record { key = record { time = key.now.time; dims = key.now.dims.now }; metrics = metrics.now } ∷ []) groups.new) }
 {
     let time = key.time;
     let dims = key.dims;

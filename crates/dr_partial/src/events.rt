@@ -2,7 +2,6 @@ ghost use Rattle.std.specs.Prelude.{◌≡◌, ◌∷◌, [], Some, true, map, o
 ghost use Rattle.std.specs.List.{AllByRecursion, flat_map};
 ghost use Rattle.dr_time.specs.Instant.{IsInstant};
 ghost use Rattle.dr_schema.specs.Fits.{FitsSchema};
-ghost use Rattle.dr_rollup.specs.Entries.{row_of};
 ghost use Rattle.dr_rollup.specs.Unrolled.{unrolled, contributions};
 ghost use Rattle.dr_answers.specs.Selection.{passes as passes_of, selects};
 ghost use Rattle.dr_filter.specs.Condition.{condition_in};
@@ -14,27 +13,26 @@ use crate::at_once::is_told;
 use crate::rows::add_selected;
 use crate::selecting::is_selected;
 use dr_ask::Query;
-use dr_base::{Event, Key, Numbers, Text};
+use dr_base::{Event, Text};
 use dr_filter::Filter;
 use dr_fragment::SharedEvent;
-use dr_rollup::{KeyOf, push_contributions};
+use dr_rollup::{Groups, KeyOf, push_contributions};
 use dr_rowindex::RowSet;
 use dr_schema::{Metric, Schema};
 use dr_select::{filter_of_many, lot_end, select};
-use indexmap::IndexMap;
 use std::alloc::{AllocError, Global};
 
 /// Adds the events of some pieces, each as a row of its own, one piece after another. `group` is memory to use again.
 pub fn add_event_pieces(
-    groups: &mut IndexMap<Key, Numbers>,
+    groups: &mut Groups,
     group: &mut Vec<Text>,
     query: &Query,
     schema: &Schema,
     pieces: &[&[SharedEvent]],
 ) -> Result<(), AllocError>
     requires fit { AllByRecursion (FitsSchema schema.now) (flat_map (λ p. p.now) pieces.now) }
-    requires sound { IsSound (kinds_in (asked_once query.now).aggregations) (map row_of groups.old.entries) }
-    ensures { OnOk result (AddsAll (asked_once query.now) (map row_of groups.old.entries) (map (unrolled schema.now) (flat_map (λ p. p.now) pieces.now)) (map row_of groups.new.entries)) }
+    requires sound { IsSound (kinds_in (asked_once query.now).aggregations) groups.old }
+    ensures { OnOk result (AddsAll (asked_once query.now) groups.old (map (unrolled schema.now) (flat_map (λ p. p.now) pieces.now)) groups.new) }
 {
     let mut metrics = Vec::new(*group.allocator());
     for piece in pieces {
@@ -45,7 +43,7 @@ pub fn add_event_pieces(
 
 /// Adds the events of a piece. `metrics` is memory to use again.
 fn add_events(
-    groups: &mut IndexMap<Key, Numbers>,
+    groups: &mut Groups,
     group: &mut Vec<Text>,
     metrics: &mut Vec<i64>,
     query: &Query,
@@ -53,8 +51,8 @@ fn add_events(
     events: &[SharedEvent],
 ) -> Result<(), AllocError>
     requires fit { AllByRecursion (FitsSchema schema.now) events.now }
-    requires sound { IsSound (kinds_in (asked_once query.now).aggregations) (map row_of groups.old.entries) }
-    ensures { OnOk result (AddsAll (asked_once query.now) (map row_of groups.old.entries) (map (unrolled schema.now) events.now) (map row_of groups.new.entries)) }
+    requires sound { IsSound (kinds_in (asked_once query.now).aggregations) groups.old }
+    ensures { OnOk result (AddsAll (asked_once query.now) groups.old (map (unrolled schema.now) events.now) groups.new) }
 {
     match filter_of_many(&query.filter) {
         Some(filter) => add_at_once(groups, group, metrics, query, filter, schema, events),
@@ -64,7 +62,7 @@ fn add_events(
 
 // Adds events one by one.
 fn add_each(
-    groups: &mut IndexMap<Key, Numbers>,
+    groups: &mut Groups,
     group: &mut Vec<Text>,
     metrics: &mut Vec<i64>,
     query: &Query,
@@ -72,8 +70,8 @@ fn add_each(
     events: &[SharedEvent],
 ) -> Result<(), AllocError>
     requires fit { AllByRecursion (FitsSchema schema.now) events.now }
-    requires sound { IsSound (kinds_in (asked_once query.now).aggregations) (map row_of groups.old.entries) }
-    ensures { OnOk result (AddsAll (asked_once query.now) (map row_of groups.old.entries) (map (unrolled schema.now) events.now) (map row_of groups.new.entries)) }
+    requires sound { IsSound (kinds_in (asked_once query.now).aggregations) groups.old }
+    ensures { OnOk result (AddsAll (asked_once query.now) groups.old (map (unrolled schema.now) events.now) groups.new) }
 {
     for shared in events {
         add_event(groups, group, metrics, query, schema, shared.event())?;
@@ -83,7 +81,7 @@ fn add_each(
 
 // Adds events, of which a filter is asked many at once.
 fn add_at_once(
-    groups: &mut IndexMap<Key, Numbers>,
+    groups: &mut Groups,
     group: &mut Vec<Text>,
     metrics: &mut Vec<i64>,
     query: &Query,
@@ -93,8 +91,8 @@ fn add_at_once(
 ) -> Result<(), AllocError>
     requires filter { option_map condition_in query.now.filter ≡ Some (condition_in filter.now) }
     requires fit { AllByRecursion (FitsSchema schema.now) events.now }
-    requires sound { IsSound (kinds_in (asked_once query.now).aggregations) (map row_of groups.old.entries) }
-    ensures { OnOk result (AddsAll (asked_once query.now) (map row_of groups.old.entries) (map (unrolled schema.now) events.now) (map row_of groups.new.entries)) }
+    requires sound { IsSound (kinds_in (asked_once query.now).aggregations) groups.old }
+    ensures { OnOk result (AddsAll (asked_once query.now) groups.old (map (unrolled schema.now) events.now) groups.new) }
 {
     let count = events.len();
     let mut from = 0;
@@ -116,7 +114,7 @@ fn add_at_once(
 
 // Adds events of which the filter is asked at once.
 fn add_lot(
-    groups: &mut IndexMap<Key, Numbers>,
+    groups: &mut Groups,
     group: &mut Vec<Text>,
     metrics: &mut Vec<i64>,
     query: &Query,
@@ -126,8 +124,8 @@ fn add_lot(
 ) -> Result<(), AllocError>
     requires filter { option_map condition_in query.now.filter ≡ Some (condition_in filter.now) }
     requires fit { AllByRecursion (FitsSchema schema.now) events.now }
-    requires sound { IsSound (kinds_in (asked_once query.now).aggregations) (map row_of groups.old.entries) }
-    ensures { OnOk result (AddsAll (asked_once query.now) (map row_of groups.old.entries) (map (unrolled schema.now) events.now) (map row_of groups.new.entries)) }
+    requires sound { IsSound (kinds_in (asked_once query.now).aggregations) groups.old }
+    ensures { OnOk result (AddsAll (asked_once query.now) groups.old (map (unrolled schema.now) events.now) groups.new) }
 {
     let told = events_told(*group.allocator(), filter, schema, events)?;
     for i in 0..events.len() {
@@ -167,7 +165,7 @@ fn events_told(
 
 // Adds an event, where the filter is known to pass its row.
 fn add_told_event(
-    groups: &mut IndexMap<Key, Numbers>,
+    groups: &mut Groups,
     group: &mut Vec<Text>,
     metrics: &mut Vec<i64>,
     query: &Query,
@@ -177,8 +175,8 @@ fn add_told_event(
 ) -> Result<(), AllocError>
     requires passed { passed ≡ passes_of (option_map condition_in query.now.filter) (unrolled schema.now event.now).key }
     requires fits { FitsSchema schema.now event.now }
-    requires sound { IsSound (kinds_in (asked_once query.now).aggregations) (map row_of groups.old.entries) }
-    ensures { OnOk result (AddsAll (asked_once query.now) (map row_of groups.old.entries) (unrolled schema.now event.now ∷ []) (map row_of groups.new.entries)) }
+    requires sound { IsSound (kinds_in (asked_once query.now).aggregations) groups.old }
+    ensures { OnOk result (AddsAll (asked_once query.now) groups.old (unrolled schema.now event.now ∷ []) groups.new) }
 {
     let time = schema.query_granularity().truncate(event.time);
     let dims = event.dims.as_slice();
@@ -190,7 +188,7 @@ fn add_told_event(
 
 /// Adds an event, where the query selects its row.
 fn add_event(
-    groups: &mut IndexMap<Key, Numbers>,
+    groups: &mut Groups,
     group: &mut Vec<Text>,
     metrics: &mut Vec<i64>,
     query: &Query,
@@ -198,8 +196,8 @@ fn add_event(
     event: &Event,
 ) -> Result<(), AllocError>
     requires fits { FitsSchema schema.now event.now }
-    requires sound { IsSound (kinds_in (asked_once query.now).aggregations) (map row_of groups.old.entries) }
-    ensures { OnOk result (AddsAll (asked_once query.now) (map row_of groups.old.entries) (unrolled schema.now event.now ∷ []) (map row_of groups.new.entries)) }
+    requires sound { IsSound (kinds_in (asked_once query.now).aggregations) groups.old }
+    ensures { OnOk result (AddsAll (asked_once query.now) groups.old (unrolled schema.now event.now ∷ []) groups.new) }
 {
     let time = schema.query_granularity().truncate(event.time);
     let dims = event.dims.as_slice();
@@ -211,7 +209,7 @@ fn add_event(
 
 // Adds an event, whose row the query selects and has this time.
 fn add_taken(
-    groups: &mut IndexMap<Key, Numbers>,
+    groups: &mut Groups,
     group: &mut Vec<Text>,
     metrics: &mut Vec<i64>,
     query: &Query,
@@ -223,8 +221,8 @@ fn add_taken(
     requires instant { IsInstant time }
     requires taken { selects (asked_once query.now) (unrolled schema.now event.now).key ≡ true }
     requires fits { FitsSchema schema.now event.now }
-    requires sound { IsSound (kinds_in (asked_once query.now).aggregations) (map row_of groups.old.entries) }
-    ensures { OnOk result (AddsAll (asked_once query.now) (map row_of groups.old.entries) (unrolled schema.now event.now ∷ []) (map row_of groups.new.entries)) }
+    requires sound { IsSound (kinds_in (asked_once query.now).aggregations) groups.old }
+    ensures { OnOk result (AddsAll (asked_once query.now) groups.old (unrolled schema.now event.now ∷ []) groups.new) }
 {
     read_metrics(
         schema.metrics().as_slice(),

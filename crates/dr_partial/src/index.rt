@@ -1,8 +1,7 @@
-ghost use Rattle.std.specs.Prelude.{◌<◌, ◌≤◌, length, map, IfOk, OnOk, slice_range};
+ghost use Rattle.std.specs.Prelude.{◌<◌, ◌≤◌, length, IfOk, OnOk, slice_range};
 ghost use Rattle.std.specs.List.{AllByRecursion};
 ghost use Rattle.dr_time.specs.Instant.{IsInstant};
 ghost use Rattle.dr_ask.specs.Once.{asked_once};
-ghost use Rattle.dr_rollup.specs.Entries.{row_of};
 ghost use Rattle.dr_partial.specs.Grouped.{IsSound, AddsAll};
 ghost use Rattle.dr_partial.specs.Partial.{kinds_in};
 
@@ -10,36 +9,35 @@ use crate::arrived_runs::{add_run, run_end};
 use crate::at_once::add_arrived_at_once;
 use crate::window::Window;
 use dr_ask::Query;
-use dr_base::{Key, Numbers, Text};
-use dr_rollup::{Arrived, OpenIndex};
+use dr_base::Text;
+use dr_rollup::{Arrived, Groups, OpenIndex};
 use dr_select::filter_of_many;
-use indexmap::IndexMap;
 use std::alloc::AllocError;
 
 /// Adds the rows of an open index, as they lie there. `group` is memory to use again.
 pub fn add_index(
-    groups: &mut IndexMap<Key, Numbers>,
+    groups: &mut Groups,
     group: &mut Vec<Text>,
     query: &Query,
     index: &OpenIndex,
 ) -> Result<(), AllocError>
     requires instants { AllByRecursion (λ r. IsInstant r.key.time) index.now.rows }
-    requires sound { IsSound (kinds_in (asked_once query.now).aggregations) (map row_of groups.old.entries) }
-    ensures { OnOk result (AddsAll (asked_once query.now) (map row_of groups.old.entries) index.now.rows (map row_of groups.new.entries)) }
+    requires sound { IsSound (kinds_in (asked_once query.now).aggregations) groups.old }
+    ensures { OnOk result (AddsAll (asked_once query.now) groups.old index.now.rows groups.new) }
 {
     add_arrived(groups, group, query, &index.arrived())
 }
 
 // Adds rows in the order in which their keys came.
 fn add_arrived(
-    groups: &mut IndexMap<Key, Numbers>,
+    groups: &mut Groups,
     group: &mut Vec<Text>,
     query: &Query,
     rows: &Arrived<'_>,
 ) -> Result<(), AllocError>
     requires instants { AllByRecursion (λ r. IsInstant r.key.time) rows.now }
-    requires sound { IsSound (kinds_in (asked_once query.now).aggregations) (map row_of groups.old.entries) }
-    ensures { OnOk result (AddsAll (asked_once query.now) (map row_of groups.old.entries) rows.now (map row_of groups.new.entries)) }
+    requires sound { IsSound (kinds_in (asked_once query.now).aggregations) groups.old }
+    ensures { OnOk result (AddsAll (asked_once query.now) groups.old rows.now groups.new) }
 {
     match filter_of_many(&query.filter) {
         Some(filter) => add_arrived_at_once(groups, group, query, filter, rows),
@@ -49,14 +47,14 @@ fn add_arrived(
 
 // Adds rows, those that lie in the same interval and the same bucket after others that do.
 fn add_runs(
-    groups: &mut IndexMap<Key, Numbers>,
+    groups: &mut Groups,
     group: &mut Vec<Text>,
     query: &Query,
     rows: &Arrived<'_>,
 ) -> Result<(), AllocError>
     requires instants { AllByRecursion (λ r. IsInstant r.key.time) rows.now }
-    requires sound { IsSound (kinds_in (asked_once query.now).aggregations) (map row_of groups.old.entries) }
-    ensures { OnOk result (AddsAll (asked_once query.now) (map row_of groups.old.entries) rows.now (map row_of groups.new.entries)) }
+    requires sound { IsSound (kinds_in (asked_once query.now).aggregations) groups.old }
+    ensures { OnOk result (AddsAll (asked_once query.now) groups.old rows.now groups.new) }
 {
     let count = rows.len();
     let mut from = 0;
@@ -69,7 +67,7 @@ fn add_runs(
 // Adds the row at a place and those behind it that lie in the same interval and the same bucket, up to the first that doesn't.
 // Answers the place of that one.
 fn add_from(
-    groups: &mut IndexMap<Key, Numbers>,
+    groups: &mut Groups,
     group: &mut Vec<Text>,
     query: &Query,
     rows: &Arrived<'_>,
@@ -77,10 +75,10 @@ fn add_from(
 ) -> Result<usize, AllocError>
     requires from { from < length rows.now }
     requires instants { AllByRecursion (λ r. IsInstant r.key.time) rows.now }
-    requires sound { IsSound (kinds_in (asked_once query.now).aggregations) (map row_of groups.old.entries) }
+    requires sound { IsSound (kinds_in (asked_once query.now).aggregations) groups.old }
     ensures more { IfOk result (λ to. from < to) }
     ensures within { IfOk result (λ to. to ≤ length rows.now) }
-    ensures adds { IfOk result (λ to. AddsAll (asked_once query.now) (map row_of groups.old.entries) (slice_range rows.now from to) (map row_of groups.new.entries)) }
+    ensures adds { IfOk result (λ to. AddsAll (asked_once query.now) groups.old (slice_range rows.now from to) groups.new) }
 {
     let _ = rows.len();
     let (time, _, _) = rows.row(from);

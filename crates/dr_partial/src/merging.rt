@@ -1,52 +1,48 @@
-ghost use Rattle.std.specs.Prelude.{map, OnOk};
+ghost use Rattle.std.specs.Prelude.{OnOk};
 ghost use Rattle.dr_agg.specs.Combination.{FitsColumns};
 ghost use Rattle.dr_agg.specs.Rollup.{AllFit};
-ghost use Rattle.dr_rollup.specs.Entries.{row_of};
 ghost use Rattle.dr_partial.specs.Grouped.{IsSound, Adds, AddsEach};
 ghost use Rattle.dr_partial.specs.Partial.{kinds_in};
 
 use crate::folds::combine_at;
-use crate::grouping::{find, put};
 use dr_ask::Aggregation;
-use dr_base::{Key, Numbers};
-use dr_rollup::KeyOf;
-use indexmap::IndexMap;
+use dr_base::Row;
+use dr_rollup::{Groups, KeyOf};
 use std::alloc::AllocError;
 
 /// Adds each of some groups to the group of its key, or as a new one.
 pub fn add_groups(
-    groups: &mut IndexMap<Key, Numbers>,
+    groups: &mut Groups,
     aggregations: &[Aggregation],
-    others: IndexMap<Key, Numbers>,
+    others: Groups,
 ) -> Result<(), AllocError>
-    requires sound { IsSound (kinds_in aggregations.now) (map row_of groups.old.entries) }
-    requires fit { AllFit (kinds_in aggregations.now) (map row_of others.entries) }
-    ensures { OnOk result (AddsEach (kinds_in aggregations.now) (map row_of groups.old.entries) (map row_of others.entries) (map row_of groups.new.entries)) }
+    requires sound { IsSound (kinds_in aggregations.now) groups.old }
+    requires fit { AllFit (kinds_in aggregations.now) others }
+    ensures { OnOk result (AddsEach (kinds_in aggregations.now) groups.old others groups.new) }
 {
-    for (key, folds) in others {
-        add_group(groups, aggregations, key, folds)?;
+    for group in others.into_rows() {
+        add_group(groups, aggregations, group)?;
     }
     Ok(())
 }
 
 // Adds a group to the group of its key, or as a new one.
 fn add_group(
-    groups: &mut IndexMap<Key, Numbers>,
+    groups: &mut Groups,
     aggregations: &[Aggregation],
-    key: Key,
-    folds: Numbers,
+    group: Row,
 ) -> Result<(), AllocError>
-    requires sound { IsSound (kinds_in aggregations.now) (map row_of groups.old.entries) }
-    requires fits { FitsColumns (kinds_in aggregations.now) folds }
-    ensures { OnOk result (Adds (kinds_in aggregations.now) (map row_of groups.old.entries) (record { key = key; metrics = folds }) (map row_of groups.new.entries)) }
+    requires sound { IsSound (kinds_in aggregations.now) groups.old }
+    requires fits { FitsColumns (kinds_in aggregations.now) group.metrics }
+    ensures { OnOk result (Adds (kinds_in aggregations.now) groups.old group groups.new) }
 {
-    let group = KeyOf {
-        time: key.time,
-        dims: key.dims.as_slice(),
+    let key = KeyOf {
+        time: group.key.time,
+        dims: group.key.dims.as_slice(),
     };
-    if let Some(place) = find(groups, &group) {
-        combine_at(groups, place, aggregations, folds.as_slice());
+    if let Some(place) = groups.find(&key) {
+        combine_at(groups, place, aggregations, group.metrics.as_slice());
         return Ok(());
     }
-    put(groups, key, folds)
+    groups.put(group.key, group.metrics)
 }

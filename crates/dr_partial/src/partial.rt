@@ -5,7 +5,6 @@ ghost use Rattle.dr_ask.specs.Once.{asked_once};
 ghost use Rattle.dr_base.specs.declared.key.Key.{Key};
 ghost use Rattle.dr_base.specs.declared.row.Row.{Row};
 ghost use Rattle.dr_intervals.specs.Printable.{StartsPrintable};
-ghost use Rattle.dr_rollup.specs.Entries.{row_of};
 ghost use Rattle.dr_rollup.specs.Unrolled.{unrolled};
 ghost use Rattle.dr_schema.specs.Fits.{FitsSchema};
 ghost use Rattle.dr_time.specs.Instant.{IsInstant};
@@ -19,45 +18,43 @@ use crate::merging::add_groups;
 use crate::rows::{add_pieces, add_rows};
 use dr_agg::sort_rows;
 use dr_ask::Query;
-use dr_base::{Key, Numbers, Row};
+use dr_base::Row;
 use dr_fragment::{SharedEvent, SharedFragment};
-use dr_rollup::KeyOf;
+use dr_rollup::{Groups, KeyOf};
 use dr_schema::Schema;
-use indexmap::IndexMap;
 use std::alloc::{AllocError, Global};
 use std::marker::Model;
 
 /// The groups of a query over some rows, by bucket and dimension values, each with what the aggregations fold to. A contract
 /// sees them as rows in the order of their keys: the bucket as the time, the values of the query's dimensions, and the folds.
 ///
-/// A row finds its group by hashing the start of its bucket and the values of the query's dimensions, in expected constant time
-/// however many groups there are, and is combined into it in place.
+/// A row finds its group by hashing the start of its bucket and the values of the query's dimensions: mostly by one look, however many
+/// groups there are, and by a logarithm of them more where the hashes of many are alike. It is combined into the group in place.
 #[derive(Drop)]
 pub struct Partial {
-    groups: IndexMap<Key, Numbers>,
+    groups: Groups,
 }
 
 impl Model for Partial {
     ghost use Rattle.std.specs.Prelude.{List, map};
     ghost use Rattle.dr_base.specs.declared.row.Row.{Row};
-    ghost use Rattle.dr_rollup.specs.Entries.{row_of};
     ghost use Rattle.dr_partial.specs.Grouped.{in_order};
 
     ghost Value = { List Row };
 
-    ghost view = { λ p. in_order (map row_of p.groups.entries) };
+    ghost view = { λ p. in_order p.groups };
 }
 
 impl Partial {
     /// The groups of the rows of some pieces, one piece after another, whose times lie from 0001-01-01 to 9999-12-31. The only
-    /// error is that memory ran out. It takes expected time by the rows and the bytes of their dimension values, and memory by
+    /// error is that memory ran out. It takes time by the rows and the bytes of their dimension values, mostly, and memory by
     /// the groups. Where the intervals of the query start at times that can be printed, so do the buckets.
     pub fn of_rows(alloc: Global, query: &Query, pieces: &[&[Row]]) -> Result<Partial, AllocError>
         requires { AllByRecursion (λ r. IsInstant r.key.time) (all_rows (map (λ p. p.now) pieces.now)) }
         ensures value { IfOk result (λ p. p ≡ partial (asked_once query.now) (all_rows (map (λ p. p.now) pieces.now))) }
         ensures printable { All StartsPrintable query.now.intervals → IfOk result (λ p. AllByRecursion (λ g. IsPrintable g.key.time) p) }
     {
-        let mut groups = IndexMap::new(alloc);
+        let mut groups = Groups::new(alloc);
         let mut group = Vec::new(alloc);
         add_pieces(&mut groups, &mut group, query, pieces)?;
         Ok(Partial { groups })
@@ -75,7 +72,7 @@ impl Partial {
         ensures value { IfOk result (λ p. p ≡ partial (asked_once query.now) (map (unrolled schema.now) (flat_map (λ p. p.now) pieces.now))) }
         ensures printable { All StartsPrintable query.now.intervals → IfOk result (λ p. AllByRecursion (λ g. IsPrintable g.key.time) p) }
     {
-        let mut groups = IndexMap::new(alloc);
+        let mut groups = Groups::new(alloc);
         let mut group = Vec::new(alloc);
         add_event_pieces(&mut groups, &mut group, query, schema, pieces)?;
         Ok(Partial { groups })
@@ -106,7 +103,7 @@ impl Partial {
     /// value of a dictionary that its filter asks of, and once for each run of equal times; the bounds of a bucket
     /// are calculated once for its rows; and a group is found by the numbers of its values, mostly, and its texts are copied
     /// once. An image that lies outside the query's intervals takes time logarithmic in their number. Any other takes time by the
-    /// rows, and expected time by the groups and the bytes of their values; and memory by the groups, by a byte a row for each
+    /// rows, and mostly by the groups and the bytes of their values; and memory by the groups, by a byte a row for each
     /// level of the filter, and by at most 65521 places of groups. Without dimensions and filter it takes no memory but that of
     /// the groups. A filter of many tests ([`is_asked_at_once`](dr_select::is_asked_at_once)) is asked of many rows at once, in whatever
     /// form they lie, which takes what [`select_rows`](dr_select::select_rows) takes of so many; of the rows of several small ranges it
@@ -139,14 +136,14 @@ impl Partial {
     {
         let _ = self.groups.len();
         let mut added = self.groups;
-        let mut group = Vec::new(*added.allocator());
+        let mut group = Vec::new(added.allocator());
         add_rows(&mut added, &mut group, query, rows)?;
         Ok(Partial { groups: added })
     }
 
     /// The groups of this partial result and another one of the same query, those of one key combined: where they are of some
     /// rows and of others, those of all of these rows. The groups of the smaller one are added to the larger. The only error is that
-    /// memory ran out. It takes expected time by the groups of the smaller one and the bytes of their dimension values; no key
+    /// memory ran out. It takes time by the groups of the smaller one and the bytes of their dimension values, mostly; no key
     /// is copied.
     pub fn merge(self, query: &Query, other: Partial) -> Result<Partial, AllocError>
         requires own { IsPartial (asked_once query.now) self }
@@ -169,15 +166,19 @@ impl Partial {
     }
 
     /// The folds of the group of a bucket that has no dimension values, as each has in a timeseries; none where there is no such
-    /// group. The bucket is given by its start in milliseconds since the epoch. It takes expected constant time.
+    /// group. The bucket is given by its start in milliseconds since the epoch. It takes constant time, mostly.
     pub fn values_at(&self, bucket: i64) -> Option<&[i64]>
         ensures { option_map (λ v. v.now) result ≡ values_at bucket self.now }
     {
-        match self.groups.get(KeyOf {
+        let group = KeyOf {
             time: bucket,
             dims: &[],
-        }) {
-            Some(values) => Some(values.as_slice()),
+        };
+        match self.groups.find(&group) {
+            Some(place) => match self.groups.get(place) {
+                Some(found) => Some(found.metrics.as_slice()),
+                None => None,
+            },
             None => None,
         }
     }
@@ -187,44 +188,27 @@ impl Partial {
     pub fn into_rows(self) -> Result<Vec<Row>, AllocError>
         ensures { IfOk result (λ rows. rows.items ≡ self) }
     {
-        let mut rows = entry_rows(self.groups)?;
+        let mut rows = self.groups.into_rows();
         sort_rows(&mut rows)?;
         Ok(rows)
     }
 
-    /// The groups in any order: of each key the group that there is. The only error is that memory ran out. It takes time by the
-    /// groups, and sorts nothing; keys and folds aren't copied.
-    pub fn into_groups(self) -> Result<Vec<Row>, AllocError>
-        ensures same { IfOk result (λ rows. (k : Key) → rows_at k rows.items ≡ rows_at k self) }
+    /// The groups in any order: of each key the group that there is. It takes constant time and no memory; nothing is sorted or copied.
+    pub fn into_groups(self) -> Vec<Row>
+        ensures same { (k : Key) → rows_at k result.items ≡ rows_at k self }
         ensures order { IsInOrder self }
     {
-        let rows = entry_rows(self.groups)?;
-        Ok(rows)
+        self.groups.into_rows()
     }
 }
 
 // Groups with each of some others added.
-fn joined(
-    query: &Query,
-    larger: IndexMap<Key, Numbers>,
-    smaller: IndexMap<Key, Numbers>,
-) -> Result<Partial, AllocError>
-    requires sound { IsSound (kinds_in (asked_once query.now).aggregations) (map row_of larger.entries) }
-    requires fit { AllFit (kinds_in (asked_once query.now).aggregations) (map row_of smaller.entries) }
-    ensures { IfOk result (λ p. p ≡ rollup_onto true (kinds_in (asked_once query.now).aggregations) (in_order (map row_of larger.entries)) (map row_of smaller.entries)) }
+fn joined(query: &Query, larger: Groups, smaller: Groups) -> Result<Partial, AllocError>
+    requires sound { IsSound (kinds_in (asked_once query.now).aggregations) larger }
+    requires fit { AllFit (kinds_in (asked_once query.now).aggregations) smaller }
+    ensures { IfOk result (λ p. p ≡ rollup_onto true (kinds_in (asked_once query.now).aggregations) (in_order larger) smaller) }
 {
     let mut groups = larger;
     add_groups(&mut groups, query.aggregations.distinct(), smaller)?;
     Ok(Partial { groups })
-}
-
-// The groups in the order in which they came.
-fn entry_rows(groups: IndexMap<Key, Numbers>) -> Result<Vec<Row>, AllocError>
-    ensures { IfOk result (λ rows. rows.items ≡ map row_of groups.entries) }
-{
-    let mut rows = Vec::with_capacity(*groups.allocator(), groups.len())?;
-    for (key, metrics) in groups {
-        rows.push(Row { key, metrics })?;
-    }
-    Ok(rows)
 }

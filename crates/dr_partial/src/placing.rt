@@ -6,25 +6,23 @@ ghost use Rattle.dr_answers.specs.Fold.{folds};
 ghost use Rattle.dr_answers.specs.Groups.{bucket as bucket_of};
 ghost use Rattle.dr_image.specs.Table.{row_at};
 ghost use Rattle.dr_columns.specs.Rows.{key_at};
-ghost use Rattle.dr_rollup.specs.Entries.{row_of, HasKeyAt, NoneHas};
+ghost use Rattle.dr_rollup.specs.Entries.{HasKeyAt, NoneHas};
 ghost use Rattle.dr_partial.specs.Grouped.{IsSound, Adds, CombinesAt};
 ghost use Rattle.dr_partial.specs.Known.{AreKnown, KeepsKeys, group_in, folds_read};
 ghost use Rattle.dr_partial.specs.Partial.{kinds_in, alone};
 
-use crate::grouping::{find, put};
 use crate::known::Known;
 use crate::selecting::dimensions;
 use crate::source::Source;
-use dr_base::{Key, Numbers, Text};
+use dr_base::{Numbers, Text};
 use dr_columns::{Reading, agree, read_group, slot, slot_count};
-use dr_rollup::KeyOf;
-use indexmap::IndexMap;
+use dr_rollup::{Groups, KeyOf};
 use std::alloc::{AllocError, Global};
 
 /// Adds a row of an image that is selected and lies in the bucket that starts there. Where a row of the same numbers was added
 /// before, its group is mostly found by them, and else by the texts. `group` is memory to use again.
 pub fn add_selected_at(
-    groups: &mut IndexMap<Key, Numbers>,
+    groups: &mut Groups,
     source: &Source<'_>,
     known: &mut Vec<Known>,
     group: &mut Vec<Text>,
@@ -33,10 +31,10 @@ pub fn add_selected_at(
 ) -> Result<(), AllocError>
     requires within { i < length source.now.view.now.times }
     requires bucket { bucket ≡ bucket_of (asked_once source.now.query.now) (key_at source.now.view.now i).time }
-    requires sound { IsSound (kinds_in (asked_once source.now.query.now).aggregations) (map row_of groups.old.entries) }
-    requires known { AreKnown (asked_once source.now.query.now) source.now.view.now (map row_of groups.old.entries) known.old.items }
-    ensures adds { OnOk result (Adds (kinds_in (asked_once source.now.query.now).aggregations) (map row_of groups.old.entries) (alone (asked_once source.now.query.now) (row_at source.now.view.now i)) (map row_of groups.new.entries)) }
-    ensures known { OnOk result (AreKnown (asked_once source.now.query.now) source.now.view.now (map row_of groups.new.entries) known.new.items) }
+    requires sound { IsSound (kinds_in (asked_once source.now.query.now).aggregations) groups.old }
+    requires known { AreKnown (asked_once source.now.query.now) source.now.view.now groups.old known.old.items }
+    ensures adds { OnOk result (Adds (kinds_in (asked_once source.now.query.now).aggregations) groups.old (alone (asked_once source.now.query.now) (row_at source.now.view.now i)) groups.new) }
+    ensures known { OnOk result (AreKnown (asked_once source.now.query.now) source.now.view.now groups.new known.new.items) }
 {
     let slot = slot(source.columns.as_slice(), known.len(), i);
     if let Some(place) = place_known(groups, source, known.as_slice(), slot, bucket, i) {
@@ -59,15 +57,15 @@ pub fn add_selected_at(
 
 // The place of the group of a row, where a row of the same numbers was noted in its slot.
 fn place_known(
-    groups: &IndexMap<Key, Numbers>,
+    groups: &Groups,
     source: &Source<'_>,
     known: &[Known],
     slot: usize,
     bucket: i64,
     i: usize,
 ) -> Option<usize>
-    requires { AreKnown (asked_once source.now.query.now) source.now.view.now (map row_of groups.now.entries) known.now }
-    ensures { IfSome result (HasKeyAt (group_in (asked_once source.now.query.now) source.now.view.now bucket i) (map row_of groups.now.entries)) }
+    requires { AreKnown (asked_once source.now.query.now) source.now.view.now groups.now known.now }
+    ensures { IfSome result (HasKeyAt (group_in (asked_once source.now.query.now) source.now.view.now bucket i) groups.now) }
 {
     let Some(noted) = known.get(slot) else {
         return None;
@@ -80,12 +78,14 @@ fn place_known(
 }
 
 // Combines a row into the group at a place.
-fn combine_at(groups: &mut IndexMap<Key, Numbers>, place: usize, source: &Source<'_>, i: usize)
-    requires place { place < length (map row_of groups.old.entries) }
-    requires fits { AllFit (kinds_in (asked_once source.now.query.now).aggregations) (map row_of groups.old.entries) }
-    ensures { CombinesAt (kinds_in (asked_once source.now.query.now).aggregations) (folds (asked_once source.now.query.now).aggregations (row_at source.now.view.now i ∷ [])) (map row_of groups.old.entries) place (map row_of groups.new.entries) }
+fn combine_at(groups: &mut Groups, place: usize, source: &Source<'_>, i: usize)
+    requires place { place < length groups.old }
+    requires fits { AllFit (kinds_in (asked_once source.now.query.now).aggregations) groups.old }
+    ensures { CombinesAt (kinds_in (asked_once source.now.query.now).aggregations) (folds (asked_once source.now.query.now).aggregations (row_at source.now.view.now i ∷ [])) groups.old place groups.new }
 {
-    combine_read(source.readings.as_slice(), &mut groups[place], i);
+    let mut values = groups.replace(place, Numbers::new(groups.allocator()));
+    combine_read(source.readings.as_slice(), &mut values, i);
+    groups.replace(place, values);
 }
 
 // Combines what is read of a row into the values of a group.
@@ -103,25 +103,25 @@ fn combine_read(readings: &[Reading<'_>], values: &mut Numbers, i: usize)
 
 // Adds a row, whose group is found by its texts, and answers the place of the group.
 fn add_found(
-    groups: &mut IndexMap<Key, Numbers>,
+    groups: &mut Groups,
     source: &Source<'_>,
     group: &mut Vec<Text>,
     bucket: i64,
     i: usize,
 ) -> Result<usize, AllocError>
     requires within { i < length source.now.view.now.times }
-    requires sound { IsSound (kinds_in (asked_once source.now.query.now).aggregations) (map row_of groups.old.entries) }
-    ensures adds { OnOk result (Adds (kinds_in (asked_once source.now.query.now).aggregations) (map row_of groups.old.entries) (record { key = group_in (asked_once source.now.query.now) source.now.view.now bucket i; metrics = folds (asked_once source.now.query.now).aggregations (row_at source.now.view.now i ∷ []) }) (map row_of groups.new.entries)) }
-    ensures place { IfOk result (HasKeyAt (group_in (asked_once source.now.query.now) source.now.view.now bucket i) (map row_of groups.new.entries)) }
-    ensures keeps { OnOk result (KeepsKeys (map row_of groups.old.entries) (map row_of groups.new.entries)) }
+    requires sound { IsSound (kinds_in (asked_once source.now.query.now).aggregations) groups.old }
+    ensures adds { OnOk result (Adds (kinds_in (asked_once source.now.query.now).aggregations) groups.old (record { key = group_in (asked_once source.now.query.now) source.now.view.now bucket i; metrics = folds (asked_once source.now.query.now).aggregations (row_at source.now.view.now i ∷ []) }) groups.new) }
+    ensures place { IfOk result (HasKeyAt (group_in (asked_once source.now.query.now) source.now.view.now bucket i) groups.new) }
+    ensures keeps { OnOk result (KeepsKeys groups.old groups.new) }
 {
-    let alloc = *groups.allocator();
+    let alloc = groups.allocator();
     read_group(alloc, source.view, dimensions(source.query), i, group)?;
     let key = KeyOf {
         time: bucket,
         dims: group.as_slice(),
     };
-    if let Some(place) = find(groups, &key) {
+    if let Some(place) = groups.find(&key) {
         combine_at(groups, place, source, i);
         return Ok(place);
     }
@@ -132,18 +132,18 @@ fn add_found(
 
 // Adds a group of a row.
 fn put_read(
-    groups: &mut IndexMap<Key, Numbers>,
+    groups: &mut Groups,
     group: &KeyOf<'_>,
     source: &Source<'_>,
     i: usize,
 ) -> Result<(), AllocError>
-    requires { NoneHas (record { time = group.now.time; dims = group.now.dims.now }) (map row_of groups.old.entries) }
-    ensures { OnOk result (map row_of groups.new.entries ≡ map row_of groups.old.entries ++ record { key = record { time = group.now.time; dims = group.now.dims.now }; metrics = folds (asked_once source.now.query.now).aggregations (row_at source.now.view.now i ∷ []) } ∷ []) }
+    requires { NoneHas (record { time = group.now.time; dims = group.now.dims.now }) groups.old }
+    ensures { OnOk result (groups.new ≡ groups.old ++ record { key = record { time = group.now.time; dims = group.now.dims.now }; metrics = folds (asked_once source.now.query.now).aggregations (row_at source.now.view.now i ∷ []) } ∷ []) }
 {
-    let alloc = *groups.allocator();
+    let alloc = groups.allocator();
     let key = group.copy(alloc)?;
     let values = values_read(alloc, source, i)?;
-    put(groups, key, values)
+    groups.put(key, values)
 }
 
 // What each aggregation folds to over a row alone.
@@ -159,18 +159,18 @@ fn values_read(alloc: Global, source: &Source<'_>, i: usize) -> Result<Numbers, 
 
 // Notes where the group of a row stands, in its slot. The first one is noted in each slot.
 fn note(
-    groups: &IndexMap<Key, Numbers>,
+    groups: &Groups,
     source: &Source<'_>,
     known: &mut Vec<Known>,
     slot: usize,
     noted: Known,
 ) -> Result<(), AllocError>
-    requires known { AreKnown (asked_once source.now.query.now) source.now.view.now (map row_of groups.now.entries) known.old.items }
-    requires noted { HasKeyAt (group_in (asked_once source.now.query.now) source.now.view.now noted.bucket noted.row) (map row_of groups.now.entries) noted.place }
-    ensures { OnOk result (AreKnown (asked_once source.now.query.now) source.now.view.now (map row_of groups.now.entries) known.new.items) }
+    requires known { AreKnown (asked_once source.now.query.now) source.now.view.now groups.now known.old.items }
+    requires noted { HasKeyAt (group_in (asked_once source.now.query.now) source.now.view.now noted.bucket noted.row) groups.now noted.place }
+    ensures { OnOk result (AreKnown (asked_once source.now.query.now) source.now.view.now groups.now known.new.items) }
 {
     if known.is_empty() {
-        let alloc = *groups.allocator();
+        let alloc = groups.allocator();
         *known = vec![in alloc; noted; slot_count(source.columns.as_slice())]?;
         return Ok(());
     }

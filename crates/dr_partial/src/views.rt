@@ -1,9 +1,8 @@
-ghost use Rattle.std.specs.Prelude.{◌≡◌, ◌<◌, ◌≤◌, ◌∷◌, [], ℕ, length, map, OnOk};
+ghost use Rattle.std.specs.Prelude.{◌≡◌, ◌<◌, ◌≤◌, ◌∷◌, [], ℕ, length, OnOk};
 ghost use Rattle.dr_ask.specs.Once.{asked_once};
 ghost use Rattle.dr_answers.specs.Groups.{bucket as bucket_of};
 ghost use Rattle.dr_image.specs.Table.{rows_of, row_at};
 ghost use Rattle.dr_columns.specs.Rows.{key_at, rows_between};
-ghost use Rattle.dr_rollup.specs.Entries.{row_of};
 ghost use Rattle.dr_partial.specs.Grouped.{IsSound, AddsAll};
 ghost use Rattle.dr_partial.specs.Known.{AreKnown};
 ghost use Rattle.dr_partial.specs.Partial.{kinds_in};
@@ -14,25 +13,25 @@ use crate::selecting::{bucket_start, dimensions};
 use crate::source::Source;
 use crate::whole_runs::add_whole_runs;
 use dr_ask::Query;
-use dr_base::{Key, Numbers, Text};
+use dr_base::Text;
 use dr_columns::{is_apart, run_end, time_at};
 use dr_image::SegmentView;
-use indexmap::IndexMap;
+use dr_rollup::Groups;
 use std::alloc::AllocError;
 
 /// Adds the rows of an image.
 pub fn add_view(
-    groups: &mut IndexMap<Key, Numbers>,
+    groups: &mut Groups,
     query: &Query,
     view: &SegmentView<'_>,
 ) -> Result<(), AllocError>
-    requires { IsSound (kinds_in (asked_once query.now).aggregations) (map row_of groups.old.entries) }
-    ensures { OnOk result (AddsAll (asked_once query.now) (map row_of groups.old.entries) (rows_of view.now) (map row_of groups.new.entries)) }
+    requires { IsSound (kinds_in (asked_once query.now).aggregations) groups.old }
+    ensures { OnOk result (AddsAll (asked_once query.now) groups.old (rows_of view.now) groups.new) }
 {
     if is_apart(view, &query.intervals) {
         return Ok(());
     }
-    let source = Source::of(*groups.allocator(), query, view)?;
+    let source = Source::of(groups.allocator(), query, view)?;
     if source.selection.is_every() && dimensions(query).is_empty() {
         return add_whole_runs(groups, &source);
     }
@@ -40,11 +39,11 @@ pub fn add_view(
 }
 
 // Adds the rows of an image, those of one bucket after those of another.
-fn add_runs(groups: &mut IndexMap<Key, Numbers>, source: &Source<'_>) -> Result<(), AllocError>
-    requires { IsSound (kinds_in (asked_once source.now.query.now).aggregations) (map row_of groups.old.entries) }
-    ensures { OnOk result (AddsAll (asked_once source.now.query.now) (map row_of groups.old.entries) (rows_of source.now.view.now) (map row_of groups.new.entries)) }
+fn add_runs(groups: &mut Groups, source: &Source<'_>) -> Result<(), AllocError>
+    requires { IsSound (kinds_in (asked_once source.now.query.now).aggregations) groups.old }
+    ensures { OnOk result (AddsAll (asked_once source.now.query.now) groups.old (rows_of source.now.view.now) groups.new) }
 {
-    let alloc = *groups.allocator();
+    let alloc = groups.allocator();
     let mut known = Vec::new(alloc);
     let mut group = Vec::new(alloc);
     let count = source.view.row_count();
@@ -59,7 +58,7 @@ fn add_runs(groups: &mut IndexMap<Key, Numbers>, source: &Source<'_>) -> Result<
 
 // Adds the rows of one bucket.
 fn add_run(
-    groups: &mut IndexMap<Key, Numbers>,
+    groups: &mut Groups,
     source: &Source<'_>,
     known: &mut Vec<Known>,
     group: &mut Vec<Text>,
@@ -69,10 +68,10 @@ fn add_run(
     requires some { from < to }
     requires within { to ≤ length source.now.view.now.times }
     requires same { (i : ℕ) → from ≤ i → i < to → bucket_of (asked_once source.now.query.now) (key_at source.now.view.now i).time ≡ bucket_of (asked_once source.now.query.now) (key_at source.now.view.now from).time }
-    requires sound { IsSound (kinds_in (asked_once source.now.query.now).aggregations) (map row_of groups.old.entries) }
-    requires known { AreKnown (asked_once source.now.query.now) source.now.view.now (map row_of groups.old.entries) known.old.items }
-    ensures adds { OnOk result (AddsAll (asked_once source.now.query.now) (map row_of groups.old.entries) (rows_between source.now.view.now from to) (map row_of groups.new.entries)) }
-    ensures known { OnOk result (AreKnown (asked_once source.now.query.now) source.now.view.now (map row_of groups.new.entries) known.new.items) }
+    requires sound { IsSound (kinds_in (asked_once source.now.query.now).aggregations) groups.old }
+    requires known { AreKnown (asked_once source.now.query.now) source.now.view.now groups.old known.old.items }
+    ensures adds { OnOk result (AddsAll (asked_once source.now.query.now) groups.old (rows_between source.now.view.now from to) groups.new) }
+    ensures known { OnOk result (AreKnown (asked_once source.now.query.now) source.now.view.now groups.new known.new.items) }
 {
     let bucket = bucket_start(source.query, time_at(source.view, from));
     for i in from..to {
@@ -83,7 +82,7 @@ fn add_run(
 
 // Adds a row, where it is selected.
 fn add_at(
-    groups: &mut IndexMap<Key, Numbers>,
+    groups: &mut Groups,
     source: &Source<'_>,
     known: &mut Vec<Known>,
     group: &mut Vec<Text>,
@@ -92,10 +91,10 @@ fn add_at(
 ) -> Result<(), AllocError>
     requires within { i < length source.now.view.now.times }
     requires bucket { bucket ≡ bucket_of (asked_once source.now.query.now) (key_at source.now.view.now i).time }
-    requires sound { IsSound (kinds_in (asked_once source.now.query.now).aggregations) (map row_of groups.old.entries) }
-    requires known { AreKnown (asked_once source.now.query.now) source.now.view.now (map row_of groups.old.entries) known.old.items }
-    ensures adds { OnOk result (AddsAll (asked_once source.now.query.now) (map row_of groups.old.entries) (row_at source.now.view.now i ∷ []) (map row_of groups.new.entries)) }
-    ensures known { OnOk result (AreKnown (asked_once source.now.query.now) source.now.view.now (map row_of groups.new.entries) known.new.items) }
+    requires sound { IsSound (kinds_in (asked_once source.now.query.now).aggregations) groups.old }
+    requires known { AreKnown (asked_once source.now.query.now) source.now.view.now groups.old known.old.items }
+    ensures adds { OnOk result (AddsAll (asked_once source.now.query.now) groups.old (row_at source.now.view.now i ∷ []) groups.new) }
+    ensures known { OnOk result (AreKnown (asked_once source.now.query.now) source.now.view.now groups.new known.new.items) }
 {
     if !source.selection.holds(i) {
         return Ok(());

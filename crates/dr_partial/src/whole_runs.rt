@@ -1,4 +1,4 @@
-ghost use Rattle.std.specs.Prelude.{◌≡◌, ◌<◌, ◌≤◌, [], ℕ, true, length, map, IfOk, OnOk};
+ghost use Rattle.std.specs.Prelude.{◌≡◌, ◌<◌, ◌≤◌, [], ℕ, true, length, IfOk, OnOk};
 ghost use Rattle.dr_ask.specs.Asked.{dimensions_by};
 ghost use Rattle.dr_ask.specs.Once.{asked_once};
 ghost use Rattle.dr_answers.specs.Fold.{folds};
@@ -6,29 +6,24 @@ ghost use Rattle.dr_answers.specs.Groups.{bucket};
 ghost use Rattle.dr_image.specs.Table.{rows_of};
 ghost use Rattle.dr_columns.specs.Rows.{key_at, rows_between};
 ghost use Rattle.dr_columns.specs.Told.{tells};
-ghost use Rattle.dr_rollup.specs.Entries.{row_of};
 ghost use Rattle.dr_partial.specs.Grouped.{IsSound, AddsAll};
 ghost use Rattle.dr_partial.specs.Partial.{kinds_in};
 
 use crate::folds::add_folds;
 use crate::selecting::bucket_start;
 use crate::source::Source;
-use dr_base::{Key, Numbers};
+use dr_base::Numbers;
 use dr_columns::{run_end, time_at};
-use dr_rollup::KeyOf;
-use indexmap::IndexMap;
+use dr_rollup::{Groups, KeyOf};
 use std::alloc::{AllocError, Global};
 
 /// Adds the rows of an image, all of which are selected, to groups without dimension values: each column is folded over the
 /// rows of one bucket after those of another.
-pub fn add_whole_runs(
-    groups: &mut IndexMap<Key, Numbers>,
-    source: &Source<'_>,
-) -> Result<(), AllocError>
+pub fn add_whole_runs(groups: &mut Groups, source: &Source<'_>) -> Result<(), AllocError>
     requires every { (i : ℕ) → tells source.now.selection i ≡ true }
     requires plain { dimensions_by (asked_once source.now.query.now).shape ≡ [] }
-    requires sound { IsSound (kinds_in (asked_once source.now.query.now).aggregations) (map row_of groups.old.entries) }
-    ensures { OnOk result (AddsAll (asked_once source.now.query.now) (map row_of groups.old.entries) (rows_of source.now.view.now) (map row_of groups.new.entries)) }
+    requires sound { IsSound (kinds_in (asked_once source.now.query.now).aggregations) groups.old }
+    ensures { OnOk result (AddsAll (asked_once source.now.query.now) groups.old (rows_of source.now.view.now) groups.new) }
 {
     let count = source.view.row_count();
     let mut from = 0;
@@ -42,7 +37,7 @@ pub fn add_whole_runs(
 
 // Adds the rows of one bucket.
 fn add_whole_run(
-    groups: &mut IndexMap<Key, Numbers>,
+    groups: &mut Groups,
     source: &Source<'_>,
     from: usize,
     to: usize,
@@ -52,11 +47,11 @@ fn add_whole_run(
     requires same { (i : ℕ) → from ≤ i → i < to → bucket (asked_once source.now.query.now) (key_at source.now.view.now i).time ≡ bucket (asked_once source.now.query.now) (key_at source.now.view.now from).time }
     requires every { (i : ℕ) → tells source.now.selection i ≡ true }
     requires plain { dimensions_by (asked_once source.now.query.now).shape ≡ [] }
-    requires sound { IsSound (kinds_in (asked_once source.now.query.now).aggregations) (map row_of groups.old.entries) }
-    ensures { OnOk result (AddsAll (asked_once source.now.query.now) (map row_of groups.old.entries) (rows_between source.now.view.now from to) (map row_of groups.new.entries)) }
+    requires sound { IsSound (kinds_in (asked_once source.now.query.now).aggregations) groups.old }
+    ensures { OnOk result (AddsAll (asked_once source.now.query.now) groups.old (rows_between source.now.view.now from to) groups.new) }
 {
     let bucket = bucket_start(source.query, time_at(source.view, from));
-    let folds = folds_between(*groups.allocator(), source, from, to)?;
+    let folds = folds_between(groups.allocator(), source, from, to)?;
     let group = KeyOf {
         time: bucket,
         dims: &[],

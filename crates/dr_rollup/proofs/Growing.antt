@@ -40,7 +40,8 @@ replaced [] i x y at = absurd (true≢false (sym (ap is_some at)))
 replaced (z ∷ xs) zero x y at = (ap (λ o. unwrap_or o x ∷ xs) at, refl)
 replaced (z ∷ xs) (suc i) x y at = let r = replaced xs i x y at in (ap (λ l. z ∷ l) r.0, ap (λ l. z ∷ l) r.1)
 
-keys_set : (xs : List Row) (j : ℕ) (row : Row) (m : List ℤ) → slice_get xs j ≡ Some row → map (λ r. r.key) (slice_set xs j (record { key = row.key; metrics = m })) ≡ map (λ r. r.key) xs
+-- a row keeps its key where its metrics change
+pub keys_set : (xs : List Row) (j : ℕ) (row : Row) (m : List ℤ) → slice_get xs j ≡ Some row → map (λ r. r.key) (slice_set xs j (record { key = row.key; metrics = m })) ≡ map (λ r. r.key) xs
 keys_set [] j row m h = refl
 keys_set (x ∷ xs) zero row m h = ap (λ o. (unwrap_or o row).key ∷ map (λ r. r.key) xs) (sym h)
 keys_set (x ∷ xs) (suc j) row m h = ap (λ l. x.key ∷ l) (keys_set xs j row m h)
@@ -78,14 +79,18 @@ keys_of_rows : (k : Key) (rows : List Row) → NoneHas k rows → AllByRecursion
 keys_of_rows k [] all = tt
 keys_of_rows k (r ∷ rows) all = (all.0, keys_of_rows k rows all.1)
 
+-- rows of different keys, and a row of another one behind them
+pub keys-apart : (rows : List Row) (row : Row) → IsDistinct same_keys (map (λ r. r.key) rows) → NoneHas row.key rows → IsDistinct same_keys (map (λ r. r.key) (rows ++ row ∷ []))
+keys-apart rows row apart none =
+    subst (IsDistinct same_keys) (sym (map-append (λ (r : Row). r.key) rows (row ∷ [])))
+    (apart_pushed (map (λ r. r.key) rows) row.key apart (keys_of_rows row.key rows none))
+
 module _ (kinds : List Kind) (limit : ℕ) (combines : Bool) (rows : List Row) (row : Row) (so : IsSound kinds limit combines rows) (new : combines ≡ true → NoneHas row.key rows) where
   pub rows-added : rollup combines kinds (rows ++ row ∷ []) ≡ add_row combines kinds (rollup combines kinds rows) row
   rows-added = rollup_onto_push combines kinds [] rows row
 
   apart_with : combines ≡ true → IsDistinct same_keys (map (λ r. r.key) (rows ++ row ∷ []))
-  apart_with c =
-      subst (IsDistinct same_keys) (sym (map-append (λ (r : Row). r.key) rows (row ∷ [])))
-      (apart_pushed (map (λ r. r.key) rows) row.key (so.apart c) (keys_of_rows row.key rows (new c)))
+  apart_with c = keys-apart rows row (so.apart c) (new c)
 
   pub sound-added : length rows < limit → FitsColumns kinds row.metrics → IsSound kinds limit combines (rows ++ row ∷ [])
   sound-added lt fits = record {

@@ -2,7 +2,7 @@ pub mod Contributing
 pub mod Keys
 pub mod Rows
 pub mod Flat
-pub mod Hashing
-pub mod Placing
 pub mod Growing
 pub mod Adding
+pub mod Standing
+pub mod Copied

@@ -1,4 +1,4 @@
--- Rows in the order in which they came. No public contract cites this file.
+-- Rows in the order in which they came, and the row of a key.
 use Rattle.std.specs.Prelude.{◌≡◌, ℕ, ℤ, Bool, false, List, Some, slice_get, slice_set}
 use Rattle.std.specs.List.{AllByRecursion}
 use Rattle.std.specs.Ordering.{eq_by_cmp}
@@ -8,10 +8,6 @@ use Rattle.dr_base.specs.Order.{key_cmp}
 use Rattle.dr_agg.specs.declared.kind.Kind.{Kind}
 use Rattle.dr_agg.specs.Combination.{combine_columns}
 use Rattle.dr_rollup.specs.Unrolled.{contributions}
-
--- a key and its metrics, as a row
-abbrev pub row_of : Key × List ℤ → Row
-row_of e = record { key = e.0; metrics = e.1 }
 
 -- the keys are the same
 abbrev pub same_keys : Key → Key → Bool

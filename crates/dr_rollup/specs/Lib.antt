@@ -1,10 +1,9 @@
 pub mod Refusal
 pub mod Unrolled
 pub mod OpenRows
-pub mod Lookup
 pub mod WideRows
 pub mod HeldRows
 pub mod Hashes
-pub mod Places
 pub mod Entries
 pub mod Sound
+pub mod Placed

@@ -1,5 +1,5 @@
 -- Rows in flat lists, row after row: their times, their dimension values and their metrics. No public contract cites this file.
-use Rattle.std.specs.Prelude.{ℕ, ◌+◌, ℤ, List, [], ◌∷◌, ◌++◌, length, take, drop}
+use Rattle.std.specs.Prelude.{ℕ, ◌+◌, ℤ, List, [], ◌∷◌, ◌++◌, length, take, drop, map}
 use Rattle.dr_base.specs.declared.key.Key.{Key}
 use Rattle.dr_base.specs.declared.row.Row.{Row}
 
@@ -26,3 +26,7 @@ written place new values = take place values ++ (new ++ drop (place + length new
 -- other rows under the same numbers
 abbrev pub wide_with : WideRows → List Row → WideRows
 wide_with wide rows = record wide { rows = rows }
+
+-- the keys of the rows
+abbrev pub keys_in : WideRows → List Key
+keys_in wide = map (λ r. r.key) wide.rows

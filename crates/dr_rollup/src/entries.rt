@@ -1,13 +1,14 @@
-ghost use Rattle.std.specs.Prelude.{◌≡◌, ◌<◌, ◌++◌, ◌∷◌, [], ℕ, List, true, None, Some, is_some, length, map, slice_get, IfSome, IfOk, OnOk, OnErr};
+ghost use Rattle.std.specs.Prelude.{◌≡◌, ◌<◌, ◌++◌, ◌∷◌, [], List, true, None, Some, is_some, length, map, slice_get, IfSome, IfOk, OnOk, OnErr};
+ghost use Rattle.dr_base.specs.declared.key.Key.{Key};
 ghost use Rattle.dr_rollup.specs.Unrolled.{contributions};
 ghost use Rattle.dr_rollup.specs.HeldRows.{HeldRows, held_with};
-ghost use Rattle.dr_rollup.specs.Hashes.{key_hash, hashes_of};
-ghost use Rattle.dr_rollup.specs.Places.{ArePlaces, HasRoom};
+ghost use Rattle.dr_rollup.specs.Hashes.{key_hash};
+ghost use Rattle.dr_rollup.specs.Placed.{IsNew, AreFound};
 ghost use Rattle.dr_rollup.specs.Entries.{HasKeyAt, NoneHas, Combines};
 
 use crate::flat_rows::FlatRows;
 use crate::key_of::KeyOf;
-use crate::places::Places;
+use crate::placed::Placed;
 use dr_base::{Row, Text};
 use dr_schema::Metric;
 use std::alloc::{AllocError, Global};
@@ -18,20 +19,20 @@ use std::marker::Model;
 #[derive(Drop)]
 pub struct Entries {
     rows: FlatRows,
-    places: Option<Places>,
+    places: Option<Placed>,
 }
 
 impl Model for Entries {
     ghost use Rattle.std.specs.Prelude.{is_some, IfSome};
     ghost use Rattle.dr_rollup.specs.HeldRows.{HeldRows};
-    ghost use Rattle.dr_rollup.specs.Hashes.{hashes_of};
-    ghost use Rattle.dr_rollup.specs.Places.{ArePlaces};
+    ghost use Rattle.dr_rollup.specs.WideRows.{keys_in};
+    ghost use Rattle.dr_rollup.specs.Placed.{AreFound};
 
     ghost Value = { HeldRows };
 
     ghost view = { λ e. record { combines = is_some e.places; dimensions = e.rows.dimensions; width = e.rows.width; rows = e.rows.rows } };
 
-    ghost invariant = { λ e. IfSome e.places (ArePlaces (hashes_of e.rows.rows)) };
+    ghost invariant = { λ e. IfSome e.places (AreFound (keys_in e.rows)) };
 }
 
 impl Entries {
@@ -66,7 +67,7 @@ impl Entries {
     }
 
     /// The hash by which the row of a key is found; 0 where rows stay apart, which are never looked for.
-    pub fn hash(&self, key: &KeyOf<'_>) -> u64
+    pub fn hash(&self, key: &KeyOf<'_>) -> u32
         ensures { self.now.combines ≡ true → result ≡ key_hash (record { time = key.now.time; dims = key.now.dims.now }) }
     {
         match &self.places {
@@ -76,14 +77,14 @@ impl Entries {
     }
 
     /// The place of the row of a key with this hash, where rows of one key are combined.
-    pub fn find(&self, hash: u64, key: &KeyOf<'_>) -> Option<usize>
+    pub fn find(&self, hash: u32, key: &KeyOf<'_>) -> Option<usize>
         requires { self.now.combines ≡ true → hash ≡ key_hash (record { time = key.now.time; dims = key.now.dims.now }) }
         ensures combined { IfSome result (λ i. self.now.combines ≡ true) }
         ensures found { IfSome result (HasKeyAt (record { time = key.now.time; dims = key.now.dims.now }) self.now.rows) }
         ensures none { result ≡ None → self.now.combines ≡ true → NoneHas (record { time = key.now.time; dims = key.now.dims.now }) self.now.rows }
     {
         match &self.places {
-            Some(places) => find(places, &self.rows, hash, key),
+            Some(places) => places.find(self.allocator(), &self.rows, hash, key),
             None => None,
         }
     }
@@ -102,7 +103,7 @@ impl Entries {
     /// Adds the row of a key with this hash, with what an event adds to each column. An error leaves the rows as they were.
     pub fn put(
         &mut self,
-        hash: u64,
+        hash: u32,
         key: &KeyOf<'_>,
         metrics: &[Metric],
         inputs: &[i64],
@@ -110,12 +111,18 @@ impl Entries {
         requires hash { self.old.combines ≡ true → hash ≡ key_hash (record { time = key.now.time; dims = key.now.dims.now }) }
         requires dimensions { self.old.dimensions ≡ length key.now.dims.now }
         requires width { self.old.width ≡ length metrics.now }
+        requires new { self.old.combines ≡ true → NoneHas (record { time = key.now.time; dims = key.now.dims.now }) self.old.rows }
         ensures ok { OnOk result (self.new ≡ held_with self.old (self.old.rows ++ record { key = record { time = key.now.time; dims = key.now.dims.now }; metrics = contributions (map (λ m. m.kind) metrics.now) inputs.now } ∷ [])) }
         ensures err { OnErr result (self.new ≡ self.old) }
     {
-        make_room(&mut self.places)?;
+        place(
+            &mut self.places,
+            self.rows.allocator(),
+            hash,
+            key,
+            self.rows.len(),
+        )?;
         self.rows.put(key, metrics, inputs)?;
-        push(&mut self.places, hash);
         Ok(())
     }
 
@@ -125,7 +132,7 @@ impl Entries {
     {
         Ok(Entries {
             rows: self.rows.copy()?,
-            places: copy_of(&self.places)?,
+            places: copy_of(&self.places, self.rows.allocator())?,
         })
     }
 
@@ -137,67 +144,44 @@ impl Entries {
     }
 }
 
-// The place of the row of a key with this hash. It goes from the last row with that hash to the one before, and in each compares the
-// key itself.
-fn find(places: &Places, rows: &FlatRows, hash: u64, key: &KeyOf<'_>) -> Option<usize>
-    requires places { ArePlaces (hashes_of rows.now.rows) places.now }
-    requires hash { hash ≡ key_hash (record { time = key.now.time; dims = key.now.dims.now }) }
-    ensures found { IfSome result (HasKeyAt (record { time = key.now.time; dims = key.now.dims.now }) rows.now.rows) }
-    ensures none { result ≡ None → NoneHas (record { time = key.now.time; dims = key.now.dims.now }) rows.now.rows }
-{
-    let mut end = places.end(hash);
-    while end > 0 {
-        if rows.has_key(end - 1, key) {
-            return Some(end - 1);
-        }
-        end = places.end_before(end - 1);
-    }
-    None
-}
-
 // The places of no row, where rows of one key are combined.
-fn no_places(alloc: Global, combines: bool) -> Option<Places>
+fn no_places(alloc: Global, combines: bool) -> Option<Placed>
     ensures combines { is_some result ≡ combines }
-    ensures places { IfSome result (ArePlaces []) }
+    ensures places { IfSome result (AreFound []) }
 {
     if combines {
-        Some(Places::new(alloc))
+        Some(Placed::new(alloc))
     } else {
         None
     }
 }
 
-// Makes room for the place of one more row.
-fn make_room(places: &mut Option<Places>) -> Result<(), AllocError>
+// Adds the place of the row of a key.
+fn place(
+    places: &mut Option<Placed>,
+    alloc: Global,
+    hash: u32,
+    key: &KeyOf<'_>,
+    place: usize,
+) -> Result<(), AllocError>
+    requires { is_some places.old ≡ true → hash ≡ key_hash (record { time = key.now.time; dims = key.now.dims.now }) }
     ensures combines { is_some places.new ≡ is_some places.old }
-    ensures places { (hashes : List ℕ) → IfSome places.old (ArePlaces hashes) → IfSome places.new (ArePlaces hashes) }
-    ensures room { OnOk result (IfSome places.new HasRoom) }
+    ensures kept { (keys : List Key) → (is_some places.old ≡ true → IsNew keys (record { time = key.now.time; dims = key.now.dims.now })) → IfSome places.old (AreFound keys) → IfSome places.new (AreFound keys) }
+    ensures put { OnOk result ((keys : List Key) → (is_some places.old ≡ true → IsNew keys (record { time = key.now.time; dims = key.now.dims.now })) → place ≡ length keys → IfSome places.old (AreFound keys) → IfSome places.new (AreFound (keys ++ record { time = key.now.time; dims = key.now.dims.now } ∷ []))) }
 {
     match places {
-        Some(places) => places.reserve(),
+        Some(places) => places.put(alloc, hash, key, place),
         None => Ok(()),
     }
 }
 
-// Adds the place of a row with a hash.
-fn push(places: &mut Option<Places>, hash: u64)
-    requires { IfSome places.old HasRoom }
-    ensures combines { is_some places.new ≡ is_some places.old }
-    ensures places { (hashes : List ℕ) → IfSome places.old (ArePlaces hashes) → IfSome places.new (ArePlaces (hashes ++ hash ∷ [])) }
-{
-    match places {
-        Some(places) => places.push(hash),
-        None => {}
-    }
-}
-
 // The same places in memory of their own.
-fn copy_of(places: &Option<Places>) -> Result<Option<Places>, AllocError>
+fn copy_of(places: &Option<Placed>, alloc: Global) -> Result<Option<Placed>, AllocError>
     ensures combines { IfOk result (λ copy. is_some copy ≡ is_some places.now) }
-    ensures places { IfOk result (λ copy. (hashes : List ℕ) → IfSome places.now (ArePlaces hashes) → IfSome copy (ArePlaces hashes)) }
+    ensures places { IfOk result (λ copy. (keys : List Key) → IfSome places.now (AreFound keys) → IfSome copy (AreFound keys)) }
 {
     match places {
-        Some(places) => Ok(Some(places.copy()?)),
+        Some(places) => Ok(Some(places.copy(alloc)?)),
         None => Ok(None),
     }
 }

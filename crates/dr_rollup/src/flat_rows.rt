@@ -1,9 +1,10 @@
 ghost use Rattle.std.specs.Prelude.{◌≡◌, ◌<◌, ◌++◌, ◌∷◌, [], Some, length, map, slice_get, IfOk, OnOk, OnErr};
 ghost use Rattle.dr_rollup.specs.Unrolled.{contributions};
-ghost use Rattle.dr_rollup.specs.WideRows.{wide_with};
-ghost use Rattle.dr_rollup.specs.Entries.{same_keys, Combines};
+ghost use Rattle.dr_rollup.specs.WideRows.{wide_with, keys_in};
+ghost use Rattle.dr_rollup.specs.Entries.{Combines};
 
 use crate::key_of::KeyOf;
+use crate::keyed::Keyed;
 use crate::pieces::{contribute_at, piece};
 use crate::text_lists::{copies_of, push_copies};
 use crate::unrolled::push_contributions;
@@ -72,16 +73,6 @@ impl FlatRows {
             piece(self.dims.as_slice(), self.dimensions, place),
             piece(self.values.as_slice(), self.width, place),
         )
-    }
-
-    /// Whether the row at a place has a key.
-    #[inline]
-    pub fn has_key(&self, place: usize, key: &KeyOf<'_>) -> bool
-        requires { place < length self.now.rows }
-        ensures { (row : Row) → slice_get self.now.rows place ≡ Some row → result ≡ same_keys (record { time = key.now.time; dims = key.now.dims.now }) row.key }
-    {
-        let (time, dims, _) = self.row(place);
-        key.time == time && key.dims == dims
     }
 
     /// Combines what an event adds to each column into the row at a place.
@@ -157,5 +148,20 @@ impl FlatRows {
             key: KeyOf { time, dims }.copy(alloc)?,
             metrics: Numbers::from_vec(Vec::from_slice(alloc, metrics)?),
         })
+    }
+}
+
+impl Keyed for FlatRows {
+    ghost keys = { keys_in };
+
+    #[inline]
+    fn count(&self) -> usize {
+        self.len()
+    }
+
+    #[inline]
+    fn has_key(&self, place: usize, key: &KeyOf<'_>) -> bool {
+        let (time, dims, _) = self.row(place);
+        key.time == time && key.dims == dims
     }
 }

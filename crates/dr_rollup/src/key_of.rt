@@ -1,12 +1,8 @@
-ghost use Rattle.std.specs.Prelude.{◌≡◌, ◌&&◌, bytes_eq, IfOk};
-ghost use Rattle.std.specs.Cmp.Lexicographic.{pointwise};
-ghost use Rattle.std.specs.Ordering.{int_eq};
+ghost use Rattle.std.specs.Prelude.{◌≡◌, IfOk};
 ghost use Rattle.dr_rollup.specs.Hashes.{key_hash};
-ghost use Rattle.dr_rollup.specs.Lookup.{same_writes, same_answers};
 
 use crate::text_lists::copies_of;
 use dr_base::{Key, Text, Texts};
-use indexmap::Equivalent;
 use std::alloc::{AllocError, Global};
 use std::hash::{BuildHasher, BuildHasherDefault, FoldHasher};
 
@@ -30,24 +26,12 @@ impl KeyOf<'_> {
         })
     }
 
-    /// The hash of the key, which equal keys have alike.
+    /// The hash of the key, of which equal keys have the same.
     #[inline]
-    pub(crate) fn hashed(&self) -> u64
+    pub(crate) fn hashed(&self) -> u32
         ensures { result ≡ key_hash (record { time = self.now.time; dims = self.now.dims.now }) }
     {
         let hashers: BuildHasherDefault<FoldHasher> = BuildHasherDefault::new();
-        hashers.hash_one(*self)
-    }
-}
-
-impl Equivalent<Key> for KeyOf<'_> {
-    ghost equivalent = { λ q k. int_eq q.time k.time && pointwise bytes_eq q.dims.now k.dims };
-
-    ghost respects_hash = { λ q k same. same_writes q.time q.dims.now k same };
-
-    ghost respects_eq = { λ q x y same. same_answers q.time q.dims.now x y same };
-
-    fn equivalent(&self, key: &Key) -> bool {
-        self.time == key.time && self.dims == key.dims.as_slice()
+        (hashers.hash_one(*self) >> 32) as u32
     }
 }

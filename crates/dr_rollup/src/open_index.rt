@@ -19,8 +19,9 @@ use std::marker::Model;
 /// The rows of events that are rolled up while they come (Apache Druid documentation, ingestion: rollup). A contract sees the
 /// schema, how many rows there may be, and the rows in the order of their keys.
 ///
-/// An event finds the row of its key by hashing its time and its dimension values once, in expected constant time however
-/// many rows there are, and its values are combined into that row in place, which takes no memory.
+/// An event finds the row of its key by hashing its time and its dimension values once: mostly by one look, however many rows there are,
+/// and by 64 looks and a search in the order of keys at most, whatever the hashes are. Its values are combined into that row in place,
+/// which takes no memory.
 #[derive(Drop)]
 pub struct OpenIndex {
     schema: Schema,
@@ -67,8 +68,9 @@ impl OpenIndex {
     }
 
     /// Adds an event that fits the schema: combines it into the row of its key, or puts a new row. An error leaves the rows
-    /// as they were. Refusals: 41 `IndexFull` exactly where a new row would be one more than there may be. A known key takes
-    /// expected time by the bytes of its dimension values, and no memory; a new one a row of memory besides.
+    /// as they were. Refusals: 41 `IndexFull` exactly where a new row would be one more than there may be. It takes time by the
+    /// bytes of the dimension values, mostly, and a logarithm of the rows more where the hashes of many keys are alike; where there
+    /// is no memory for a copy of the key then, each row is looked at. A known key takes no memory that stays, a new one a row of it.
     pub fn add(&mut self, event: &Event) -> Result<(), RollupError>
         requires { FitsSchema self.old.schema event.now }
         ensures ok { OnOk result (self.new ≡ with_rows self.old (rows_with self.old event.now)) }

@@ -4,12 +4,12 @@ use Rattle.std.specs.List.{list_any, AllByRecursion, IsDistinct}
 use Rattle.std.specs.List.Sorted.{IsSorted, IsPermutation}
 use Rattle.std.specs.declared.cmp.Ordering.TheVariants.{Less, Equal, Greater}
 use Rattle.std.specs.Ordering.{nat_cmp, is_lt, ordering_reverse}
-use Rattle.std.specs.Cmp.Lexicographic.{slice_cmp, nat_list_cmp_total, nat_list_eq_equiv, bytes_decides}
+use Rattle.std.specs.Cmp.Lexicographic.{slice_cmp, nat_list_cmp_total, bytes_decides}
 use Rattle.std.specs.FinMap.{nat_cmp-IsAntisymmetric, slice_cmp-IsAntisymmetric}
 use Rattle.std.proofs.lemmas.Bool.{or_parts}
 use Rattle.std.proofs.lemmas.List.{map_more}
 use Rattle.std.proofs.lemmas.List.Sorted.{list_any-IsPermutation}
-use Rattle.indexmap.proofs.MapLemmas.{distinct_permutation}
+use Rattle.dr_dict.proofs.SortedTexts.{distinct-moved}
 use Rattle.dr_base.specs.declared.row.Row.{Row}
 use Rattle.dr_image.specs.Sealed.{each_next}
 use Rattle.dr_image.specs.Opening.{is_below}
@@ -94,7 +94,7 @@ ascends (x ∷ y ∷ ys) up d =
 
 pub sorted_dictionary : (texts values sorted : List (List ℕ)) → IsDistinctOf texts values → IsPermutation texts sorted → IsSorted (slice_cmp nat_cmp) sorted → sorted ≡ dictionary_of values
 sorted_dictionary texts values sorted d moved up =
-    dictionary_is sorted values (ascends sorted up (distinct_permutation nat_list_eq_equiv texts sorted moved d.distinct)) (λ t. sym (list_any-IsPermutation (bytes_eq t) texts sorted moved) ∙ d.alike t)
+    dictionary_is sorted values (ascends sorted up (distinct-moved texts sorted moved d.distinct)) (λ t. sym (list_any-IsPermutation (bytes_eq t) texts sorted moved) ∙ d.alike t)
 
 -- ---- one more row
 

@@ -1,17 +1,15 @@
 -- The values of rows: numbered as they first come, sorted, and numbered anew.
-use Rattle.std.proofs.Common.{◌≡◌, ◌∙◌, sym, refl, ap, subst, ℕ, zero, suc, ◌+◌, ◌<◌, ◌≤◌, Bool, true, false, cond, List, [], ◌∷◌, ◌++◌, map, length, get_or, set, bytes_eq, slice_get, Some, arith, All, ◌⊎◌, inl, inr}
+use Rattle.std.proofs.Common.{◌≡◌, ◌∙◌, sym, refl, ap, subst, ℕ, zero, suc, ◌+◌, ◌<◌, true, false, cond, List, [], ◌∷◌, ◌++◌, map, length, get_or, set, bytes_eq, slice_get, Some, arith, All, ◌⊎◌, inl, inr}
 use Rattle.std.specs.List.{list_any, range_with_len}
 use Rattle.std.specs.List.Sorted.{IsPermutation, IsSortedBy}
 use Rattle.std.specs.Ordering.{nat_cmp, is_lt}
-use Rattle.std.specs.Cmp.Lexicographic.{slice_cmp, nat_list_eq_equiv}
+use Rattle.std.specs.Cmp.Lexicographic.{slice_cmp}
 use Rattle.std.proofs.lemmas.Bool.{cases_eq}
 use Rattle.std.proofs.lemmas.List.{length-map, map-append, get_or-map, get_or-set_same, get_or-set_other, get_or_append_left, length-append, get_or_default}
 use Rattle.std.proofs.lemmas.Option.{slice_get_within, slice_get-get_or, get_or_from_slice_get, same_Some}
 use Rattle.std.proofs.lemmas.List.Sorted.{IsPermutation-map, All-permutation, Contains-permutation, length_permutation}
 use Rattle.std.proofs.lemmas.List.FromFn.{get_or-range_with_len}
-use Rattle.indexmap.proofs.MapLemmas.{distinct_permutation}
-use Rattle.dr_dict.proofs.Texts.{list_any-map}
-use Rattle.dr_dict.proofs.SortedTexts.{sorted-map}
+use Rattle.dr_dict.proofs.SortedTexts.{distinct-moved, sorted-map}
 use Rattle.dr_image.specs.Sealed.{each_next}
 use Rattle.dr_image.specs.Opening.{is_below}
 use Rattle.dr_image.specs.Image.{dictionary_of, number_in}
@@ -21,17 +19,16 @@ use Rattle.dr_segment.proofs.ColumnLemmas.{distinct_none, distinct_same, distinc
 
 -- ---- as they first come
 
-pub text_added : {K : Type 0} (f : K → List ℕ) (old new : List K) (k : K) → new ≡ cond (list_any (λ j. bytes_eq (f k) (f j)) old) old (old ++ k ∷ []) → AddsText (map f old) (map f new) (f k)
-text_added f old new k is =
-    ap (map f) is ∙ by (list_any (λ j. bytes_eq (f k) (f j)) old) ∙ ap (λ b. cond b (map f old) (map f old ++ f k ∷ [])) (list_any-map f (bytes_eq (f k)) old)
-  where
-    by : (b : Bool) → map f (cond b old (old ++ k ∷ [])) ≡ cond b (map f old) (map f old ++ f k ∷ [])
-    by true = refl
-    by false = map-append f old (k ∷ [])
+-- a text that is there, and one that is new
+pub known-added : (texts : List (List ℕ)) (text : List ℕ) → list_any (bytes_eq text) texts ≡ true → AddsText texts texts text
+known-added texts text there = sym (ap (λ b. cond b texts (texts ++ text ∷ [])) there)
 
-pub one_at_most : (b : Bool) (m n : ℕ) → n ≡ m + cond b 1 0 → n ≤ m + 1
-one_at_most true m n is = omega arith
-one_at_most false m n is = omega arith
+pub new-added : (old new : List (List ℕ)) (text : List ℕ) → list_any (bytes_eq text) old ≡ false → new ≡ old ++ text ∷ [] → AddsText old new text
+new-added old new text none is = is ∙ sym (ap (λ b. cond b old (old ++ text ∷ [])) none)
+
+pub last-there : (texts : List (List ℕ)) (text : List ℕ) → slice_get (texts ++ text ∷ []) (length texts) ≡ Some text
+last-there [] text = refl
+last-there (t ∷ texts) text = last-there texts text
 
 stays : (xs : List (List ℕ)) (x : List ℕ) (n : ℕ) (v : List ℕ) → slice_get xs n ≡ Some v → slice_get (xs ++ x ∷ []) n ≡ Some v
 stays xs x n v at =
@@ -121,7 +118,7 @@ module _ (texts sorted values : List (List ℕ)) (firsts places ranks : List ℕ
       subst (λ n. n < length sorted) (get_or_default places k 0 d lt) (omega (arith, long))
 
   pub rises : each_next is_below sorted ≡ true
-  rises = ascends sorted ranked.rises (distinct_permutation nat_list_eq_equiv texts sorted ranked.moved first.distinct.distinct)
+  rises = ascends sorted ranked.rises (distinct-moved texts sorted ranked.moved first.distinct.distinct)
 
   pub apart : AreApart places
   apart = record {

@@ -18,7 +18,7 @@ returns c =
     let sorted = c.in_ok-ordered.ordered.items in
     let group = spread_row by.dimensions aggregations in
     let stable = subst (λ groups. IsStableBy (λ a b. is_lt (row_cmp limits.columns by.dimensions aggregations a b)) groups sorted) c.in_ok-kept.ensures c.in_ok-ordered.ensures.stable in
-    let same = any-order limits.columns by.dimensions aggregations (is_kept (option_map condition_in by.having)) c.in_ok-groups.groups.items c.args.partial sorted c.in_ok-groups.ensures.same c.in_ok-groups.ensures.order c.in_ok-ordered.ensures.sorted stable in
+    let same = any-order limits.columns by.dimensions aggregations (is_kept (option_map condition_in by.having)) c.into_groups-groups.result.items c.args.partial sorted c.into_groups-groups.ensures.same c.into_groups-groups.ensures.order c.in_ok-ordered.ensures.sorted stable in
     c.in_ok-spread.ensures
     ∙ ap (map group) (c.limited-given.ensures ∙ ap (limited limits.limit) c.without_first.ensures)
     ∙ map-limited group limits.limit (drop limits.offset sorted)

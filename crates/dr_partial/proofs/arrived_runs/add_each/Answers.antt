@@ -1,7 +1,6 @@
-use Rattle.std.proofs.Common.{subst, sym, map, slice_range, ◌∷◌, [], arith, rules, FitsSigned, w64}
+use Rattle.std.proofs.Common.{subst, sym, slice_range, ◌∷◌, [], arith, rules, FitsSigned, w64}
 use Rattle.std.proofs.lemmas.Int.{to_z-of_z}
 use Rattle.dr_base.specs.declared.row.Row.{Row}
-use Rattle.dr_rollup.specs.Entries.{row_of}
 use Rattle.dr_ask.specs.Once.{asked_once}
 use Rattle.dr_partial.specs.Grouped.{AddsAll}
 use Rattle.dr_partial.specs.Runs.{LiesIn}
@@ -11,7 +10,7 @@ use Rattle.dr_partial.proofs.arrived_runs.add_each.Goals as goal
 
 pub loop-i-init : goal.loop-i-init
 loop-i-init c =
-    let before = map row_of c.args.groups.now.entries in
+    let before = c.args.groups.now in
     subst (λ l. AddsAll (asked_once c.args.query.now) before l before) (sym (none c.args.rows.now c.args.from)) (no-rows (asked_once c.args.query.now) before c.requires.sound)
 
 pub add_held-requires-clause-held : goal.add_held-requires-clause-held
@@ -25,9 +24,9 @@ add_held-requires-clause-held c =
 pub loop-i-preserved : goal.loop-i-preserved
 loop-i-preserved c =
     let q = asked_once c.args.query.now in
-    let before = map row_of c.args.groups.now.entries in
-    let between = map row_of c.loop-i.groups.entries in
-    let after = map row_of c.add_held.new.groups.entries in
+    let before = c.args.groups.now in
+    let between = c.loop-i.groups in
+    let after = c.add_held.new.groups in
     let rows = c.args.rows.now in
     let i = c.loop-i.i in
     let r : Row = record { key = record { time = c.row-time.result.0; dims = c.row-time.result.1.now }; metrics = c.row-time.result.2.now } in

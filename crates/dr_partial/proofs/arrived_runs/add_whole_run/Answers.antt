@@ -1,8 +1,7 @@
-use Rattle.std.proofs.Common.{◌∙◌, ap, subst, map, [], slice_range, rules, OnOk, FitsSigned, w64, arith}
+use Rattle.std.proofs.Common.{◌∙◌, ap, subst, [], slice_range, rules, OnOk, FitsSigned, w64, arith}
 use Rattle.std.proofs.lemmas.Int.{to_z-of_z}
 use Rattle.dr_ask.specs.Once.{asked_once}
 use Rattle.dr_answers.specs.Fold.{folds}
-use Rattle.dr_rollup.specs.Entries.{row_of}
 use Rattle.dr_partial.specs.Grouped.{Adds}
 use Rattle.dr_partial.specs.Partial.{kinds_in}
 use Rattle.dr_rollup.proofs.Flat.{member}
@@ -13,8 +12,8 @@ pub returns : goal.returns
 returns c =
     let q = asked_once c.args.query.now in
     let rows = c.args.rows.now in
-    let before = map row_of c.args.groups.now.entries in
-    let after = map row_of c.add_folds.new.groups.entries in
+    let before = c.args.groups.now in
+    let after = c.add_folds.new.groups in
     let values = c.in_ok-folds.folds in
     let fits : FitsSigned w64 c.args.bucket = search rules in
     let first = member rows c.args.from (omega (arith, c.requires.some, c.requires.within)) in

@@ -1,8 +1,7 @@
-use Rattle.std.proofs.Common.{◌∙◌, subst, sym, ap, map, Some, slice_range, ◌∷◌, [], arith, rules, FitsSigned, w64}
+use Rattle.std.proofs.Common.{◌∙◌, subst, sym, ap, Some, slice_range, ◌∷◌, [], arith, rules, FitsSigned, w64}
 use Rattle.std.proofs.lemmas.Int.{to_z-of_z}
 use Rattle.dr_base.specs.declared.row.Row.{Row}
 use Rattle.dr_time.specs.Instant.{IsInstant}
-use Rattle.dr_rollup.specs.Entries.{row_of}
 use Rattle.dr_filter.specs.Condition.{condition_in}
 use Rattle.dr_ask.specs.Once.{asked_once}
 use Rattle.dr_answers.specs.Selection.{passes}
@@ -14,7 +13,7 @@ use Rattle.dr_partial.proofs.at_once.add_arrived_lot.Goals as goal
 
 pub loop-i-init : goal.loop-i-init
 loop-i-init c =
-    let before = map row_of c.args.groups.now.entries in
+    let before = c.args.groups.now in
     subst (λ l. AddsAll (asked_once c.args.query.now) before l before) (sym (none c.args.rows.now c.args.from)) (no-rows (asked_once c.args.query.now) before c.requires.sound)
 
 pub add_told-requires-clause-passed : goal.add_told-requires-clause-passed
@@ -35,9 +34,9 @@ add_told-requires-clause-instant c =
 pub loop-i-preserved : goal.loop-i-preserved
 loop-i-preserved c =
     let q = asked_once c.args.query.now in
-    let before = map row_of c.args.groups.now.entries in
-    let between = map row_of c.loop-i.groups.entries in
-    let after = map row_of c.add_told.new.groups.entries in
+    let before = c.args.groups.now in
+    let between = c.loop-i.groups in
+    let after = c.add_told.new.groups in
     let rows = c.args.rows.now in
     let i = c.loop-i.i in
     let r : Row = record { key = record { time = c.row-time.result.0; dims = c.row-time.result.1.now }; metrics = c.row-time.result.2.now } in

@@ -1,8 +1,7 @@
-use Rattle.std.proofs.Common.{map, take}
-use Rattle.dr_rollup.specs.Entries.{row_of}
+use Rattle.std.proofs.Common.{take}
 use Rattle.dr_ask.specs.Once.{asked_once}
 use Rattle.dr_partial.specs.Grouped.{AddsAll}
 use Rattle.dr_partial.proofs.at_once.add_lot.Given as goal
 
 abbrev pub invariant-loop-i : goal.invariant-loop-i
-invariant-loop-i l = AddsAll (asked_once l.query) (map row_of l.initial.groups.entries) (take l.i l.rows) (map row_of l.groups.entries)
+invariant-loop-i l = AddsAll (asked_once l.query) l.initial.groups (take l.i l.rows) l.groups

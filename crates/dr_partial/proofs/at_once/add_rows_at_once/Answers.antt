@@ -1,5 +1,4 @@
-use Rattle.std.proofs.Common.{subst, map, take, slice_range, arith}
-use Rattle.dr_rollup.specs.Entries.{row_of}
+use Rattle.std.proofs.Common.{subst, take, slice_range, arith}
 use Rattle.dr_ask.specs.Once.{asked_once}
 use Rattle.dr_partial.specs.Grouped.{AddsAll}
 use Rattle.dr_partial.proofs.Pieces.{no-rows, more-rows}
@@ -7,14 +6,14 @@ use Rattle.dr_partial.proofs.Runs.{joined}
 use Rattle.dr_partial.proofs.at_once.add_rows_at_once.Goals as goal
 
 pub loop-from-init : goal.loop-from-init
-loop-from-init c = (omega arith, no-rows (asked_once c.args.query.now) (map row_of c.args.groups.now.entries) c.requires.sound)
+loop-from-init c = (omega arith, no-rows (asked_once c.args.query.now) c.args.groups.now c.requires.sound)
 
 pub loop-from-preserved : goal.loop-from-preserved
 loop-from-preserved c =
     let q = asked_once c.args.query.now in
-    let before = map row_of c.args.groups.now.entries in
-    let between = map row_of c.loop-from.groups.entries in
-    let after = map row_of c.add_lot.new.groups.entries in
+    let before = c.args.groups.now in
+    let between = c.loop-from.groups in
+    let after = c.add_lot.new.groups in
     let rows = c.args.rows.now in
     let from = c.loop-from.from in
     let to = c.lot_end-to.result in (

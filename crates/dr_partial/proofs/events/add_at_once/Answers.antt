@@ -1,6 +1,5 @@
 use Rattle.std.proofs.Common.{◌∙◌, sym, ap, subst, map, take, slice_range, arith}
 use Rattle.std.proofs.lemmas.List.{map-append}
-use Rattle.dr_rollup.specs.Entries.{row_of}
 use Rattle.dr_rollup.specs.Unrolled.{unrolled}
 use Rattle.dr_ask.specs.Once.{asked_once}
 use Rattle.dr_partial.specs.Grouped.{AddsAll}
@@ -9,15 +8,15 @@ use Rattle.dr_partial.proofs.Runs.{joined}
 use Rattle.dr_partial.proofs.events.add_at_once.Goals as goal
 
 pub loop-from-init : goal.loop-from-init
-loop-from-init c = (omega arith, no-rows (asked_once c.args.query.now) (map row_of c.args.groups.now.entries) c.requires.sound)
+loop-from-init c = (omega arith, no-rows (asked_once c.args.query.now) c.args.groups.now c.requires.sound)
 
 pub loop-from-preserved : goal.loop-from-preserved
 loop-from-preserved c =
     let q = asked_once c.args.query.now in
     let u = unrolled c.args.schema.now in
-    let before = map row_of c.args.groups.now.entries in
-    let between = map row_of c.loop-from.groups.entries in
-    let after = map row_of c.add_lot.new.groups.entries in
+    let before = c.args.groups.now in
+    let between = c.loop-from.groups in
+    let after = c.add_lot.new.groups in
     let events = c.args.events.now in
     let from = c.loop-from.from in
     let to = c.lot_end-to.result in (

@@ -1,7 +1,6 @@
-use Rattle.std.proofs.Common.{◌≡◌, ◌∙◌, sym, map, rules, FitsSigned, w64}
+use Rattle.std.proofs.Common.{◌≡◌, ◌∙◌, sym, rules, FitsSigned, w64}
 use Rattle.std.proofs.lemmas.Int.{to_z-of_z}
 use Rattle.dr_gran.specs.Truncation.{truncation}
-use Rattle.dr_rollup.specs.Entries.{row_of}
 use Rattle.dr_rollup.specs.Unrolled.{unrolled}
 use Rattle.dr_ask.specs.Once.{asked_once}
 use Rattle.dr_partial.proofs.Pieces.{passed-over}
@@ -18,4 +17,4 @@ returns-then-not-is_selected c =
     let fits : FitsSigned w64 c.truncate-time.result = search rules in
     let time = truncated (goal.at.returns-then-not-is_selected c).After-truncate-time in
     let tested = rw (to_z-of_z w64 c.truncate-time.result fits, time, c.as_slice-dims.ensures) at c.is_selected.ensures in
-    passed-over (asked_once c.args.query.now) (map row_of c.args.groups.now.entries) (unrolled c.args.schema.now c.args.event.now) (sym tested ∙ search rules) c.requires.sound
+    passed-over (asked_once c.args.query.now) c.args.groups.now (unrolled c.args.schema.now c.args.event.now) (sym tested ∙ search rules) c.requires.sound

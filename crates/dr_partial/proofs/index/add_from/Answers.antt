@@ -1,10 +1,9 @@
-use Rattle.std.proofs.Common.{◌≡◌, ◌∙◌, ◌+◌, ◌&&◌, ◌∷◌, [], sym, ap, subst, false, map, slice_range, arith, rules, FitsSigned, w64}
+use Rattle.std.proofs.Common.{◌≡◌, ◌∙◌, ◌+◌, ◌&&◌, ◌∷◌, [], sym, ap, subst, false, slice_range, arith, rules, FitsSigned, w64}
 use Rattle.std.proofs.lemmas.Int.{to_z-of_z}
 use Rattle.std.specs.List.{AllByRecursion}
 use Rattle.dr_base.specs.declared.row.Row.{Row}
 use Rattle.dr_time.specs.Instant.{IsInstant}
 use Rattle.dr_time.specs.Union.{union_holds}
-use Rattle.dr_rollup.specs.Entries.{row_of}
 use Rattle.dr_ask.specs.Once.{asked_once}
 use Rattle.dr_answers.specs.Selection.{passes, selects}
 use Rattle.dr_partial.specs.Grouped.{AddsAll}
@@ -16,7 +15,7 @@ use Rattle.dr_partial.proofs.index.add_from.Goals as goal
 pub returns-then-not-contains-clause-adds : goal.returns-then-not-contains-clause-adds
 returns-then-not-contains-clause-adds c =
     let q = asked_once c.args.query.now in
-    let before = map row_of c.args.groups.now.entries in
+    let before = c.args.groups.now in
     let rows = c.args.rows.now in
     let from = c.args.from in
     let r : Row = record { key = record { time = c.row-time.result.0; dims = c.row-time.result.1.now }; metrics = c.row-time.result.2.now } in

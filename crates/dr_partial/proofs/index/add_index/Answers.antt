@@ -1,8 +1,7 @@
-use Rattle.std.proofs.Common.{Result, Ok, Err, OnOk, map, List}
+use Rattle.std.proofs.Common.{Result, Ok, Err, OnOk, List}
 use Rattle.std.specs.List.Sorted.{IsPermutation}
 use Rattle.dr_base.specs.declared.row.Row.{Row}
 use Rattle.dr_time.specs.Instant.{IsInstant}
-use Rattle.dr_rollup.specs.Entries.{row_of}
 use Rattle.dr_ask.specs.Asked.{Asked}
 use Rattle.dr_ask.specs.Once.{asked_once}
 use Rattle.dr_partial.specs.Grouped.{IsSound, AddsAll}
@@ -18,4 +17,4 @@ pub add_arrived-requires-clause-instants : goal.add_arrived-requires-clause-inst
 add_arrived-requires-clause-instants c = all-moved (λ (r : Row). IsInstant r.key.time) c.arrived.result c.args.index.now.rows c.arrived.ensures.permuted c.requires.instants
 
 pub returns : goal.returns
-returns c = moved_all (asked_once c.args.query.now) (map row_of c.args.groups.now.entries) c.arrived.result c.args.index.now.rows (map row_of c.add_arrived.new.groups.entries) c.add_arrived.result c.requires.sound c.arrived.ensures.permuted c.add_arrived.ensures
+returns c = moved_all (asked_once c.args.query.now) c.args.groups.now c.arrived.result c.args.index.now.rows c.add_arrived.new.groups c.add_arrived.result c.requires.sound c.arrived.ensures.permuted c.add_arrived.ensures

@@ -1,6 +1,5 @@
-use Rattle.std.proofs.Common.{◌≡◌, ◌∙◌, sym, refl, ap, subst, ◌∷◌, [], map, length, rules, FitsSigned, w64, to_z, of_z}
+use Rattle.std.proofs.Common.{◌≡◌, ◌∙◌, sym, refl, ap, subst, ◌∷◌, [], length, rules, FitsSigned, w64, to_z, of_z}
 use Rattle.std.proofs.lemmas.Int.{to_z-of_z}
-use Rattle.std.proofs.lemmas.List.{length-map}
 use Rattle.std.proofs.lemmas.Option.{slice_get_within}
 use Rattle.dr_base.specs.declared.key.Key.{Key}
 use Rattle.dr_base.specs.declared.row.Row.{Row}
@@ -9,7 +8,7 @@ use Rattle.dr_answers.specs.Fold.{folds}
 use Rattle.dr_answers.specs.Groups.{grouped_values}
 use Rattle.dr_image.specs.Table.{row_at}
 use Rattle.dr_columns.specs.Rows.{key_at}
-use Rattle.dr_rollup.specs.Entries.{row_of, HasKeyAt}
+use Rattle.dr_rollup.specs.Entries.{HasKeyAt}
 use Rattle.dr_partial.specs.Grouped.{Adds}
 use Rattle.dr_partial.specs.Known.{group_in, KeepsKeys}
 use Rattle.dr_partial.specs.Partial.{kinds_in}
@@ -29,26 +28,26 @@ same_key c =
 pub returns-in-Some-clause-adds : goal.returns-in-Some-clause-adds
 returns-in-Some-clause-adds c =
     let s = c.args.source.now in
-    let k = subst (λ (x : Key). HasKeyAt x (map row_of c.args.groups.now.entries) c.in-Some.place) (same_key (goal.at.returns-in-Some-clause-adds c).After-as_slice) c.in-Some.ensures.found in
-    known-adds (kinds_in (asked_once s.query.now).aggregations) (map row_of c.args.groups.now.entries) c.requires.sound
+    let k = subst (λ (x : Key). HasKeyAt x c.args.groups.now c.in-Some.place) (same_key (goal.at.returns-in-Some-clause-adds c).After-as_slice) c.in-Some.ensures.found in
+    known-adds (kinds_in (asked_once s.query.now).aggregations) c.args.groups.now c.requires.sound
     (record { key = group_in (asked_once s.query.now) s.view.now c.args.bucket c.args.i; metrics = folds (asked_once s.query.now).aggregations (row_at s.view.now c.args.i ∷ []) })
-    c.in-Some.place k (map row_of c.combine_at.new.groups.entries) c.combine_at.ensures
+    c.in-Some.place k c.combine_at.new.groups c.combine_at.ensures
 
 pub returns-in-Some-clause-place : goal.returns-in-Some-clause-place
 returns-in-Some-clause-place c =
     let s = c.args.source.now in
-    let before = map row_of c.args.groups.now.entries in
+    let before = c.args.groups.now in
     let found = c.in-Some.ensures.found in
     let k = subst (λ (x : Key). HasKeyAt x before c.in-Some.place) (same_key (goal.at.returns-in-Some-clause-place c).After-as_slice) found in
-    keeps-combined (kinds_in (asked_once s.query.now).aggregations) (folds (asked_once s.query.now).aggregations (row_at s.view.now c.args.i ∷ [])) before c.in-Some.place (map row_of c.combine_at.new.groups.entries)
+    keeps-combined (kinds_in (asked_once s.query.now).aggregations) (folds (asked_once s.query.now).aggregations (row_at s.view.now c.args.i ∷ [])) before c.in-Some.place c.combine_at.new.groups
     (slice_get_within before c.in-Some.place found.0 found.1) c.combine_at.ensures _ c.in-Some.place k
 
 pub returns-in-Some-clause-keeps : goal.returns-in-Some-clause-keeps
 returns-in-Some-clause-keeps c =
     let s = c.args.source.now in
-    let before = map row_of c.args.groups.now.entries in
+    let before = c.args.groups.now in
     let found = c.in-Some.ensures.found in
-    keeps-combined (kinds_in (asked_once s.query.now).aggregations) (folds (asked_once s.query.now).aggregations (row_at s.view.now c.args.i ∷ [])) before c.in-Some.place (map row_of c.combine_at.new.groups.entries)
+    keeps-combined (kinds_in (asked_once s.query.now).aggregations) (folds (asked_once s.query.now).aggregations (row_at s.view.now c.args.i ∷ [])) before c.in-Some.place c.combine_at.new.groups
     (slice_get_within before c.in-Some.place found.0 found.1) c.combine_at.ensures
 
 -- ---- a new one
@@ -57,23 +56,23 @@ pub returns-clause-adds : goal.returns-clause-adds
 returns-clause-adds c =
     let s = c.args.source.now in
     let ks = kinds_in (asked_once s.query.now).aggregations in
-    let before = map row_of c.args.groups.now.entries in
+    let before = c.args.groups.now in
     let values = folds (asked_once s.query.now).aggregations (row_at s.view.now c.args.i ∷ []) in
     let g : Row = record { key = record { time = to_z w64 (of_z w64 c.args.bucket); dims = c.as_slice.result.now }; metrics = values } in
-    subst (λ (k : Key). Adds ks before (record { key = k; metrics = values }) (map row_of c.put_read.new.groups.entries)) (same_key (goal.at.returns-clause-adds c).After-as_slice)
+    subst (λ (k : Key). Adds ks before (record { key = k; metrics = values }) c.put_read.new.groups) (same_key (goal.at.returns-clause-adds c).After-as_slice)
     (subst (Adds ks before g) (sym c.in_ok-put_read.ensures) (new-adds ks before c.requires.sound g (c.in_default.ensures.none refl) (fits-folds (asked_once s.query.now).aggregations (row_at s.view.now c.args.i ∷ []))))
 
 pub returns-clause-place : goal.returns-clause-place
 returns-clause-place c =
     let s = c.args.source.now in
-    let before = map row_of c.args.groups.now.entries in
-    let after = map row_of c.put_read.new.groups.entries in
+    let before = c.args.groups.now in
+    let after = c.put_read.new.groups in
     let g : Row = record { key = record { time = to_z w64 (of_z w64 c.args.bucket); dims = c.as_slice.result.now }; metrics = folds (asked_once s.query.now).aggregations (row_at s.view.now c.args.i ∷ []) } in
     let last = subst (λ l. HasKeyAt g.key l (length before)) (sym c.in_ok-put_read.ensures) (last-pushed before g) in
-    let place : length before ≡ c.len-place.result = length-map c.args.groups.now.entries row_of ∙ sym c.len-place.ensures.len in
+    let place : length before ≡ c.len-place.result = sym c.len-place.ensures.len in
     subst (λ (k : Key). HasKeyAt k after c.len-place.result) (same_key (goal.at.returns-clause-place c).After-as_slice) (subst (HasKeyAt g.key after) place last)
 
 pub returns-clause-keeps : goal.returns-clause-keeps
 returns-clause-keeps c =
-    let before = map row_of c.args.groups.now.entries in
+    let before = c.args.groups.now in
     subst (KeepsKeys before) (sym c.in_ok-put_read.ensures) (keeps-pushed before _)

@@ -1,7 +1,6 @@
-use Rattle.std.proofs.Common.{◌≡◌, ◌∙◌, ◌&&◌, sym, subst, true, false, map, OnOk, rules, FitsSigned, w64}
+use Rattle.std.proofs.Common.{◌≡◌, ◌∙◌, ◌&&◌, sym, subst, true, false, OnOk, rules, FitsSigned, w64}
 use Rattle.std.proofs.lemmas.Int.{to_z-of_z}
 use Rattle.dr_base.specs.declared.row.Row.{Row}
-use Rattle.dr_rollup.specs.Entries.{row_of}
 use Rattle.dr_ask.specs.Asked.{dimensions_by}
 use Rattle.dr_ask.specs.Once.{asked_once}
 use Rattle.dr_answers.specs.Groups.{grouped_values}
@@ -19,14 +18,14 @@ returns-then-not-passes c =
     let tested = rw (to_z-of_z w64 r.key.time fits) at c.passes.ensures in
     let stopped : passes q.filter r.key ≡ false = sym tested ∙ search rules in
     let left_out : selects q r.key ≡ false = λ i. c.requires.held.0 i && stopped i in
-    passed-over q (map row_of c.args.groups.now.entries) r left_out c.requires.sound
+    passed-over q c.args.groups.now r left_out c.requires.sound
 
 pub returns : goal.returns
 returns c =
     let q = asked_once c.args.query.now in
     let r : Row = record { key = record { time = c.args.key.now.time; dims = c.args.key.now.dims.now }; metrics = c.args.metrics.now } in
-    let before = map row_of c.args.groups.now.entries in
-    let after = map row_of c.add_passed.new.groups.entries in
+    let before = c.args.groups.now in
+    let after = c.add_passed.new.groups in
     let fits : FitsSigned w64 r.key.time = search rules in
     let f : FitsSigned w64 c.args.bucket = search rules in
     let tested = rw (to_z-of_z w64 r.key.time fits) at c.passes.ensures in

@@ -1,7 +1,6 @@
-use Rattle.std.proofs.Common.{map, rules, FitsSigned, w64}
+use Rattle.std.proofs.Common.{rules, FitsSigned, w64}
 use Rattle.std.proofs.lemmas.Int.{to_z-of_z}
 use Rattle.dr_base.specs.declared.row.Row.{Row}
-use Rattle.dr_rollup.specs.Entries.{row_of}
 use Rattle.dr_ask.specs.Asked.{dimensions_by}
 use Rattle.dr_ask.specs.Once.{asked_once}
 use Rattle.dr_answers.specs.Groups.{grouped_values}
@@ -17,4 +16,4 @@ returns-then-is_group_at c =
     let g : Row = record { key = record { time = c.args.bucket; dims = grouped_values (dimensions_by (asked_once q).shape) c.args.dims.now }; metrics = folds_alone (asked_once q).aggregations c.args.metrics.now } in
     let at = rw (to_z-of_z w64 c.args.bucket fits, c.dimensions.ensures) at (c.is_group_at.ensures c.if-is_group_at.true) in
     let combines = rw c.distinct-aggregations.ensures at c.combine.ensures in
-    known-adds (kinds_in (asked_once q).aggregations) (map row_of c.args.groups.now.entries) c.requires.sound g c.args.last at (map row_of c.combine.new.groups.entries) combines
+    known-adds (kinds_in (asked_once q).aggregations) c.args.groups.now c.requires.sound g c.args.last at c.combine.new.groups combines

@@ -1,8 +1,7 @@
-use Rattle.std.proofs.Common.{sym, subst, map, arith}
+use Rattle.std.proofs.Common.{sym, subst, arith}
 use Rattle.dr_ask.specs.Once.{asked_once}
 use Rattle.dr_columns.specs.Rows.{rows_between}
 use Rattle.dr_columns.proofs.RunLemmas.{none, joined}
-use Rattle.dr_rollup.specs.Entries.{row_of}
 use Rattle.dr_partial.specs.Grouped.{AddsAll}
 use Rattle.dr_partial.specs.Known.{AreKnown}
 use Rattle.dr_partial.proofs.Pieces.{no-rows, more-rows}
@@ -11,16 +10,16 @@ use Rattle.dr_partial.proofs.views.add_runs.Goals as goal
 pub loop-from-init : goal.loop-from-init
 loop-from-init c =
     let s = c.args.source.now in
-    let before = map row_of c.args.groups.now.entries in
+    let before = c.args.groups.now in
     (omega arith, subst (λ l. AddsAll (asked_once s.query.now) before l before) (sym (none s.view.now 0)) (no-rows (asked_once s.query.now) before c.requires), subst (AreKnown (asked_once s.query.now) s.view.now before) (sym c.new-known.ensures.items) tt)
 
 pub loop-from-preserved : goal.loop-from-preserved
 loop-from-preserved c =
     let s = c.args.source.now in
     let q = asked_once s.query.now in
-    let before = map row_of c.args.groups.now.entries in
-    let between = map row_of c.loop-from.groups.entries in
-    let after = map row_of c.add_run.new.groups.entries in
+    let before = c.args.groups.now in
+    let between = c.loop-from.groups in
+    let after = c.add_run.new.groups in
     let from = c.loop-from.from in
     let to = c.run_end-to.result in (
       c.run_end-to.ensures.within,

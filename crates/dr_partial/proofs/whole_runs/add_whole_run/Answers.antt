@@ -1,10 +1,9 @@
-use Rattle.std.proofs.Common.{◌∙◌, sym, ap, subst, map, [], ◌<◌, ℕ, ◌≤◌, arith, rules, OnOk, FitsSigned, w64, to_z, of_z}
+use Rattle.std.proofs.Common.{◌∙◌, sym, ap, subst, [], ◌<◌, ℕ, ◌≤◌, arith, rules, OnOk, FitsSigned, w64, to_z, of_z}
 use Rattle.std.proofs.lemmas.Int.{to_z-of_z}
 use Rattle.dr_base.specs.declared.key.Key.{Key}
 use Rattle.dr_ask.specs.Once.{asked_once}
 use Rattle.dr_answers.specs.Groups.{bucket, grouped_values}
 use Rattle.dr_columns.specs.Rows.{key_at}
-use Rattle.dr_rollup.specs.Entries.{row_of}
 use Rattle.dr_image.specs.Table.{row_at}
 use Rattle.dr_partial.specs.Grouped.{Adds}
 use Rattle.dr_partial.specs.Partial.{kinds_in}
@@ -24,5 +23,5 @@ returns c =
       sym (s.selected i (omega (arith, lt, c.requires.within))) ∙ c.requires.every i,
       (λ j. record { time = (c.requires.same i le lt ∙ sym start) j; dims = grouped_values (c.requires.plain j) (key_at t i).dims }),
     ) in
-    run-added q t c.args.from c.args.to (map row_of c.args.groups.now.entries) (map row_of c.add_folds.new.groups.entries) k _ c.add_folds.result c.requires.some own c.in_ok-folds.ensures
-    (subst (λ l. OnOk c.add_folds.result (Adds (kinds_in l) (map row_of c.args.groups.now.entries) (record { key = k; metrics = c.in_ok-folds.folds }) (map row_of c.add_folds.new.groups.entries))) c.distinct.ensures c.add_folds.ensures)
+    run-added q t c.args.from c.args.to c.args.groups.now c.add_folds.new.groups k _ c.add_folds.result c.requires.some own c.in_ok-folds.ensures
+    (subst (λ l. OnOk c.add_folds.result (Adds (kinds_in l) c.args.groups.now (record { key = k; metrics = c.in_ok-folds.folds }) c.add_folds.new.groups)) c.distinct.ensures c.add_folds.ensures)

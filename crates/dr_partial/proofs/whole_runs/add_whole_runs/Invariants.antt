@@ -1,5 +1,4 @@
-use Rattle.std.proofs.Common.{◌≤◌, ◌-◌, length, map}
-use Rattle.dr_rollup.specs.Entries.{row_of}
+use Rattle.std.proofs.Common.{◌≤◌, ◌-◌, length}
 use Rattle.dr_ask.specs.Once.{asked_once}
 use Rattle.dr_columns.specs.Rows.{rows_between}
 use Rattle.dr_partial.specs.Grouped.{AddsAll}
@@ -8,7 +7,7 @@ use Rattle.dr_partial.proofs.whole_runs.add_whole_runs.Given as goal
 abbrev pub invariant-loop-from : goal.invariant-loop-from
 invariant-loop-from l =
     (l.from ≤ length l.source.view.now.times)
-    × AddsAll (asked_once l.source.query.now) (map row_of l.initial.groups.entries) (rows_between l.source.view.now 0 l.from) (map row_of l.groups.entries)
+    × AddsAll (asked_once l.source.query.now) l.initial.groups (rows_between l.source.view.now 0 l.from) l.groups
 
 abbrev pub decreases-loop-from : goal.decreases-loop-from
 decreases-loop-from l = length l.source.view.now.times - l.from

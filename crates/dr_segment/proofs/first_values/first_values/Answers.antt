@@ -1,4 +1,4 @@
-use Rattle.std.proofs.Common.{◌≡◌, ◌∙◌, sym, refl, ap, map, take, length, List, ℕ, [], ◌++◌, ◌∷◌, arith}
+use Rattle.std.proofs.Common.{◌≡◌, ◌∙◌, sym, refl, ap, map, take, length, List, ℕ, [], ◌++◌, ◌∷◌, arith, true≢false, is_some, slice_get}
 use Rattle.std.proofs.lemmas.List.{length-append}
 use Rattle.dr_image.specs.Image.{values_of}
 use Rattle.dr_segment.specs.Columns.{AreFirsts}
@@ -14,9 +14,10 @@ firsts_by texts texts' places places' values values' a b v firsts = record {
 
 pub loop-row-init : goal.loop-row-init
 loop-row-init c = record {
-  values = firsts_by [] _ [] _ [] [] (ap (map (λ t. t.now)) c.new-texts.ensures.empty) c.in_ok-places.ensures.items refl firsts_none;
-  few = omega (arith, ap length c.new-texts.ensures.empty);
+  values = firsts_by [] _ [] _ [] [] (ap (map (λ t. t.now)) c.new-texts.ensures.items) c.in_ok-places.ensures.items refl firsts_none;
+  few = omega (arith, ap length c.new-texts.ensures.items);
   long = ap length c.in_ok-places.ensures.items;
+  found = λ i text at. absurd (true≢false (sym (ap is_some at) ∙ ap (λ texts. is_some (slice_get (map (λ t. t.now) texts) i)) c.new-texts.ensures.items));
 }
 
 pub loop-row-preserved : goal.loop-row-preserved
@@ -32,4 +33,8 @@ loop-row-preserved c =
           (firsts_more _ _ (values_of c.args.d (take i rows)) before c.as_str.result.now place c.in_ok-place.ensures.added c.in_ok-place.ensures.place c.loop-row.invariant.values);
       few = omega (arith, c.in_ok-place.ensures.few, c.loop-row.invariant.few);
       long = omega (arith, ap length c.in_ok-push.ensures.items, length-append before (place ∷ []), c.loop-row.invariant.long);
+      found = c.in_ok-place.ensures.found;
     }
+
+pub add_text-requires-clause-found : goal.add_text-requires-clause-found
+add_text-requires-clause-found c = c.loop-row.invariant.found

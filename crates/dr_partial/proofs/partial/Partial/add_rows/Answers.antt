@@ -1,5 +1,4 @@
-use Rattle.std.proofs.Common.{sym, subst, map}
-use Rattle.dr_rollup.specs.Entries.{row_of}
+use Rattle.std.proofs.Common.{sym, subst}
 use Rattle.dr_ask.specs.Once.{asked_once}
 use Rattle.dr_partial.specs.Partial.{IsPartial}
 use Rattle.dr_partial.proofs.Made.{printable-added}
@@ -8,12 +7,12 @@ use Rattle.dr_partial.proofs.Pieces.{added-behind}
 use Rattle.dr_partial.proofs.partial.Partial.add_rows.Goals as goal
 
 pub add_rows-requires-clause-sound : goal.add_rows-requires-clause-sound
-add_rows-requires-clause-sound c = sound-partial (asked_once c.args.query.now) c.self.inside.groups.entries c.len.ensures.unique (subst (IsPartial (asked_once c.args.query.now)) (sym c.self.view_is) c.requires.own)
+add_rows-requires-clause-sound c = sound-partial (asked_once c.args.query.now) c.self.inside.groups c.len.ensures.apart (subst (IsPartial (asked_once c.args.query.now)) (sym c.self.view_is) c.requires.own)
 
 pub returns-clause-value : goal.returns-clause-value
 returns-clause-value c = λ a is.
-    added-behind (asked_once c.args.query.now) (map row_of c.self.inside.groups.entries) (map row_of c.add_rows.new.groups.entries) c.args.self a c.args.rows.now c.self.view_is is c.in_ok-add_rows.ensures
+    added-behind (asked_once c.args.query.now) c.self.inside.groups c.add_rows.new.groups c.args.self a c.args.rows.now c.self.view_is is c.in_ok-add_rows.ensures
 
 pub returns-clause-printable : goal.returns-clause-printable
 returns-clause-printable c = λ starts all.
-    printable-added (asked_once c.args.query.now) starts (map row_of c.self.inside.groups.entries) (map row_of c.add_rows.new.groups.entries) c.args.self c.args.rows.now c.self.view_is all c.requires.instants c.in_ok-add_rows.ensures
+    printable-added (asked_once c.args.query.now) starts c.self.inside.groups c.add_rows.new.groups c.args.self c.args.rows.now c.self.view_is all c.requires.instants c.in_ok-add_rows.ensures

@@ -3,4 +3,4 @@ use Rattle.dr_partial.proofs.Made.{counted}
 use Rattle.dr_partial.proofs.partial.Partial.len.Goals as goal
 
 pub returns : goal.returns
-returns c = rw (← c.self.view_is) (c.len.ensures.len ∙ sym (counted c.self.inside.groups.entries))
+returns c = rw (← c.self.view_is) (c.len.ensures.len ∙ sym (counted c.self.inside.groups))

@@ -4,7 +4,6 @@ use Rattle.dr_agg.specs.Rollup.{all_rows}
 use Rattle.dr_base.specs.declared.row.Row.{Row}
 use Rattle.dr_time.specs.Instant.{IsInstant}
 use Rattle.dr_time.specs.Printed.{IsPrintable}
-use Rattle.dr_rollup.specs.Entries.{row_of}
 use Rattle.dr_ask.specs.Once.{asked_once}
 use Rattle.dr_partial.specs.Grouped.{in_order}
 use Rattle.dr_partial.specs.Partial.{kinds_in, partial}
@@ -13,14 +12,14 @@ use Rattle.dr_partial.proofs.partial.Partial.of_rows.Goals as goal
 use Rattle.dr_partial.proofs.partial.Partial.of_rows.Goals.{In_ok-add_pieces}
 
 pub add_pieces-requires-clause-sound : goal.add_pieces-requires-clause-sound
-add_pieces-requires-clause-sound c = nothing-sound (kinds_in (asked_once c.args.query.now).aggregations) c.new-groups.result.entries c.new-groups.ensures.empty
+add_pieces-requires-clause-sound c = nothing-sound (kinds_in (asked_once c.args.query.now).aggregations) c.new-groups.result c.new-groups.ensures
 
 pub add_pieces-requires-clause-instants : goal.add_pieces-requires-clause-instants
 add_pieces-requires-clause-instants c = subst (AllByRecursion (λ (r : Row). IsInstant r.key.time)) (pieces-of (λ p. p.now) c.args.pieces.now) c.requires
 
-value : (c : In_ok-add_pieces) → in_order (map row_of c.add_pieces.new.groups.entries) ≡ partial (asked_once c.args.query.now) (all_rows (map (λ p. p.now) c.args.pieces.now))
+value : (c : In_ok-add_pieces) → in_order c.add_pieces.new.groups ≡ partial (asked_once c.args.query.now) (all_rows (map (λ p. p.now) c.args.pieces.now))
 value c =
-    made (asked_once c.args.query.now) c.new-groups.result.entries (flat_map (λ p. p.now) c.args.pieces.now) (map row_of c.add_pieces.new.groups.entries) c.new-groups.ensures.empty c.in_ok-add_pieces.ensures
+    made (asked_once c.args.query.now) c.new-groups.result (flat_map (λ p. p.now) c.args.pieces.now) c.add_pieces.new.groups c.new-groups.ensures c.in_ok-add_pieces.ensures
     ∙ ap (partial (asked_once c.args.query.now)) (sym (pieces-of (λ p. p.now) c.args.pieces.now))
 
 pub returns-clause-value : goal.returns-clause-value
