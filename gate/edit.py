@@ -115,15 +115,18 @@ def path_of(crate, file):
 
 
 def name_of_impl(line):
-    """What the prover calls an impl: its type, then its trait with the trait's arguments."""
+    """What the prover calls an impl: its type with the types that it is of, then its trait with the trait's arguments."""
     line = line.partition("{")[0].partition(" where")[0]
+    own = re.match(r"(?:unsafe )?impl<(.*?)>(?= )", line)
+    own = set(re.findall(r"\w+", own[1])) if own else set()
     line = re.sub(r"^(unsafe )?impl(<.*?>(?= ))?", "", line)
     trait, found, kind = line.partition(" for ")
     if not found:
         trait, kind = "", trait
-    head = re.match(r"\W*(?:\w+::)*(\w+)", kind)
+    head = re.match(r"\W*(?:\w+::)*(\w+)(?:<([^<>]*)>)?", kind)
+    of = re.findall(r"(?:\w+::)*(\w+)", re.sub(r"'\w+", "", head[2] or "")) if head else []
     words = re.match(r"\s*(?:\w+::)*(\w+)(?:<\W*(?:\w+::)*(\w+))?", trait)
-    return (head[1] if head else "") + "".join(it or "" for it in (words.groups() if words else ()))
+    return "".join([head[1] if head else "", *(it for it in of if it not in own), *(it or "" for it in (words.groups() if words else ()))])
 
 
 def apart(edits):

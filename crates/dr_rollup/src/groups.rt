@@ -73,7 +73,8 @@ impl Groups {
         ensures none { result ≡ None → NoneHas (record { time = key.now.time; dims = key.now.dims.now }) self.now }
         ensures apart { IsDistinct same_keys (map (λ r. r.key) self.now) }
     {
-        self.places.find(self.allocator(), self, key.hashed(), key)
+        self.places
+            .find(self.allocator(), &self.rows, key.hashed(), key)
     }
 
     /// Adds a row of a key that none has. The only error is that memory ran out, and leaves the rows as they were. It takes the time of
@@ -112,8 +113,8 @@ impl Groups {
     }
 }
 
-impl Keyed for Groups {
-    ghost keys = { λ rows. map (λ r. r.key) rows };
+impl Keyed for Vec<Row> {
+    ghost keys = { λ rows. map (λ r. r.key) rows.items };
 
     #[inline]
     fn count(&self) -> usize {
@@ -122,7 +123,7 @@ impl Keyed for Groups {
 
     #[inline]
     fn has_key(&self, place: usize, key: &KeyOf<'_>) -> bool {
-        let held = &self.rows[place].key;
+        let held = &self[place].key;
         key.time == held.time && key.dims == held.dims.as_slice()
     }
 }
