@@ -86,8 +86,8 @@ impl Chunk {
 
     /// Adds an event to the open range, and seals it with this serial where it has as many rows as it may then. Answers
     /// how many ranges were sealed by it, 0 or 1. The only error is that memory ran out, and it leaves the chunk as it was. It
-    /// takes expected time by the bytes of the event. A seal leaves the rows of its range in their index, but for at most 64,
-    /// which it puts into a list.
+    /// takes the time of [`OpenIndex::add`](dr_rollup::OpenIndex::add). A seal leaves the rows of its range in their index, but
+    /// for at most 64, which it puts into a list.
     pub fn grow(&mut self, alloc: Global, serial: u64, event: &Event) -> Result<u64, AllocError>
         requires event { FitsSchema self.old.open_range.schema event.now }
         requires room { self.old.events < 18446744073709551615 }

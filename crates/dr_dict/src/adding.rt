@@ -6,7 +6,7 @@ use std::alloc::AllocError;
 
 impl TextSet {
     /// Adds the texts of another set, where they are new. The only error is that memory ran out, and leaves the texts as they
-    /// were. It takes expected time by the bytes of the other texts.
+    /// were. It takes the time of adding each of the other texts.
     pub fn add_all(&mut self, others: &TextSet) -> Result<(), AllocError>
         ensures found { OnOk result ((text : List ℕ) → list_any (bytes_eq text) self.new ≡ (list_any (bytes_eq text) self.old || list_any (bytes_eq text) others.now)) }
         ensures err { OnErr result (self.new ≡ self.old) }
@@ -20,7 +20,7 @@ impl TextSet {
     }
 
     /// Lets the texts go that another set lacks. The only error is that memory ran out, and leaves the texts as they were. It takes
-    /// expected time by the bytes of the other texts, and of those that go.
+    /// the time of looking for each of the other texts, and of adding those that stay.
     pub fn keep_all(&mut self, others: &TextSet) -> Result<(), AllocError>
         ensures found { OnOk result ((text : List ℕ) → list_any (bytes_eq text) self.new ≡ (list_any (bytes_eq text) self.old && list_any (bytes_eq text) others.now)) }
         ensures err { OnErr result (self.new ≡ self.old) }

@@ -31,7 +31,7 @@ impl Having {
     ///
     /// A field that is required and absent or null is 2 `Missing` with its name, and one of another kind 3 `WrongKind`. 0
     /// `NoMemory` may come in the place of any other answer. It takes memory for the conditions and for a place of each
-    /// output, and expected time by the bytes of the value and of the names of the outputs: each name is found by hashing.
+    /// output, and time by the bytes of the value, and for each name a logarithm of the outputs times its bytes.
     #[tactic(auto, unfolding(crate::specs::HavingOf::having_of))]
     pub fn parse(
         alloc: Global,

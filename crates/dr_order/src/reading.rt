@@ -28,7 +28,7 @@ impl LimitSpec {
     /// - 76 with the first key in byte order that is not one of these.
     ///
     /// 0 `NoMemory` may come in the place of any other answer. It takes memory for the columns and for a place of each output,
-    /// and expected time by the bytes of the value and of the names of the outputs: each name is found by hashing.
+    /// and time by the bytes of the value, and for each name a logarithm of the outputs times its bytes.
     pub fn parse(
         alloc: Global,
         value: Option<&Value>,

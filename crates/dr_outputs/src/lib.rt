@@ -1,5 +1,5 @@
-//! The outputs of a groupBy: their names, each found by hashing, and the values of a group, output by output, where only those that
-//! differ are kept.
+//! The outputs of a groupBy: their names, each found in an ordered map, and the values of a group, output by output, where only
+//! those that differ are kept.
 #![tactic(auto)]
 
 mod output_names;

@@ -24,8 +24,8 @@ const MOST_ROWS: usize = 134_217_728;
 /// the rows of each value. A row that lacks a dimension or a metric has an empty text or 0 there. Refusals: 59
 /// `ImageTooLarge` exactly where the image has more than the schema's `max_image_bytes`.
 ///
-/// It takes expected time by the bytes of the rows and of the image, and n log n of the distinct values of a dimension: each
-/// row's value is hashed once. Beside the image, whose memory is taken at once and only where it isn't too large, it takes memory
+/// It takes time by the bytes of the rows and of the image, and n log n of the distinct values of a dimension: each row's value
+/// is hashed once. Beside the image, whose memory is taken at once and only where it isn't too large, it takes memory
 /// by its columns: 8 bytes for a time or the value of a metric, 4 for a row's value in a dimension, and some 60 for each distinct
 /// value.
 pub fn encode(

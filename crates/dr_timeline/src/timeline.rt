@@ -121,8 +121,8 @@ impl Timeline {
         self.accept_shared(event)
     }
 
-    /// The same of an event that whoever sent it shares. It takes expected time by the bytes of its texts, and where another share of the
-    /// chunk's open rows is held, by these rows.
+    /// The same of an event that whoever sent it shares. It takes time by the bytes of its texts, mostly, and a logarithm of the chunk's
+    /// open rows more where the hashes of many keys are alike; and where another share of these rows is held, time by them.
     pub fn accept_shared(&mut self, event: SharedEvent) -> Result<u64, TimelineError>
         requires { FitsSchema self.old.schema event }
         ensures number { IfOk result (λ n. n ≡ length self.old.stream) }
