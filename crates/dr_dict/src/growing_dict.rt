@@ -1,4 +1,4 @@
-ghost use Rattle.std.specs.Prelude.{◌≡◌, ◌↔◌, ◌<◌, ◌≤◌, [], None, length, take, IfOk, OnOk, OnErr, IsErrOf, bytes_eq, slice_get, Some, option_map};
+ghost use Rattle.std.specs.Prelude.{◌≡◌, ◌↔◌, ◌≤◌, [], None, length, take, IfOk, OnOk, OnErr, IsErrOf, bytes_eq, slice_get, Some, option_map};
 ghost use Rattle.std.specs.List.{IsDistinct};
 ghost use Rattle.dr_dict.specs.Dictionary.{number_in, with_text, with_texts};
 

@@ -9,4 +9,4 @@ pub mod Merged
 pub mod Runs
 pub mod Windows
 pub mod AtOnce
-pub mod Replaced
+pub mod Lent

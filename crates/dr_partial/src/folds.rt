@@ -36,9 +36,7 @@ pub fn combine_at(groups: &mut Groups, place: usize, aggregations: &[Aggregation
     requires folds { FitsColumns (kinds_in aggregations.now) folds.now }
     ensures { CombinesAt (kinds_in aggregations.now) folds.now groups.old place groups.new }
 {
-    let mut values = groups.replace(place, Numbers::new(groups.allocator()));
-    combine_folds(aggregations, &mut values, folds);
-    groups.replace(place, values);
+    combine_folds(aggregations, groups.metrics_mut(place), folds);
 }
 
 // Combines folds into others.

@@ -8,11 +8,11 @@ ghost use Rattle.dr_partial.specs.Partial.{kinds_in};
 use crate::reading::{combine_reading, readings};
 use crate::selecting::are_values;
 use dr_ask::{Aggregation, Dimension};
-use dr_base::{Numbers, Text};
+use dr_base::Text;
 use dr_rollup::{Groups, KeyOf};
 use std::alloc::AllocError;
 
-/// Adds a row of these metrics to its group, or to a new one, and answers the place of the group. A known group takes no memory that stays.
+/// Adds a row of these metrics to its group, or to a new one, and answers the place of the group. A known group takes no memory.
 pub fn add(
     groups: &mut Groups,
     aggregations: &[Aggregation],
@@ -58,7 +58,5 @@ pub fn combine(groups: &mut Groups, place: usize, aggregations: &[Aggregation], 
     requires fits { AllFit (kinds_in aggregations.now) groups.old }
     ensures { CombinesAt (kinds_in aggregations.now) (folds_alone aggregations.now metrics.now) groups.old place groups.new }
 {
-    let mut values = groups.replace(place, Numbers::new(groups.allocator()));
-    combine_reading(aggregations, &mut values, metrics);
-    groups.replace(place, values);
+    combine_reading(aggregations, groups.metrics_mut(place), metrics);
 }

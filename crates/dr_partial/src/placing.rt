@@ -83,9 +83,7 @@ fn combine_at(groups: &mut Groups, place: usize, source: &Source<'_>, i: usize)
     requires fits { AllFit (kinds_in (asked_once source.now.query.now).aggregations) groups.old }
     ensures { CombinesAt (kinds_in (asked_once source.now.query.now).aggregations) (folds (asked_once source.now.query.now).aggregations (row_at source.now.view.now i ∷ [])) groups.old place groups.new }
 {
-    let mut values = groups.replace(place, Numbers::new(groups.allocator()));
-    combine_read(source.readings.as_slice(), &mut values, i);
-    groups.replace(place, values);
+    combine_read(source.readings.as_slice(), groups.metrics_mut(place), i);
 }
 
 // Combines what is read of a row into the values of a group.

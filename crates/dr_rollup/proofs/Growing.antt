@@ -9,7 +9,7 @@ use Rattle.dr_agg.specs.Combination.{combine_columns, FitsColumns}
 use Rattle.dr_agg.specs.Rollup.{add_row, rollup}
 use Rattle.dr_agg.proofs.ColumnLaws.{length-combine_columns}
 use Rattle.dr_agg.proofs.RollupLaws.{rollup_onto_push}
-use Rattle.dr_rollup.specs.Entries.{same_keys, NoneHas}
+use Rattle.dr_rollup.specs.Entries.{same_keys, with_metrics, NoneHas}
 use Rattle.dr_rollup.specs.Sound.{IsSound}
 use Rattle.dr_rollup.proofs.Rows.{rollup-joined, same_keys-comm, rows-counted}
 
@@ -45,6 +45,13 @@ pub keys_set : (xs : List Row) (j : ℕ) (row : Row) (m : List ℤ) → slice_ge
 keys_set [] j row m h = refl
 keys_set (x ∷ xs) zero row m h = ap (λ o. (unwrap_or o row).key ∷ map (λ r. r.key) xs) (sym h)
 keys_set (x ∷ xs) (suc j) row m h = ap (λ l. x.key ∷ l) (keys_set xs j row m h)
+
+-- other metrics in the place of those of a row
+pub set-with : (xs : List Row) (j : ℕ) (row : Row) (m : List ℤ) → slice_get xs j ≡ Some row → slice_set xs j (record { key = row.key; metrics = m }) ≡ with_metrics xs j m
+unfolding with_metrics
+set-with [] j row m h = refl
+set-with (x ∷ xs) zero row m h = ap (λ o. record { key = (unwrap_or o row).key; metrics = m } ∷ xs) (sym h)
+set-with (x ∷ xs) (suc j) row m h = ap (λ l. x ∷ l) (set-with xs j row m h)
 
 -- ---- a row that is there
 

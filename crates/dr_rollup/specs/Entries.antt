@@ -1,5 +1,5 @@
 -- Rows in the order in which they came, and the row of a key.
-use Rattle.std.specs.Prelude.{◌≡◌, ℕ, ℤ, Bool, false, List, Some, slice_get, slice_set}
+use Rattle.std.specs.Prelude.{◌≡◌, ℕ, zero, suc, ℤ, Bool, false, List, [], ◌∷◌, Some, slice_get, slice_set}
 use Rattle.std.specs.List.{AllByRecursion}
 use Rattle.std.specs.Ordering.{eq_by_cmp}
 use Rattle.dr_base.specs.declared.key.Key.{Key}
@@ -28,3 +28,9 @@ combined_row kinds inputs row = record { key = row.key; metrics = combine_column
 -- what an event adds is combined into the row at a place
 abbrev pub Combines : List Kind → List ℤ → List Row → ℕ → List Row → Type 0
 Combines kinds inputs before place after = (row : Row) → slice_get before place ≡ Some row → after ≡ slice_set before place (combined_row kinds inputs row)
+
+-- the rows with other metrics at a place
+unfoldable pub with_metrics : List Row → ℕ → List ℤ → List Row
+with_metrics [] place metrics = []
+with_metrics (row ∷ rows) zero metrics = record { key = row.key; metrics = metrics } ∷ rows
+with_metrics (row ∷ rows) (suc place) metrics = row ∷ with_metrics rows place metrics

@@ -1,4 +1,4 @@
-ghost use Rattle.std.specs.Prelude.{◌≡◌, ◌<◌, ◌++◌, ◌∷◌, [], ℕ, List, true, None, Some, is_some, length, map, slice_get, IfSome, IfOk, OnOk, OnErr};
+ghost use Rattle.std.specs.Prelude.{◌≡◌, ◌<◌, ◌++◌, ◌∷◌, [], List, true, None, Some, is_some, length, map, slice_get, IfSome, IfOk, OnOk, OnErr};
 ghost use Rattle.dr_base.specs.declared.key.Key.{Key};
 ghost use Rattle.dr_rollup.specs.Unrolled.{contributions};
 ghost use Rattle.dr_rollup.specs.HeldRows.{HeldRows, held_with};

@@ -1,7 +1,7 @@
 ghost use Rattle.std.specs.Prelude.{◌≡◌, ◌<◌, ◌++◌, ◌∷◌, [], Some, length, map, slice_get, IfOk, OnOk, OnErr};
 ghost use Rattle.dr_rollup.specs.Unrolled.{contributions};
 ghost use Rattle.dr_rollup.specs.WideRows.{wide_with, keys_in};
-ghost use Rattle.dr_rollup.specs.Entries.{same_keys, Combines};
+ghost use Rattle.dr_rollup.specs.Entries.{Combines};
 
 use crate::key_of::KeyOf;
 use crate::keyed::Keyed;

@@ -1,7 +1,10 @@
-ghost use Rattle.std.specs.Prelude.{◌≡◌, ◌<◌, ◌++◌, ◌∷◌, [], None, Some, length, map, slice_get, slice_set, IfSome, OnOk, OnErr, option_map};
+ghost use Rattle.std.specs.Prelude.{◌≡◌, ◌<◌, ◌++◌, ◌∷◌, [], None, Some, length, map, slice_get, IfSome, OnOk, OnErr, option_map};
 ghost use Rattle.dr_base.specs.declared.row.Row.{Row};
 ghost use Rattle.std.specs.List.{IsDistinct};
-ghost use Rattle.dr_rollup.specs.Entries.{same_keys, HasKeyAt, NoneHas};
+ghost use Rattle.std.specs.Borrow.{Lends, sem};
+ghost use Rattle.dr_base.specs.contracts.numbers.Numbers.{the_row as numbers_row};
+ghost use Rattle.dr_rollup.specs.contracts.groups.Groups.{the_row};
+ghost use Rattle.dr_rollup.specs.Entries.{same_keys, with_metrics, HasKeyAt, NoneHas};
 
 use crate::key_of::KeyOf;
 use crate::keyed::Keyed;
@@ -95,14 +98,15 @@ impl Groups {
         Ok(())
     }
 
-    /// Puts metrics in the place of those of a row, and answers these. It takes constant time and no memory.
+    /// The metrics of the row at a place, to change them where they lie. It takes constant time and no memory.
     #[inline]
-    pub fn replace(&mut self, place: usize, metrics: Numbers) -> Numbers
+    pub fn metrics_mut(&mut self, place: usize) -> &mut Numbers
         requires { place < length self.old }
-        ensures old { (row : Row) → slice_get self.old place ≡ Some row → result ≡ row.metrics }
-        ensures new { (row : Row) → slice_get self.old place ≡ Some row → self.new ≡ slice_set self.old place (record { key = row.key; metrics = metrics }) }
+        ensures* writes_back { sem 𝓛 (Lends the_row numbers_row self.entry result (with_metrics self.old place)) }
+        ensures value { (row : Row) → slice_get self.old place ≡ Some row → result.now ≡ row.metrics }
     {
-        std::mem::replace(&mut self.rows[place].metrics, metrics)
+        let row = &mut self.rows[place];
+        &mut row.metrics
     }
 
     /// The rows, in the order in which they were added. It takes no memory, and none is copied.

@@ -1,6 +1,5 @@
-ghost use Rattle.std.specs.Prelude.{◌≡◌, ℕ, None, Some, true, false, List, [], ◌∷◌, ◌++◌, length, slice_get, IfSome, IfOk, OnOk};
+ghost use Rattle.std.specs.Prelude.{◌≡◌, ℕ, None, Some, true, false, List, [], ◌∷◌, ◌++◌, length, IfSome, IfOk, OnOk};
 ghost use Rattle.dr_rollup.specs.Hashes.{key_hash};
-ghost use Rattle.dr_slots.specs.Table.{Finds};
 ghost use Rattle.std.specs.BTreeMap.{get};
 ghost use Rattle.dr_base.specs.declared.key.Key.{Key};
 ghost use Rattle.dr_base.specs.Order.{key_cmp};

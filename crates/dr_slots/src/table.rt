@@ -1,5 +1,4 @@
-ghost use Rattle.std.specs.Prelude.{◌≡◌, ◌+◌, ◌<◌, ◌≤◌, None, Some, ℕ, true, suc, slice_get, IfOk, IfSome};
-ghost use Rattle.dr_slots.specs.declared.slot.Slot.{Slot};
+ghost use Rattle.std.specs.Prelude.{◌≡◌, ◌+◌, ◌<◌, ◌≤◌, None, ℕ, true, suc, slice_get, IfOk, IfSome};
 ghost use Rattle.dr_slots.specs.Table.{start, Finds, KeepsFound, IsFree};
 
 use crate::slot::Slot;
