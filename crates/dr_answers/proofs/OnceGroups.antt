@@ -1,5 +1,5 @@
 -- The groups of a query are those of the query that asks each dimension and each aggregation once, spread over its outputs.
-use Rattle.std.proofs.Common.{◌≡◌, ◌∙◌, sym, refl, ap, ℕ, ℤ, pos, ◌==◌, ◌&&◌, Bool, true, false, cond, List, [], ◌∷◌, Option, Some, None, map, filter, if◌then◌else◌, bytes_eq}
+use Rattle.std.proofs.Common.{◌≡◌, ◌∙◌, sym, refl, ap, ℕ, ℤ, pos, ◌==◌, ◌&&◌, true, false, cond, List, [], ◌∷◌, Option, Some, None, map, filter, if◌then◌else◌, bytes_eq}
 use Rattle.std.specs.List.{fold, AllByRecursion}
 use Rattle.std.specs.Cmp.Lexicographic.{slice_cmp, pointwise}
 use Rattle.std.specs.Ordering.{int_eq, int_cmp, nat_cmp, is_eq, match_ordering, ordering_then}

@@ -1,4 +1,4 @@
-use Rattle.std.proofs.Common.{◌∙◌, sym, ap, false}
+use Rattle.std.proofs.Common.{◌∙◌, sym, ap}
 use Rattle.dr_agg.specs.Rollup.{rollup}
 use Rattle.dr_merge.proofs.Adding.{apart_in_order}
 use Rattle.dr_merge.proofs.combining.rolled_up.Goals as goal
