@@ -68,7 +68,8 @@ def below(known, left):
         if module not in known:
             continue
         here = known[module]
-        name = here.parts.get(name, name)
+        # (a field may have the name of a definition)
+        name = name if name in here.items else here.parts.get(name, name)
         if (module, name) in seen:
             continue
         seen[module, name] = lines = here.items.get(name, [])
