@@ -385,9 +385,9 @@ def likes_of_parts(parts, letters, patterns):
     return lines
 
 
-def likes_but_for_one_part(parts, patterns):
-    """Patterns of so many parts of two letters with a gap between, over texts of 300 letters, each of which has all parts but the first,
-    which is asked last."""
+def likes_but_for_one_part(parts, patterns, letters=2):
+    """Patterns of so many parts of so many letters with gaps between, over texts of 300 letters, each of which has all parts but the
+    first, which is asked last."""
     def text(random):
         letters = [random.choice("01") for _ in range(300)]
         for place in range(0, 300, 5):
@@ -399,7 +399,7 @@ def likes_but_for_one_part(parts, patterns):
         yield spec()
         for it in range(n):
             yield event(BEGIN + it % DAY, text(random))
-        part = lambda: random.choice("01") + "_" + random.choice("01")
+        part = lambda: "_".join(random.choice("01") for _ in range(letters))
         asked = series(filter=one_of(*({"type": "like", "dimension": "page", "pattern": "%2_2%" + "%".join(part() for _ in range(parts)) + "%"} for _ in range(patterns))))
         yield from (asked, f"seal {instant(1)}", f"publish {instant(1)} 0 1", asked)
     return lines
@@ -764,6 +764,7 @@ INPUTS = {
     "rows of 300 letters under an or of 8,000 likes of twenty parts of two letters": (likes_of_parts(20, 2, 8000), 10000),
     "rows of 300 letters under an or of 2,800 likes of seventy parts of two letters": (likes_of_parts(70, 2, 2800), 10000),
     "rows of 300 letters under an or of 8,000 likes of twenty parts of two letters, of which each row lacks the first alone": (likes_but_for_one_part(19, 8000), 10000),
+    "rows of 300 letters under an or of 5,000 likes of 76 parts, all but the first of one letter, of which each row lacks the first alone": (likes_but_for_one_part(75, 5000, letters=1), 10000),
     "rows of 300 letters under a like of 1,000,000 runs and three letters": (likes_of_runs(1, 1000000), 10000),
     "rows of 300 letters under an or of 32 likes of 32,000 runs and three letters": (likes_of_runs(32, 32000), 10000),
     "rows of 64 dimensions, one value in 15 of 100 letters, under an or of 33 likes of each": (likes_of_many_dimensions(100), 16384),

@@ -21,7 +21,8 @@ impl<'a> LetterRows<'a> {
     /// no text, the next ones take no time, nor does a `_` that has another letter behind it; and nothing is asked at a place where a letter
     /// stands that no text has there. A text that has more characters than places are known is asked by itself, as by
     /// [`fits_soonest`](dr_places::fits_soonest), unless those that are known tell whether it fits: of a pattern without `%`, or with one at
-    /// its end alone, that has no more letters than these.
+    /// its end alone, that has no more letters than these. So is each text where that takes less time, as it does where a pattern has many
+    /// parts and the texts are few and long.
     pub fn fitting(&self, alloc: Global, pattern: &str) -> Result<RowSet, AllocError>
         ensures { IfOk result (λ s. Tell (λ t. fits (chars pattern.now) (chars t)) self.now.0 s) }
     {
@@ -63,6 +64,10 @@ impl<'a> LetterRows<'a> {
         if is_ended(more) && count <= self.place_count() {
             let all = RowSet::all(alloc, self.text_count())?;
             let set = self.fitting_start(alloc, start, count, all)?;
+            return Ok(set);
+        }
+        if self.are_sooner_alone(count, more) {
+            let set = self.fitting_alone(alloc, pattern)?;
             return Ok(set);
         }
         let mut set = self.short_fitting(alloc, start, more)?;

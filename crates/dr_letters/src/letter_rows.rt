@@ -138,6 +138,14 @@ impl<'a> LetterRows<'a> {
         &self.short
     }
 
+    // Those that fit a pattern, each of which is asked by itself.
+    pub(crate) fn fitting_alone(&self, alloc: Global, pattern: &str) -> Result<RowSet, AllocError>
+        ensures { IfOk result (λ s. Tell (λ t. fits_of (chars pattern.now) (chars t)) self.now.0 s) }
+    {
+        let set = fitting_of(alloc, pattern, self.texts.as_slice())?;
+        Ok(set)
+    }
+
     // Adds those of the other texts that fit a pattern, each of which is asked by itself.
     pub(crate) fn insert_long(
         &self,
@@ -155,4 +163,17 @@ impl<'a> LetterRows<'a> {
         }
         Ok(())
     }
+}
+
+// Those of some texts that fit a pattern.
+fn fitting_of(alloc: Global, pattern: &str, texts: &[&str]) -> Result<RowSet, AllocError>
+    ensures { IfOk result (λ s. Tell (λ t. fits_of (chars pattern.now) (chars t)) (map (λ t. t.now) texts.now) s) }
+{
+    let mut set = RowSet::none(alloc, texts.len())?;
+    for row in 0..texts.len() {
+        if fits_soonest(alloc, pattern, texts[row])? {
+            set.insert(row);
+        }
+    }
+    Ok(set)
 }

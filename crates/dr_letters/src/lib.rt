@@ -4,6 +4,7 @@
 
 mod asked_letter;
 mod asking;
+mod choosing;
 mod common_code;
 mod counting;
 mod fitting;
