@@ -52,11 +52,9 @@ class LikeWriter:
         end = r.randrange(begin, len(text) + 1)
         pieces = [text[:begin], text[begin:end][: r.choice([1, 3, 50])], text[end:]]
         forms = [text, text[:end] + "%", "%" + text[begin:], "%" + text[begin:end] + "%", "%".join(pieces)]
-        if len(text) <= 20:
-            # A regular expression with a gap more may take as often as long over a longer text.
-            cuts = sorted(r.randrange(len(text) + 1) for _ in range(6))
-            short = [text[cut:][: r.choice([0, 1, 2, 4])] for cut in cuts]
-            forms += ["%".join(short), "%" + "%".join(short[2:4]) + "%", "%".join(short[:3])]
+        cuts = sorted(r.randrange(len(text) + 1) for _ in range(r.choice([6, 6, 40])))
+        short = [text[cut:][: r.choice([0, 1, 2, 4])] for cut in cuts]
+        forms += ["%".join(short), "%" + "%".join(short[2:-2]) + "%", "%".join(short[:3])]
         gaps = r.choice([0.05, 0.3, 0.9, 1.0])
         pattern = ["_" if it != "%" and r.random() < gaps else it for it in r.choice(forms)]
         if pattern and r.random() < 0.3:

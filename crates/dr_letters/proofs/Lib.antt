@@ -1,4 +1,5 @@
 pub mod CodeLemmas
+pub mod OwnLemmas
 pub mod ReadLemmas
 pub mod RestLemmas
 pub mod RowLemmas

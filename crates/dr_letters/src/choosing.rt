@@ -4,12 +4,6 @@ use crate::letter_rows::LetterRows;
 // How many words of sets are told of in the time that is lost for each set.
 const WORDS_A_SET: usize = 40;
 
-// In that for each piece of a pattern of which a text is asked by itself.
-const WORDS_A_PIECE: usize = 96;
-
-// And in that for each character of the text.
-const WORDS_A_PLACE: usize = 4;
-
 impl<'a> LetterRows<'a> {
     // Whether each text is asked by itself for a start of so many letters, a run and what follows it sooner than all texts at once: that
     // takes time by the places where each piece may stand, and this by the texts. It takes time by what follows.
@@ -25,9 +19,6 @@ impl<'a> LetterRows<'a> {
             .saturating_add(1);
         let sets = pieces.saturating_add(letters.saturating_sub(pieces) / 8);
         let words = (self.text_count() / 64).saturating_add(WORDS_A_SET);
-        let text = pieces
-            .saturating_mul(WORDS_A_PIECE)
-            .saturating_add(places.saturating_mul(WORDS_A_PLACE));
-        self.text_count().saturating_mul(text) < sets.saturating_mul(spares).saturating_mul(words)
+        self.words_alone(pieces) < sets.saturating_mul(spares).saturating_mul(words)
     }
 }

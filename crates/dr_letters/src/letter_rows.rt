@@ -9,9 +9,9 @@ ghost use Rattle.dr_letters.specs.Places.{ArePlaces};
 ghost use Rattle.dr_letters.specs.States.{AreLong, is_short};
 
 use crate::asked_letter::AskedLetter;
+use crate::own_texts::OwnTexts;
 use crate::place_letters::PlaceLetters;
 use crate::reading::{parted, places_of};
-use dr_places::fits_soonest;
 use dr_rowindex::RowSet;
 use std::alloc::{AllocError, Global};
 use std::marker::Model;
@@ -20,7 +20,7 @@ use std::marker::Model;
 /// and how many of their places are known.
 #[derive(Drop)]
 pub struct LetterRows<'a> {
-    texts: Vec<&'a str>,
+    texts: OwnTexts<'a>,
     places: Vec<PlaceLetters>,
     // The texts that have no more characters.
     short: RowSet,
@@ -29,16 +29,16 @@ pub struct LetterRows<'a> {
 }
 
 impl<'a> Model for LetterRows<'a> {
-    ghost use Rattle.std.specs.Prelude.{◌≤◌, List, ℕ, length, map};
+    ghost use Rattle.std.specs.Prelude.{◌≤◌, List, ℕ, length};
     ghost use Rattle.dr_rowindex.specs.Orders.{Tell};
     ghost use Rattle.dr_letters.specs.Places.{ArePlaces};
     ghost use Rattle.dr_letters.specs.States.{AreLong, is_short};
 
     ghost Value = { List (List ℕ) × ℕ };
 
-    ghost view = { λ l. (map (λ t. t.now) l.texts.items, length l.places.items) };
+    ghost view = { λ l. (l.texts, length l.places.items) };
 
-    ghost invariant = { λ l. ArePlaces (map (λ t. t.now) l.texts.items) l.places.items × (Tell (is_short (length l.places.items)) (map (λ t. t.now) l.texts.items) l.short × (AreLong (map (λ t. t.now) l.texts.items) (length l.places.items) l.long.items × (length l.places.items ≤ 4096))) };
+    ghost invariant = { λ l. ArePlaces l.texts l.places.items × (Tell (is_short (length l.places.items)) l.texts l.short × (AreLong l.texts (length l.places.items) l.long.items × (length l.places.items ≤ 4096))) };
 }
 
 impl<'a> LetterRows<'a> {
@@ -49,6 +49,7 @@ impl<'a> LetterRows<'a> {
     pub fn of(alloc: Global, texts: Vec<&'a str>, most: usize) -> Result<LetterRows<'a>, AllocError>
         ensures { IfOk result (λ l. l.0 ≡ map (λ t. t.now) texts.entry.items) }
     {
+        let texts = OwnTexts::of(alloc, texts)?;
         let (places, rests) = places_of(alloc, texts.as_slice(), most)?;
         let (long, short) = parted(alloc, texts.len(), rests.as_slice())?;
         Ok(LetterRows {
@@ -142,8 +143,13 @@ impl<'a> LetterRows<'a> {
     pub(crate) fn fitting_alone(&self, alloc: Global, pattern: &str) -> Result<RowSet, AllocError>
         ensures { IfOk result (λ s. Tell (λ t. fits_of (chars pattern.now) (chars t)) self.now.0 s) }
     {
-        let set = fitting_of(alloc, pattern, self.texts.as_slice())?;
+        let set = fitting_of(alloc, pattern, &self.texts)?;
         Ok(set)
+    }
+
+    // How many words are gone through in about the time that this takes for a pattern of so many pieces.
+    pub(crate) fn words_alone(&self, pieces: usize) -> usize {
+        self.texts.words(pieces)
     }
 
     // Adds those of the other texts that fit a pattern, each of which is asked by itself.
@@ -157,7 +163,7 @@ impl<'a> LetterRows<'a> {
         ensures { OnOk result (Tell (λ t. fits_of (chars pattern.now) (chars t)) self.now.0 set.new) }
     {
         for row in &self.long {
-            if fits_soonest(alloc, pattern, self.texts[*row])? {
+            if self.texts.fits(alloc, *row, pattern)? {
                 set.insert(*row);
             }
         }
@@ -166,12 +172,12 @@ impl<'a> LetterRows<'a> {
 }
 
 // Those of some texts that fit a pattern.
-fn fitting_of(alloc: Global, pattern: &str, texts: &[&str]) -> Result<RowSet, AllocError>
-    ensures { IfOk result (λ s. Tell (λ t. fits_of (chars pattern.now) (chars t)) (map (λ t. t.now) texts.now) s) }
+fn fitting_of(alloc: Global, pattern: &str, texts: &OwnTexts<'_>) -> Result<RowSet, AllocError>
+    ensures { IfOk result (λ s. Tell (λ t. fits_of (chars pattern.now) (chars t)) texts.now s) }
 {
     let mut set = RowSet::none(alloc, texts.len())?;
     for row in 0..texts.len() {
-        if fits_soonest(alloc, pattern, texts[row])? {
+        if texts.fits(alloc, row, pattern)? {
             set.insert(row);
         }
     }

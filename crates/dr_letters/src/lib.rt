@@ -9,6 +9,7 @@ mod common_code;
 mod counting;
 mod fitting;
 mod letter_rows;
+mod own_texts;
 mod piece;
 mod pieces;
 mod place_letters;

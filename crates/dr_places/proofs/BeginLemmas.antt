@@ -1,6 +1,6 @@
 -- Pieces of a pattern that stand at a place of a text.
-use Rattle.std.proofs.Common.{◌≡◌, ◌≢◌, ◌∙◌, sym, refl, ap, ℕ, zero, suc, ◌+◌, ◌-◌, ◌<◌, ◌≤◌, ◌==◌, ◌&&◌, ◌||◌, Bool, true, false, List, [], ◌∷◌, ◌++◌, length, drop, drop-drop, append-nil, arith}
-use Rattle.std.proofs.lemmas.Bool.{and_parts, and_right}
+use Rattle.std.proofs.Common.{inl, inr, ◌≡◌, ◌≢◌, ◌∙◌, sym, refl, ap, subst, ℕ, zero, suc, ◌+◌, ◌-◌, ◌<◌, ◌≤◌, ◌==◌, ◌&&◌, ◌||◌, Bool, true, false, List, [], ◌∷◌, ◌++◌, length, drop, drop-drop, append-nil, arith}
+use Rattle.std.proofs.lemmas.Bool.{and_parts, and_right, cases_lt}
 use Rattle.std.proofs.lemmas.Bool.Decides.{nat_tests}
 use Rattle.std.proofs.lemmas.List.{length-drop}
 use Rattle.dr_like.specs.Letters.{Lacks}
@@ -96,6 +96,16 @@ as_long [] [] lacks same = refl
 as_long [] (d ∷ ds) lacks same = absurd (omega (arith, same))
 as_long (c ∷ cs) [] lacks same = absurd (omega (arith, same))
 as_long (c ∷ cs) (d ∷ ds) lacks same = one_letter c cs lacks.0 (d ∷ ds) ∙ ap (λ b. letter_fits c d && b) (as_long cs ds lacks.1 (omega (arith, same)))
+
+-- a pattern without a run fits a text of as many characters where it stands at its start, and no other
+pub whole-stands : (p t : List ℕ) → Lacks 37 p → length t ≡ length p → begins p t ≡ fits p t
+whole-stands p t lacks same = sym (as_long p t lacks same)
+
+pub whole-misses : (p t : List ℕ) → Lacks 37 p → length t ≢ length p → false ≡ fits p t
+whole-misses p t lacks other = elim (cases_lt (length p) (length t)) [
+  | inl less ↦ sym (too_long p t lacks less)
+  | inr more ↦ sym (subst (λ l. fits l t ≡ false) (append-nil p) (not-begun p [] t lacks (begins-short p t (omega (arith, more, other)))))
+]
 
 at_end : (p t : List ℕ) → Lacks 37 p → length t ≡ length p → behind_some_run (fits p) t ≡ begins p t
 at_end p [] lacks same = as_long p [] lacks same

@@ -1,10 +1,10 @@
 -- Sets of the places at which a piece stands.
-use Rattle.std.proofs.Common.{◌≡◌, ◌≢◌, ◌∙◌, sym, refl, ap, subst, ℕ, suc, ◌+◌, ◌-◌, ◌*◌, ◌/◌, ◌%◌, ◌^◌, ◌<◌, ◌≤◌, ◌==◌, ◌&&◌, Bool, true, false, List, length, get_or, drop, drop-drop, arith}
+use Rattle.std.proofs.Common.{◌≡◌, ◌≢◌, ◌∙◌, sym, refl, ap, ap₂, subst, ℕ, zero, suc, ◌+◌, ◌-◌, ◌*◌, ◌/◌, ◌%◌, ◌^◌, ◌<◌, ◌≤◌, ◌==◌, ◌&&◌, Bool, true, false, List, [], ◌∷◌, length, get_or, drop, drop-drop, arith}
 use Rattle.std.proofs.lemmas.List.{drop_all}
 use Rattle.std.proofs.lemmas.Nat.{mod_below}
 use Rattle.dr_like.specs.Like.{letter_fits}
 use Rattle.dr_bits.proofs.BitLemmas.{bit-zero, bit-ones}
-use Rattle.dr_places.specs.Places.{has_bit, truth_in, fits_comb, AreStanding, HoldJust, IsKept}
+use Rattle.dr_places.specs.Places.{has_bit, truth_in, begins, fits_comb, AreStanding, HoldJust, IsKept}
 use Rattle.dr_places.proofs.BeginLemmas.{any_letter, one_fits}
 use Rattle.dr_places.proofs.DigitLemmas.{bits-from}
 use Rattle.dr_places.proofs.CombLemmas.{all_combs, comb-skipped, letter-behind, each-comb, some-comb}
@@ -84,3 +84,53 @@ comb-kept words comb after piece text place first k kept told =
     ∙ ap (λ b. truth_in words k && b) (bits-from comb ((place + first) % 64) k (mod_below (place + first) 64 (omega arith)) ∙ told
     ∙ ap (λ n. fits_comb 63 0 (drop first piece) (drop n text)) there ∙ ap (fits_comb 63 0 (drop first piece)) (sym (drop-drop first (place + k) text))
     ∙ sym (comb-skipped 63 first piece (drop (place + k) text)))
+
+-- ---- letter by letter
+
+-- the places at which so many of the first letters of the piece fit
+abbrev pub AreLed : (words : List ℕ) (count first place : ℕ) (piece text : List ℕ) → Type 0
+AreLed words count first place piece text = (k : ℕ) → k < count → (truth_in words k && begins (drop first piece) (drop (place + k + first) text)) ≡ begins piece (drop (place + k) text)
+
+pub led-none : (count place : ℕ) (words piece text : List ℕ) → HoldJust count words → ((k : ℕ) → k < length words → get_or words k 0 ≡ 2 ^ 64 - 1) → AreLed words count 0 place piece text
+led-none count place words piece text just full k lt =
+    let here : place + k + 0 ≡ place + k = omega arith in
+    ap (λ b. b && begins piece (drop (place + k + 0) text)) (ones words k (full (k / 64) (omega (arith, lt, just.1)))) ∙ ap (λ n. begins piece (drop n text)) here
+
+-- one letter of a piece, and those behind it
+begins-here : (j x : ℕ) (ps t : List ℕ) → j < length ps → x < length t
+    → begins (drop j ps) (drop x t) ≡ (letter_fits (get_or ps j 0) (get_or t x 0) && begins (drop (suc j) ps) (drop (suc x) t))
+begins-here j x [] t lt within = absurd (omega (arith, lt))
+begins-here j x (p ∷ ps) [] lt within = absurd (omega (arith, within))
+begins-here zero zero (p ∷ ps) (c ∷ cs) lt within = refl
+begins-here (suc j) zero (p ∷ ps) (c ∷ cs) lt within = begins-here j zero ps (c ∷ cs) (omega (arith, lt)) (omega arith)
+begins-here j (suc x) (p ∷ ps) (c ∷ cs) lt within = begins-here j x (p ∷ ps) cs lt (omega (arith, within))
+
+pub led-more : (count first place : ℕ) (before after piece text : List ℕ) → first < length piece → ((k : ℕ) → k < count → place + first + k < length text)
+    → ((k : ℕ) → k < count → truth_in after k ≡ (truth_in before k && letter_fits (get_or piece first 0) (get_or text (place + first + k) 0)))
+    → AreLed before count first place piece text → AreLed after count (first + 1) place piece text
+led-more count first place before after piece text lt within each was k less =
+    let x = place + k + first in
+    let there : place + first + k ≡ x = omega arith in
+    let next : place + k + (first + 1) ≡ suc x = omega arith in
+    let one : first + 1 ≡ suc first = omega arith in
+    ap₂ (λ n m. truth_in after k && begins (drop n piece) (drop m text)) one next
+    ∙ ap (λ b. b && begins (drop (suc first) piece) (drop (suc x) text)) (each k less ∙ ap (λ n. truth_in before k && letter_fits (get_or piece first 0) (get_or text n 0)) there)
+    ∙ turned (truth_in before k) (letter_fits (get_or piece first 0) (get_or text x 0)) (begins (drop (suc first) piece) (drop (suc x) text))
+    ∙ ap (λ b. truth_in before k && b) (sym (begins-here first x piece text lt (omega (arith, within k less)))) ∙ was k less
+  where
+    turned : (a b c : Bool) → ((a && b) && c) ≡ (a && (b && c))
+    turned true b c = refl
+    turned false b c = refl
+
+pub led-all : (count first place : ℕ) (words piece text : List ℕ) → length piece ≤ first → AreLed words count first place piece text → AreStanding words count place piece text
+led-all count first place words piece text le was k lt =
+    kept (truth_in words k) ∙ ap (λ l. truth_in words k && begins l (drop (place + k + first) text)) (sym (drop_all first piece le)) ∙ was k lt
+  where
+    kept : (b : Bool) → b ≡ (b && true)
+    kept true = refl
+    kept false = refl
+
+pub led-nowhere : (count first place : ℕ) (words piece text : List ℕ) → ((k : ℕ) → get_or words k 0 ≡ 0) → AreLed words count first place piece text → AreStanding words count place piece text
+led-nowhere count first place words piece text zeros was k lt =
+    let none : truth_in words k ≡ false = ap (λ w. has_bit w (k % 64)) (zeros (k / 64)) ∙ bit-zero (k % 64) in
+    none ∙ ap (λ b. b && begins (drop first piece) (drop (place + k + first) text)) (sym none) ∙ was k lt

@@ -68,13 +68,20 @@ impl Digits {
     }
 }
 
-// A digit of a letter.
+// A digit of a letter. A division takes as long as most of what is done with a digit, so there is none where it tells nothing.
 fn digit_of(letter: char, divisor: usize, count: usize) -> usize
     requires divisor { 0 < divisor }
     requires count { 0 < count }
     ensures { result ≡ letter / divisor % count }
 {
-    letter as usize / divisor % count
+    let number = letter as usize;
+    if number < divisor {
+        return 0;
+    }
+    if divisor == 1 && number < count {
+        return number;
+    }
+    number / divisor % count
 }
 
 // The sets of the places for each digit.

@@ -14,3 +14,4 @@ mod words;
 
 pub use by_places::fits_by_places;
 pub use choosing::fits_soonest;
+pub use text_places::TextPlaces;

@@ -5,10 +5,11 @@ ghost use Rattle.dr_places.specs.Places.{begins, truth_in, HoldJust};
 
 use crate::standing::put_standing;
 use crate::text_places::TextPlaces;
+use crate::words::lowest_of;
 use dr_bits::is_set;
 
 // Of how many places at once it is told first whether a piece stands there, and at most, so that the set stays in a processor's cache.
-const FIRST_COUNT: usize = 1024;
+const FIRST_COUNT: usize = 64;
 
 const MOST_COUNT: usize = 1 << 15;
 
@@ -98,9 +99,14 @@ fn first_of(words: &[u64], count: usize) -> Option<usize>
     requires { HoldJust count words.now }
     ensures { MatchOption result ((k : ℕ) → k < count → truth_in words.now k ≡ false) (λ b. (b < count) × (truth_in words.now b ≡ true) × ((k : ℕ) → k < b → truth_in words.now k ≡ false)) }
 {
-    for k in 0..count {
-        if is_set(words[k / 64], k % 64) {
-            return Some(k);
+    for w in 0..words.len() {
+        let word = words[w];
+        if word != 0 {
+            let k = 64 * w + lowest_of(word);
+            if k < count {
+                return Some(k);
+            }
+            return None;
         }
     }
     None

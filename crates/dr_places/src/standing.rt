@@ -5,6 +5,9 @@ ghost use Rattle.dr_places.specs.Places.{AreStanding, HoldJust, truth_in, fits_c
 use crate::text_places::TextPlaces;
 use crate::words::{is_empty, keep_bits, put_words};
 
+// No letter of a piece of so many has another one that stands 64 behind it.
+const ONE_COMB_EACH: usize = 64;
+
 // Makes a set of those of so many places of a text, the first of which is this one, at which a piece of a pattern stands. The places are
 // left where each 64th letter of the piece fits, from its first one on, from its second one on, and so on. Where no place is left, no
 // more is asked.
@@ -23,9 +26,32 @@ pub fn put_standing(
     ensures comb { length comb.new ≡ length comb.old }
     ensures each { AreStanding words.new count place piece.now places.now }
 {
+    if piece.len() <= ONE_COMB_EACH {
+        put_each(places, words, piece, place, count);
+        return;
+    }
     put_words(words, 0, words.len(), u64::MAX);
     for first in 0..piece.len().min(64) {
         put_comb(places, words, comb, piece, first, place, count);
+        if is_empty(words) {
+            return;
+        }
+    }
+}
+
+// The same, letter by letter.
+fn put_each(places: &TextPlaces, words: &mut [u64], piece: &[char], place: usize, count: usize)
+    requires within { place + count + length piece.now ≤ length places.now + 1 }
+    requires words { HoldJust count words.old }
+    ensures count { length words.new ≡ length words.old }
+    ensures each { AreStanding words.new count place piece.now places.now }
+{
+    put_words(words, 0, words.len(), u64::MAX);
+    for first in 0..piece.len() {
+        prove!(piece.len() <= places.count());
+        prove!(place + first < places.count());
+        let end = words.len();
+        put_letter(places, words, piece[first], place + first, end);
         if is_empty(words) {
             return;
         }

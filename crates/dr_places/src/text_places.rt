@@ -10,6 +10,8 @@ use std::marker::Model;
 /// The characters of a text, and the sets of the places where each digit of their numbers is this or that: the lowest digit
 /// counts 128, the next two 32 each, the highest 16. The places of a letter are those that have each of its digits. A contract
 /// sees the characters.
+///
+/// It takes up to 36 bytes of memory for each character of the text, 20 where each has a number below 128, and a few thousand besides.
 #[derive(Drop)]
 pub struct TextPlaces {
     letters: Vec<char>,
@@ -31,6 +33,7 @@ impl Model for TextPlaces {
 }
 
 impl TextPlaces {
+    /// The places of a text. The only error is that memory ran out. It takes time by the bytes of the text.
     pub fn of(alloc: Global, text: &str) -> Result<TextPlaces, AllocError>
         ensures { IfOk result (λ p. p ≡ chars text.now) }
     {
@@ -49,14 +52,14 @@ impl TextPlaces {
     }
 
     // How many characters the text has.
-    pub fn count(&self) -> usize
+    pub(crate) fn count(&self) -> usize
         ensures { result ≡ length self.now }
     {
         self.letters.len()
     }
 
     // Keeps of some places, counted from lo on, in the words from one up to another, those where the text has a letter.
-    pub fn keep(&self, words: &mut [u64], letter: char, lo: usize, from: usize, end: usize)
+    pub(crate) fn keep(&self, words: &mut [u64], letter: char, lo: usize, from: usize, end: usize)
         requires order { from ≤ end }
         requires words { end ≤ length words.old }
         requires places { lo / 64 + end ≤ length self.now / 64 + 1 }

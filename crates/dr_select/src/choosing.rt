@@ -9,7 +9,7 @@ ghost use Rattle.dr_select.specs.Parts.{AddsPart};
 ghost use Rattle.dr_select.specs.Rows.{meets, value_of};
 
 use crate::asked_for::AskedFor;
-use crate::bounds::rows_at_once;
+use crate::bounds::{is_one_part, part_end};
 use crate::by_row::{are_few, keep_every};
 use crate::lot::Lot;
 use crate::passing::insert_passing;
@@ -40,6 +40,8 @@ const LOOKED_BEHIND: usize = 64;
 /// [`LetterRows::fitting`](dr_letters::LetterRows::fitting) does. For that 16,384 rows are asked at once, where it is one dimension, and
 /// fewer, down to 1,024, where they are more; and the characters are read as far as one value in 256 goes on, and as 64 megabytes hold
 /// what is known of them in all these dimensions, so the memory for them is bounded. Values that go on further are asked by themselves.
+/// Of values of 1,024 bytes or more, or of 64 where the rows are few, it is kept too where each letter stands, which takes up to 20 bytes
+/// for each byte of them; so of more than one row values of 4 MiB at most are asked at once.
 pub fn select(alloc: Global, filter: &Filter, rows: &[KeyOf<'_>]) -> Result<RowSet, AllocError>
     ensures { IfOk result (λ s. s ≡ map (meets (condition_in filter.now)) rows.now) }
 {
@@ -58,14 +60,15 @@ fn met_by_parts(
 ) -> Result<RowSet, AllocError>
     ensures { IfOk result (λ s. Tell (meets (condition_in filter.now)) rows.now s) }
 {
-    let most = rows_at_once(often.patterns.often(alloc)?.len());
-    if rows.len() <= most {
+    let patterns = often.patterns.often(alloc)?;
+    let places = patterns.as_slice();
+    if is_one_part(rows, places) {
         return met_by_part(alloc, filter, often, rows);
     }
     let mut set = RowSet::none(alloc, rows.len())?;
     let mut from = 0usize;
     while from < rows.len() {
-        let to = dr_rowindex::lot_end(from, rows.len(), most);
+        let to = part_end(rows, places, from);
         let part = met_by_part(alloc, filter, often, &rows[from..to])?;
         insert_part(&part, from, to, &mut set);
         from = to;

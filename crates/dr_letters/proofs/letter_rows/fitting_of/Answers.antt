@@ -1,7 +1,6 @@
-use Rattle.std.proofs.Common.{◌≡◌, ◌∙◌, ap, sym, subst, ◌+◌, ◌<◌, [], List, ℕ, length, map, get_or, arith}
+use Rattle.std.proofs.Common.{◌≡◌, ◌∙◌, ap, sym, subst, ◌+◌, ◌<◌, [], List, ℕ, length, get_or, arith}
 use Rattle.std.specs.Str.{chars}
-use Rattle.std.proofs.Math.ListN.{get_or-map}
-use Rattle.std.proofs.lemmas.List.{length-map, get_or_default}
+use Rattle.std.proofs.lemmas.List.{get_or_default}
 use Rattle.dr_like.specs.Like.{fits}
 use Rattle.dr_rowindex.proofs.TellLemmas.{TellTo, to-failed, to-passed}
 use Rattle.dr_letters.proofs.letter_rows.fitting_of.Goals as goal
@@ -10,13 +9,11 @@ use Rattle.dr_letters.proofs.letter_rows.fitting_of.Goals.{then-branch, else-bra
 pub loop-row-preserved : goal.loop-row-preserved
 loop-row-preserved c =
     let at = c.loop-row in
-    let all = c.args.texts.now in
-    let texts = map (λ t. t.now) all in
+    let texts = c.args.texts.now in
     let pattern = chars c.args.pattern.now in
-    let lt : at.row < length texts = omega (arith, c.loop-row-test.true, length-map all (λ t. t.now)) in
-    let own = get_or-map (λ t. t.now) all at.row (record { ref_ptr = (0, 0); now = [] }) in
-    let each : (t : List ℕ) → fits pattern (chars (get_or texts at.row t)) ≡ c.in_ok-fits_soonest.field-0
-    = λ t. ap (λ x. fits pattern (chars x)) (get_or_default texts at.row t [] lt ∙ own) ∙ sym c.in_ok-fits_soonest.ensures in
+    let lt : at.row < length texts = omega (arith, c.loop-row-test.true, at.auto.row-end, c.len-row-end.ensures) in
+    let each : (t : List ℕ) → fits pattern (chars (get_or texts at.row t)) ≡ c.in_ok-fits.field-0
+    = λ t. ap (λ x. fits pattern (chars x)) (get_or_default texts at.row t [] lt) ∙ sym c.in_ok-fits.ensures in
     elim c.if-branch.branch [
       | then-branch w ↦ subst (TellTo (at.row + 1) (λ t. fits pattern (chars t)) texts) (sym (w.set-is ∙ w.insert.ensures))
           (to-passed at.row (λ t. fits pattern (chars t)) texts at.set at.invariant (omega (arith, lt, at.invariant.count)) (λ t. each t ∙ w.if-branch.true))

@@ -6,5 +6,5 @@ use Rattle.dr_select.proofs.choosing.met_by_parts.Goals as goal
 
 pub loop-from-preserved : goal.loop-from-preserved
 loop-from-preserved c =
-    part-told (meets (condition_in c.args.filter.now)) c.args.rows.now c.loop-from.from c.lot_end-to.result c.in_ok-part.part c.loop-from.set c.insert_part.new.set
-    (omega (arith, c.lot_end-to.ensures.more)) c.lot_end-to.ensures.within c.in_ok-part.ensures c.insert_part.ensures c.loop-from.invariant
+    part-told (meets (condition_in c.args.filter.now)) c.args.rows.now c.loop-from.from c.part_end-to.result c.in_ok-part.part c.loop-from.set c.insert_part.new.set
+    (omega (arith, c.part_end-to.ensures.more)) c.part_end-to.ensures.within c.in_ok-part.ensures c.insert_part.ensures c.loop-from.invariant

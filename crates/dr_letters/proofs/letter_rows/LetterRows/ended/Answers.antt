@@ -10,7 +10,7 @@ use Rattle.dr_letters.proofs.letter_rows.LetterRows.ended.Goals as goal
 
 pub returns-then-place-len : goal.returns-then-place-len
 returns-then-place-len c =
-    let texts = map (λ t. t.now) c.self.inside.texts.items in
+    let texts = c.self.inside.texts in
     let n = length c.self.inside.places.items in
     let k = c.args.place in
     let codes = map (λ t. code_at k (chars t)) texts in
@@ -22,7 +22,7 @@ returns-then-place-len c =
 
 pub returns : goal.returns
 returns c =
-    let texts = map (λ t. t.now) c.self.inside.texts.items in
+    let texts = c.self.inside.texts in
     let n = length c.self.inside.places.items in
     let same : c.args.place ≡ n = omega (arith, c.if-place-len.false, c.len.ensures, c.requires, ap (λ v. v.1) c.self.view_is) in
     let tells = tell-same (is_short n) (λ t. is_short n t && is_empty (drop c.args.place (chars t))) texts c.self.inside.short

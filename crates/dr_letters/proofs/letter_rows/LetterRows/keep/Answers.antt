@@ -8,7 +8,7 @@ use Rattle.dr_letters.proofs.letter_rows.LetterRows.keep.Goals as goal
 
 pub returns-then-letter-eq95 : goal.returns-then-letter-eq95
 returns-then-letter-eq95 c =
-    let texts = map (λ t. t.now) c.self.inside.texts.items in
+    let texts = c.self.inside.texts in
     let k = c.args.place in
     let codes = map (λ t. code_at k (chars t)) texts in
     let lt : k < length c.self.inside.places.items = omega (arith, c.requires.place, ap (λ v. v.1) c.self.view_is) in
@@ -19,7 +19,7 @@ returns-then-letter-eq95 c =
 
 pub returns-else-letter-eq95 : goal.returns-else-letter-eq95
 returns-else-letter-eq95 c =
-    let texts = map (λ t. t.now) c.self.inside.texts.items in
+    let texts = c.self.inside.texts in
     let k = c.args.place in
     let letter = c.args.letter in
     let codes = map (λ t. code_at k (chars t)) texts in

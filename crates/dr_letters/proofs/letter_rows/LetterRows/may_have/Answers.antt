@@ -10,7 +10,7 @@ use Rattle.dr_letters.proofs.letter_rows.LetterRows.may_have.Goals as goal
 
 pub returns-else-letter-eq95 : goal.returns-else-letter-eq95
 returns-else-letter-eq95 c = λ none i t within.
-    let texts = map (λ t. t.now) c.self.inside.texts.items in
+    let texts = c.self.inside.texts in
     let k = c.args.place in
     let letter = c.args.letter in
     let code : List ℕ → ℕ = λ t. code_at k (chars t) in

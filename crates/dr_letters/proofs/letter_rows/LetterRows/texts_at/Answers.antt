@@ -9,7 +9,7 @@ use Rattle.dr_letters.proofs.letter_rows.LetterRows.texts_at.Goals as goal
 
 pub returns : goal.returns
 returns c =
-    let texts = map (λ t. t.now) c.self.inside.texts.items in
+    let texts = c.self.inside.texts in
     let k = c.args.asked.now.place - c.args.spare in
     let letter = c.args.asked.now.letter in
     let codes = map (λ t. code_at k (chars t)) texts in
