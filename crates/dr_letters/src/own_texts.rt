@@ -3,7 +3,7 @@ ghost use Rattle.std.specs.Str.{chars};
 ghost use Rattle.dr_like.specs.Like.{fits};
 ghost use Rattle.dr_letters.specs.States.{AreKnown};
 
-use dr_places::{TextPlaces, fits_soonest};
+use dr_places::{LetterPlaces, fits_soonest};
 use std::alloc::{AllocError, Global};
 use std::marker::Model;
 
@@ -27,7 +27,7 @@ const WORDS_A_CHARACTER_ELSE: usize = 4;
 #[derive(Drop)]
 pub struct OwnTexts<'a> {
     texts: Vec<&'a str>,
-    places: Vec<Option<TextPlaces>>,
+    places: Vec<Option<LetterPlaces>>,
     // How many texts have places that are known, and their bytes.
     known: usize,
     known_bytes: usize,
@@ -48,7 +48,7 @@ impl<'a> Model for OwnTexts<'a> {
 
 impl<'a> OwnTexts<'a> {
     // Texts, the first of which is that of row 0. The only error is that memory ran out. It takes time by their bytes, and the memory of
-    // [`TextPlaces`] for each of 1,024 bytes or more, and of 64 or more, where the square of their number is no more than twice their bytes.
+    // [`LetterPlaces`] for each of 1,024 bytes or more, and of 64 or more, where the square of their number is no more than twice their bytes.
     pub fn of(alloc: Global, texts: Vec<&'a str>) -> Result<OwnTexts<'a>, AllocError>
         ensures { IfOk result (λ t. t ≡ map (λ t. t.now) texts.entry.items) }
     {
@@ -80,7 +80,7 @@ impl<'a> OwnTexts<'a> {
         self.texts.len()
     }
 
-    // Whether the text of a row fits a pattern. The only error is that memory ran out. It takes what [`TextPlaces::fits`] does, where its
+    // Whether the text of a row fits a pattern. The only error is that memory ran out. It takes what [`LetterPlaces::fits`] does, where its
     // places are known, and else what [`fits_soonest`] does.
     pub fn fits(&self, alloc: Global, row: usize, pattern: &str) -> Result<bool, AllocError>
         requires { row < length self.now }
@@ -143,7 +143,7 @@ fn places_of(
     alloc: Global,
     texts: &[&str],
     least: usize,
-) -> Result<Vec<Option<TextPlaces>>, AllocError>
+) -> Result<Vec<Option<LetterPlaces>>, AllocError>
     ensures { IfOk result (λ places. AreKnown (map (λ t. t.now) texts.now) places.items) }
 {
     let mut places = Vec::with_capacity(alloc, texts.len())?;
@@ -155,12 +155,16 @@ fn places_of(
 }
 
 // The places of a text, where it has so many bytes.
-fn places_if_long(alloc: Global, text: &str, least: usize) -> Result<Option<TextPlaces>, AllocError>
+fn places_if_long(
+    alloc: Global,
+    text: &str,
+    least: usize,
+) -> Result<Option<LetterPlaces>, AllocError>
     ensures { IfOk result (λ own. IfSome own (λ places. places ≡ chars text.now)) }
 {
     if text.len() < least {
         return Ok(None);
     }
-    let places = TextPlaces::of(alloc, text)?;
+    let places = LetterPlaces::of(alloc, text)?;
     Ok(Some(places))
 }

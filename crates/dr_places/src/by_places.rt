@@ -3,16 +3,16 @@ ghost use Rattle.std.specs.Str.{chars};
 ghost use Rattle.dr_like.specs.Like.{fits, behind_some_run};
 ghost use Rattle.dr_like.specs.Letters.{Lacks};
 
+use crate::letter_places::LetterPlaces;
 use crate::letters::put_letters_of;
 use crate::search::{behind_piece, stands};
-use crate::text_places::TextPlaces;
 use dr_like::split_at_letter;
 use std::alloc::{AllocError, Global};
 
 /// Whether the whole text fits a pattern (Apache Druid documentation, query filters: like): `%` is any run of characters,
 /// `_` is one Unicode scalar value, every other character is itself. The only error is that memory ran out.
 ///
-/// It takes the time and memory of [`TextPlaces::of`] and of [`TextPlaces::fits`]; no memory where the pattern has no `%`, and time by
+/// It takes the time and memory of [`LetterPlaces::of`] and of [`LetterPlaces::fits`]; no memory where the pattern has no `%`, and time by
 /// the bytes of both.
 pub fn fits_by_places(alloc: Global, pattern: &str, text: &str) -> Result<bool, AllocError>
     ensures { IfOk result (λ found. found ≡ fits (chars pattern.now) (chars text.now)) }
@@ -20,12 +20,12 @@ pub fn fits_by_places(alloc: Global, pattern: &str, text: &str) -> Result<bool, 
     let Some(_) = split_at_letter(pattern, '%') else {
         return Ok(dr_like::fits(pattern, text));
     };
-    let places = TextPlaces::of(alloc, text)?;
+    let places = LetterPlaces::of(alloc, text)?;
     let found = places.fits(alloc, pattern)?;
     Ok(found)
 }
 
-impl TextPlaces {
+impl LetterPlaces {
     /// Whether the whole text fits a pattern, as [`fits_by_places`] tells it. The only error is that memory ran out.
     ///
     /// It takes four bytes of memory for each letter of the longest piece between two `%`, and a bit or two for each character of the text.
@@ -61,7 +61,7 @@ impl TextPlaces {
 
 // Whether the whole text fits a pattern without a run.
 fn fits_whole(
-    places: &TextPlaces,
+    places: &LetterPlaces,
     words: &mut [u64],
     comb: &mut [u64],
     letters: &mut Vec<char>,
@@ -81,7 +81,7 @@ fn fits_whole(
 
 // Whether the whole text fits a start without a run, a run, and what follows it.
 fn fits_with_run(
-    places: &TextPlaces,
+    places: &LetterPlaces,
     words: &mut [u64],
     comb: &mut [u64],
     letters: &mut Vec<char>,
@@ -108,7 +108,7 @@ fn fits_with_run(
 // Whether what is left of the text behind some run, from a place on, fits the pattern: each of its pieces is looked for behind the
 // one before, and the last, which no run follows, at the end of the text.
 fn fits_behind_run(
-    places: &TextPlaces,
+    places: &LetterPlaces,
     words: &mut [u64],
     comb: &mut [u64],
     letters: &mut Vec<char>,
@@ -136,7 +136,7 @@ fn fits_behind_run(
 
 // Whether the end of the text, from a place on, fits a pattern without a run.
 fn fits_end(
-    places: &TextPlaces,
+    places: &LetterPlaces,
     words: &mut [u64],
     comb: &mut [u64],
     letters: &mut Vec<char>,

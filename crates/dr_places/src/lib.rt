@@ -5,13 +5,13 @@
 mod by_places;
 mod choosing;
 mod digits;
+mod letter_places;
 mod letters;
 mod place_set;
 mod search;
 mod standing;
-mod text_places;
 mod words;
 
 pub use by_places::fits_by_places;
 pub use choosing::fits_soonest;
-pub use text_places::TextPlaces;
+pub use letter_places::LetterPlaces;

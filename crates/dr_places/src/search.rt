@@ -3,8 +3,8 @@ ghost use Rattle.dr_like.specs.Letters.{Lacks};
 ghost use Rattle.dr_like.specs.Pieces.{IsNowhere, IsBehindFirst};
 ghost use Rattle.dr_places.specs.Places.{begins, truth_in, HoldJust};
 
+use crate::letter_places::LetterPlaces;
 use crate::standing::put_standing;
-use crate::text_places::TextPlaces;
 use crate::words::lowest_of;
 use dr_bits::is_set;
 
@@ -15,7 +15,7 @@ const MOST_COUNT: usize = 1 << 15;
 
 // Whether a piece of a pattern stands at a place of a text, where so many characters are left.
 pub fn stands(
-    places: &TextPlaces,
+    places: &LetterPlaces,
     words: &mut [u64],
     comb: &mut [u64],
     piece: &[char],
@@ -36,7 +36,7 @@ pub fn stands(
 // What follows the first place of a text, from one on, at which a piece of a pattern stands that a run follows; none where it
 // stands nowhere. No later place is better.
 pub fn behind_piece(
-    places: &TextPlaces,
+    places: &LetterPlaces,
     words: &mut [u64],
     comb: &mut [u64],
     piece: &[char],
@@ -73,7 +73,7 @@ pub fn behind_piece(
 
 // The first of so many places, from one on, at which a piece of a pattern stands, counted from that one.
 fn first_standing(
-    places: &TextPlaces,
+    places: &LetterPlaces,
     words: &mut [u64],
     comb: &mut [u64],
     piece: &[char],

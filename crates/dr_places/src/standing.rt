@@ -2,7 +2,7 @@ ghost use Rattle.std.specs.Prelude.{◌≡◌, ◌≤◌, ◌<◌, ◌+◌, ◌-
 ghost use Rattle.dr_like.specs.Like.{letter_fits};
 ghost use Rattle.dr_places.specs.Places.{AreStanding, HoldJust, truth_in, fits_comb};
 
-use crate::text_places::TextPlaces;
+use crate::letter_places::LetterPlaces;
 use crate::words::{is_empty, keep_bits, put_words};
 
 // No letter of a piece of so many has another one that stands 64 behind it.
@@ -12,7 +12,7 @@ const ONE_COMB_EACH: usize = 64;
 // left where each 64th letter of the piece fits, from its first one on, from its second one on, and so on. Where no place is left, no
 // more is asked.
 pub fn put_standing(
-    places: &TextPlaces,
+    places: &LetterPlaces,
     words: &mut [u64],
     comb: &mut [u64],
     piece: &[char],
@@ -40,7 +40,7 @@ pub fn put_standing(
 }
 
 // The same, letter by letter.
-fn put_each(places: &TextPlaces, words: &mut [u64], piece: &[char], place: usize, count: usize)
+fn put_each(places: &LetterPlaces, words: &mut [u64], piece: &[char], place: usize, count: usize)
     requires within { place + count + length piece.now ≤ length places.now + 1 }
     requires words { HoldJust count words.old }
     ensures count { length words.new ≡ length words.old }
@@ -61,7 +61,7 @@ fn put_each(places: &TextPlaces, words: &mut [u64], piece: &[char], place: usize
 // Leaves the places where each 64th letter of the piece fits, from one on. What these letters leave is told of all bits of the words of
 // the text first, since all of them stand as far from the first bit of a word.
 fn put_comb(
-    places: &TextPlaces,
+    places: &LetterPlaces,
     words: &mut [u64],
     comb: &mut [u64],
     piece: &[char],
@@ -89,7 +89,7 @@ fn put_comb(
 
 // Leaves the bits of the words of the text, from one on, from which on each 64th letter of the piece fits, from one on.
 fn put_letters(
-    places: &TextPlaces,
+    places: &LetterPlaces,
     comb: &mut [u64],
     piece: &[char],
     first: usize,
@@ -118,7 +118,7 @@ fn put_letters(
 }
 
 // Leaves the places, counted from lo on, where the text has a letter of a pattern that is no run.
-fn put_letter(places: &TextPlaces, words: &mut [u64], letter: char, lo: usize, end: usize)
+fn put_letter(places: &LetterPlaces, words: &mut [u64], letter: char, lo: usize, end: usize)
     requires words { end ≤ length words.old }
     requires places { lo / 64 + end ≤ length places.now / 64 + 1 }
     ensures count { length words.new ≡ length words.old }

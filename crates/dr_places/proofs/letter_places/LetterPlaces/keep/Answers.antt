@@ -2,7 +2,7 @@ use Rattle.std.proofs.Common.{◌≡◌, ◌∙◌, sym, ap, subst, ◌+◌, ◌
 use Rattle.dr_places.specs.Places.{truth_in}
 use Rattle.dr_places.specs.Digits.{AreCharacters}
 use Rattle.dr_places.proofs.LetterLemmas.{letter-kept, scalar-below}
-use Rattle.dr_places.proofs.text_places.TextPlaces.keep.Goals as goal
+use Rattle.dr_places.proofs.letter_places.LetterPlaces.keep.Goals as goal
 
 pub returns-clause-each : goal.returns-clause-each
 returns-clause-each c k from to within =

@@ -13,7 +13,7 @@ use std::marker::Model;
 ///
 /// It takes up to 36 bytes of memory for each character of the text, 20 where each has a number below 128, and a few thousand besides.
 #[derive(Drop)]
-pub struct TextPlaces {
+pub struct LetterPlaces {
     letters: Vec<char>,
     lowest: Digits,
     second: Digits,
@@ -21,7 +21,7 @@ pub struct TextPlaces {
     highest: Digits,
 }
 
-impl Model for TextPlaces {
+impl Model for LetterPlaces {
     ghost use Rattle.std.specs.Prelude.{List, ℕ};
     ghost use Rattle.dr_places.specs.Digits.{IsDigitOf, AreCharacters};
 
@@ -32,9 +32,9 @@ impl Model for TextPlaces {
     ghost invariant = { λ p. AreCharacters p.letters.items × IsDigitOf p.letters.items 1 128 p.lowest.divisor p.lowest.count p.lowest.sets.items × IsDigitOf p.letters.items 128 32 p.second.divisor p.second.count p.second.sets.items × IsDigitOf p.letters.items 4096 32 p.third.divisor p.third.count p.third.sets.items × IsDigitOf p.letters.items 131072 16 p.highest.divisor p.highest.count p.highest.sets.items };
 }
 
-impl TextPlaces {
+impl LetterPlaces {
     /// The places of a text. The only error is that memory ran out. It takes time by the bytes of the text.
-    pub fn of(alloc: Global, text: &str) -> Result<TextPlaces, AllocError>
+    pub fn of(alloc: Global, text: &str) -> Result<LetterPlaces, AllocError>
         ensures { IfOk result (λ p. p ≡ chars text.now) }
     {
         let letters = letters_of(alloc, text)?;
@@ -42,7 +42,7 @@ impl TextPlaces {
         let second = Digits::of(alloc, letters.as_slice(), 128, 32)?;
         let third = Digits::of(alloc, letters.as_slice(), 4096, 32)?;
         let highest = Digits::of(alloc, letters.as_slice(), 131072, 16)?;
-        Ok(TextPlaces {
+        Ok(LetterPlaces {
             letters,
             lowest,
             second,
