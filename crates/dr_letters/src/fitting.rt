@@ -20,6 +20,7 @@ impl<'a> LetterRows<'a> {
     /// places are that the pattern has no letter for. For each part behind a `%` it takes memory by a bit for each text. Where letters leave
     /// no text, the next ones take no time, nor does a `_` that has another letter behind it; and nothing is asked at a place where a letter
     /// stands that no text has there. A text that has more characters than places are known is asked by itself, as by
+    /// [`LetterPlaces::fits`](dr_places::LetterPlaces::fits), where it is kept where its letters stand, and else as by
     /// [`fits_soonest`](dr_places::fits_soonest), unless those that are known tell whether it fits: of a pattern without `%`, or with one at
     /// its end alone, that has no more letters than these. So is each text where that takes less time, as it does where a pattern has many
     /// parts and the texts are few and long.
