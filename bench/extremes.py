@@ -385,9 +385,10 @@ def likes_of_parts(parts, letters, patterns):
     return lines
 
 
-def likes_but_for_one_part(parts, patterns, letters=2, length=300):
+def likes_but_for_one_part(parts, patterns, letters=2, length=300, last=False):
     """Patterns of so many parts of so many letters with gaps between, over texts of 300 letters or more, each of which has all parts but
-    the first, which is asked last; where there are none the second is a number."""
+    the first, which is asked last of many texts at once, or the last, which is asked last of each by itself; where there are no other
+    parts the second is a number."""
     def text(random):
         found = [random.choice("01") for _ in range(length)]
         for place in range(0, length, 5):
@@ -401,7 +402,7 @@ def likes_but_for_one_part(parts, patterns, letters=2, length=300):
             yield event(BEGIN + it % DAY, text(random))
         part = lambda: "_".join(random.choice("01") for _ in range(letters))
         others = lambda it: "%".join(part() for _ in range(parts)) if parts else str(it)
-        asked = series(filter=one_of(*({"type": "like", "dimension": "page", "pattern": "%2_2%" + others(it) + "%"} for it in range(patterns))))
+        asked = series(filter=one_of(*({"type": "like", "dimension": "page", "pattern": f"%{others(it)}%2_2%" if last else f"%2_2%{others(it)}%"} for it in range(patterns))))
         yield from (asked, f"seal {instant(1)}", f"publish {instant(1)} 0 1", asked)
     return lines
 
@@ -766,8 +767,8 @@ INPUTS = {
     "rows of 300 letters under an or of 2,800 likes of seventy parts of two letters": (likes_of_parts(70, 2, 2800), 10000),
     "rows of 300 letters under an or of 8,000 likes of twenty parts of two letters, of which each row lacks the first alone": (likes_but_for_one_part(19, 8000), 10000),
     "rows of 300 letters under an or of 5,000 likes of 76 parts, all but the first of one letter, of which each row lacks the first alone": (likes_but_for_one_part(75, 5000, letters=1), 10000),
-    "rows of 4,000 letters under an or of 4,000 likes of 101 parts, all but the first of one letter, of which each row lacks the first alone": (likes_but_for_one_part(100, 4000, letters=1, length=4000), 100),
-    "rows of 4,000 letters under an or of 800 likes of 601 parts, all but the first of one letter, of which each row lacks the first alone": (likes_but_for_one_part(600, 800, letters=1, length=4000), 100),
+    "rows of 4,000 letters under an or of 4,000 likes of 101 parts, all but the last of one letter, of which each row lacks the last alone": (likes_but_for_one_part(100, 4000, letters=1, length=4000, last=True), 100),
+    "rows of 4,000 letters under an or of 800 likes of 601 parts, all but the last of one letter, of which each row lacks the last alone": (likes_but_for_one_part(600, 800, letters=1, length=4000, last=True), 100),
     "rows of 100,000 letters under an or of 17,000 likes of two parts, of which each row lacks the first": (likes_but_for_one_part(0, 17000, length=100000), 10),
     "rows of 300 letters under a like of 1,000,000 runs and three letters": (likes_of_runs(1, 1000000), 10000),
     "rows of 300 letters under an or of 32 likes of 32,000 runs and three letters": (likes_of_runs(32, 32000), 10000),
