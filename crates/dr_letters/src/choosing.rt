@@ -1,5 +1,6 @@
-use crate::counting::{character_count, letter_count};
+use crate::counting::letter_count;
 use crate::letter_rows::LetterRows;
+use crate::shape::Shape;
 
 // How many words of sets are told of in the time that is lost for each set.
 const WORDS_A_SET: usize = 40;
@@ -9,16 +10,16 @@ impl<'a> LetterRows<'a> {
     // takes time by the places where each piece may stand, and this by the texts. It takes time by what follows.
     pub(crate) fn are_sooner_alone(&self, start: usize, more: &str) -> bool {
         let letters = letter_count(more);
-        let pieces = character_count(more)
-            .saturating_sub(letters)
-            .saturating_add(1);
-        let places = self.place_count();
-        let spares = places
+        let shape = Shape::of(more);
+        let spares = self
+            .place_count()
             .saturating_sub(start)
             .saturating_sub(letters)
             .saturating_add(1);
-        let sets = pieces.saturating_add(letters.saturating_sub(pieces) / 8);
+        let sets = shape
+            .pieces
+            .saturating_add(letters.saturating_sub(shape.pieces) / 8);
         let words = (self.text_count() / 64).saturating_add(WORDS_A_SET);
-        self.words_alone(pieces) < sets.saturating_mul(spares).saturating_mul(words)
+        self.words_alone(&shape) < sets.saturating_mul(spares).saturating_mul(words)
     }
 }

@@ -20,7 +20,7 @@ pub fn letter_count(pattern: &str) -> usize
 }
 
 // How many characters a text has.
-pub fn character_count(text: &str) -> usize
+fn character_count(text: &str) -> usize
     ensures { result ≡ length (chars text.now) }
 {
     text.chars().count()

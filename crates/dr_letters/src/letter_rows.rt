@@ -12,6 +12,7 @@ use crate::asked_letter::AskedLetter;
 use crate::own_texts::OwnTexts;
 use crate::place_letters::PlaceLetters;
 use crate::reading::{parted, places_of};
+use crate::shape::Shape;
 use dr_rowindex::RowSet;
 use std::alloc::{AllocError, Global};
 use std::marker::Model;
@@ -148,9 +149,9 @@ impl<'a> LetterRows<'a> {
         Ok(set)
     }
 
-    // How many words are gone through in about the time that this takes for a pattern of so many pieces.
-    pub(crate) fn words_alone(&self, pieces: usize) -> usize {
-        self.texts.words(pieces)
+    // How many words are gone through in about the time that this takes for a pattern of such a shape.
+    pub(crate) fn words_alone(&self, shape: &Shape) -> usize {
+        self.texts.words(shape)
     }
 
     // Adds those of the other texts that fit a pattern, each of which is asked by itself.
@@ -163,8 +164,9 @@ impl<'a> LetterRows<'a> {
         requires { Tell (λ t. is_short self.now.1 t && fits_of (chars pattern.now) (chars t)) self.now.0 set.old }
         ensures { OnOk result (Tell (λ t. fits_of (chars pattern.now) (chars t)) self.now.0 set.new) }
     {
+        let by_places = Shape::of(pattern).is_sooner_by_places();
         for row in &self.long {
-            if self.texts.fits(alloc, *row, pattern)? {
+            if self.texts.fits(alloc, *row, pattern, by_places)? {
                 set.insert(*row);
             }
         }
@@ -176,9 +178,10 @@ impl<'a> LetterRows<'a> {
 fn fitting_of(alloc: Global, pattern: &str, texts: &OwnTexts<'_>) -> Result<RowSet, AllocError>
     ensures { IfOk result (λ s. Tell (λ t. fits_of (chars pattern.now) (chars t)) texts.now s) }
 {
+    let by_places = Shape::of(pattern).is_sooner_by_places();
     let mut set = RowSet::none(alloc, texts.len())?;
     for row in 0..texts.len() {
-        if texts.fits(alloc, row, pattern)? {
+        if texts.fits(alloc, row, pattern, by_places)? {
             set.insert(row);
         }
     }

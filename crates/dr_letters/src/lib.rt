@@ -16,6 +16,7 @@ mod place_letters;
 mod reading;
 mod rest;
 mod runs;
+mod shape;
 mod sought_piece;
 mod text_letter;
 

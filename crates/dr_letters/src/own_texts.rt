@@ -3,6 +3,7 @@ ghost use Rattle.std.specs.Str.{chars};
 ghost use Rattle.dr_like.specs.Like.{fits};
 ghost use Rattle.dr_letters.specs.States.{AreKnown};
 
+use crate::shape::Shape;
 use dr_places::{LetterPlaces, fits_soonest};
 use std::alloc::{AllocError, Global};
 use std::marker::Model;
@@ -13,15 +14,16 @@ const LONG: usize = 1024;
 // And of one of so many, where the texts are few.
 const LONG_OF_FEW: usize = 64;
 
-// How many words are gone through in the time in which a text whose places are known is asked for a piece of a pattern, and another one.
+// How many words are gone through in the time in which a piece of a pattern is looked for where the letters of a text stand, and from
+// character to character.
 const WORDS_A_PIECE: usize = 64;
 
 const WORDS_A_PIECE_ELSE: usize = 96;
 
-// So many characters of a text whose places are known take the time of a word, and of another one a character that of so many words.
-const CHARACTERS_A_WORD: usize = 4;
+// And in the time that a character of the text takes there, where there are gaps in the pieces, and where there are none.
+const WORDS_A_CHARACTER: usize = 4;
 
-const WORDS_A_CHARACTER_ELSE: usize = 4;
+const WORDS_A_CHARACTER_WITHOUT_GAPS: usize = 1;
 
 /// Texts that are asked one by one, with the places of the letters of those that are long. A contract sees the texts.
 #[derive(Drop)]
@@ -80,30 +82,46 @@ impl<'a> OwnTexts<'a> {
         self.texts.len()
     }
 
-    // Whether the text of a row fits a pattern. The only error is that memory ran out. It takes what [`LetterPlaces::fits`] does, where its
-    // places are known, and else what [`fits_soonest`] does.
-    pub fn fits(&self, alloc: Global, row: usize, pattern: &str) -> Result<bool, AllocError>
+    // Whether the text of a row fits a pattern. The only error is that memory ran out. It takes what [`LetterPlaces::fits`] does, where it
+    // is to be asked so and its places are known, and else what [`fits_soonest`] does.
+    pub fn fits(
+        &self,
+        alloc: Global,
+        row: usize,
+        pattern: &str,
+        by_places: bool,
+    ) -> Result<bool, AllocError>
         requires { row < length self.now }
         ensures { IfOk result (λ found. found ≡ fits (chars pattern.now) (chars (get_or self.now row []))) }
     {
         match &self.places[row] {
-            Some(places) => places.fits(alloc, pattern),
-            None => fits_soonest(alloc, pattern, self.texts[row]),
+            Some(places) if by_places => places.fits(alloc, pattern),
+            _ => fits_soonest(alloc, pattern, self.texts[row]),
         }
     }
 
-    // How many words are gone through in about the time in which each text is asked for a pattern of so many pieces.
-    pub fn words(&self, pieces: usize) -> usize {
-        let others = self.texts.len().saturating_sub(self.known);
-        let other_bytes = self.bytes.saturating_sub(self.known_bytes);
-        let known = self
-            .known
+    // How many words are gone through in about the time in which each text is asked for a pattern of such a shape.
+    pub fn words(&self, shape: &Shape) -> usize {
+        let (known, known_bytes) = if shape.is_sooner_by_places() {
+            (self.known, self.known_bytes)
+        } else {
+            (0, 0)
+        };
+        let others = self.texts.len().saturating_sub(known);
+        let other_bytes = self.bytes.saturating_sub(known_bytes);
+        let pieces = known
             .saturating_mul(WORDS_A_PIECE)
-            .saturating_add(others.saturating_mul(WORDS_A_PIECE_ELSE));
-        known
-            .saturating_mul(pieces)
-            .saturating_add(self.known_bytes / CHARACTERS_A_WORD)
-            .saturating_add(other_bytes.saturating_mul(WORDS_A_CHARACTER_ELSE))
+            .saturating_add(others.saturating_mul(WORDS_A_PIECE_ELSE))
+            .saturating_mul(shape.pieces);
+        let by_places = (known_bytes / 64).saturating_mul(shape.longest);
+        let a_character = if shape.has_gaps {
+            WORDS_A_CHARACTER
+        } else {
+            WORDS_A_CHARACTER_WITHOUT_GAPS
+        };
+        pieces
+            .saturating_add(by_places)
+            .saturating_add(other_bytes.saturating_mul(a_character))
     }
 }
 
