@@ -407,6 +407,49 @@ def likes_but_for_one_part(parts, patterns, letters=2, length=300, last=False):
     return lines
 
 
+def likes_of_rare_letters(kinds, parts, patterns):
+    """Patterns of so many parts of a letter over texts of 300 letters of so many kinds, of which one text in 64 has none at a place, and
+    one text of a letter of a far greater number; each lacks the first part, which is asked last."""
+    letters = [chr(code) for code in range(0x23, 0x180) if chr(code).isprintable() and chr(code) not in '%_\\'][:kinds]
+
+    def text(random):
+        found = [random.choice(letters) for _ in range(300)]
+        for place in range(0, 300, 5):
+            if not random.randrange(70):
+                found[place + random.randrange(2)] = "!"
+        return "".join(found)
+
+    def lines(n):
+        random = Random(3)
+        yield spec()
+        for it in range(n):
+            yield event(BEGIN + it % DAY, text(random))
+        yield event(BEGIN, "\U0001f600" * 300)
+        part = lambda: random.choice(letters)
+        asked = series(filter=one_of(*({"type": "like", "dimension": "page", "pattern": "%!_!%" + "%".join(part() for _ in range(parts)) + "%"} for _ in range(patterns))))
+        yield from (asked, f"seal {instant(1)}", f"publish {instant(1)} 0 1", asked)
+    return lines
+
+
+def likes_of_long_runs(length, run, patterns):
+    """Patterns of more than two runs of so many letters with a gap, over texts of so many letters that have such runs, each from another
+    place on, with one other letter between two of them."""
+    def pattern(random):
+        letters = ["a"] * (2 * run + 2 + random.randrange(6))
+        letters[random.randrange(1, len(letters) - 1)] = "_"
+        return "%" + "".join(letters) + "%"
+
+    def lines(n):
+        random = Random(3)
+        yield spec()
+        for it in range(n):
+            begin = random.randrange(run + 1)
+            yield event(BEGIN + it % DAY, f"{it:05}" + (("a" * run + "c") * (length // run + 2))[begin:][: length - 5])
+        asked = series(filter=one_of(*({"type": "like", "dimension": "page", "pattern": pattern(random)} for _ in range(patterns))))
+        yield from (asked, f"seal {instant(1)}", f"publish {instant(1)} 0 1", asked)
+    return lines
+
+
 def likes_of_runs(patterns, runs):
     """Patterns of so many `%` and three letters, over texts of 300."""
     def lines(n):
@@ -767,6 +810,10 @@ INPUTS = {
     "rows of 300 letters under an or of 2,800 likes of seventy parts of two letters": (likes_of_parts(70, 2, 2800), 10000),
     "rows of 300 letters under an or of 8,000 likes of twenty parts of two letters, of which each row lacks the first alone": (likes_but_for_one_part(19, 8000), 10000),
     "rows of 300 letters under an or of 5,000 likes of 76 parts, all but the first of one letter, of which each row lacks the first alone": (likes_but_for_one_part(75, 5000, letters=1), 10000),
+    "rows of 300 letters of 70 kinds, each rare, under an or of 13,000 likes of seven parts, of which each row lacks the first alone": (likes_of_rare_letters(70, 6, 13000), 10000),
+    "rows of 300 letters with runs of 20 under an or of 10,000 likes of two runs with a gap": (likes_of_long_runs(300, 20, 10000), 10000),
+    "rows of 4,000 letters with runs of 250 under an or of 1,800 likes of two runs with a gap": (likes_of_long_runs(4000, 250, 1800), 100),
+    "rows of 4,000 letters with runs of 20 under an or of 10,000 likes of two runs with a gap": (likes_of_long_runs(4000, 20, 10000), 100),
     "rows of 4,000 letters under an or of 4,000 likes of 101 parts, all but the last of one letter, of which each row lacks the last alone": (likes_but_for_one_part(100, 4000, letters=1, length=4000, last=True), 100),
     "rows of 4,000 letters under an or of 800 likes of 601 parts, all but the last of one letter, of which each row lacks the last alone": (likes_but_for_one_part(600, 800, letters=1, length=4000, last=True), 100),
     "rows of 100,000 letters under an or of 17,000 likes of two parts, of which each row lacks the first": (likes_but_for_one_part(0, 17000, length=100000), 10),
