@@ -1,0 +1,34 @@
+-- Texts whose characters are known, one after another.
+use Rattle.std.proofs.Common.{inl, inr, ◌≡◌, ◌∙◌, sym, refl, ap, subst, ℕ, ◌+◌, ◌<◌, List, [], ◌∷◌, ◌++◌, length, get_or, length-append, Option, None, IfSome, arith}
+use Rattle.std.specs.Str.{chars}
+use Rattle.std.proofs.Math.ListN.{get_or-append}
+use Rattle.std.proofs.Math.Seq.{get_or-append_seam}
+use Rattle.std.proofs.lemmas.Bool.{cases_lt}
+use Rattle.dr_letters.specs.States.{AreKnown}
+
+abbrev pub IsKnown : (text : List ℕ) → Option (List ℕ) → Type 0
+IsKnown text own = IfSome own (λ characters. characters ≡ chars text)
+
+-- of so many of the texts
+pub record AreKnownTo (k : ℕ) (texts : List (List ℕ)) (known : List (Option (List ℕ))) : Type 0 where
+  pub count : length known ≡ k
+  pub each : (i : ℕ) → i < k → IsKnown (get_or texts i []) (get_or known i None)
+
+pub known-none : (texts : List (List ℕ)) → AreKnownTo 0 texts []
+known-none texts = record { count = refl; each = λ i lt. absurd (omega (arith, lt)) }
+
+pub known-more : (k : ℕ) (texts : List (List ℕ)) (known known' : List (Option (List ℕ))) (own : Option (List ℕ)) → known' ≡ known ++ own ∷ [] → IsKnown (get_or texts k []) own
+    → AreKnownTo k texts known → AreKnownTo (k + 1) texts known'
+known-more k texts known known' own is here was = record {
+  count = ap length is ∙ length-append known (own ∷ []) ∙ ap (λ n. n + 1) was.count;
+  each = λ i lt. elim (cases_lt i k) [
+    | inl less ↦ subst (IsKnown (get_or texts i [])) (sym (ap (λ l. get_or l i None) is ∙ get_or-append known (own ∷ []) None i (omega (arith, less, was.count)))) (was.each i less)
+    | inr more ↦ (let same : i ≡ length known = omega (arith, lt, more, was.count) in
+        let last : i ≡ k = omega (arith, lt, more) in
+        subst (IsKnown (get_or texts i [])) (sym (ap (λ l. get_or l i None) is ∙ ap (λ n. get_or (known ++ own ∷ []) n None) same ∙ get_or-append_seam known own [] None))
+        (subst (λ n. IsKnown (get_or texts n []) own) (sym last) here))
+  ];
+}
+
+pub known-all : (k : ℕ) (texts : List (List ℕ)) (known : List (Option (List ℕ))) → k ≡ length texts → AreKnownTo k texts known → AreKnown texts known
+known-all k texts known all was = record { count = was.count ∙ all; each = λ i lt. was.each i (omega (arith, lt, all)) }

@@ -1,0 +1,18 @@
+use Rattle.std.proofs.Common.{sym, subst, [], map, arith}
+use Rattle.std.proofs.Math.ListN.{get_or-map}
+use Rattle.std.proofs.lemmas.List.{length-map}
+use Rattle.dr_letters.proofs.OwnLemmas.{IsKnown, known-more, known-all}
+use Rattle.dr_letters.proofs.own_texts.places_of.Goals as goal
+
+pub loop-row-preserved : goal.loop-row-preserved
+loop-row-preserved c =
+    let at = c.loop-row in
+    let all = c.args.texts.now in
+    let texts = map (λ t. t.now) all in
+    let own = get_or-map (λ t. t.now) all at.row (record { ref_ptr = (0, 0); now = [] }) in
+    known-more at.row texts at.places.items _ c.in_ok-own.own c.in_ok-push.ensures.items (subst (λ t. IsKnown t c.in_ok-own.own) (sym own) c.in_ok-own.ensures) at.invariant
+
+pub returns : goal.returns
+returns c =
+    let all = c.args.texts.now in
+    known-all c.loop-row.row (map (λ t. t.now) all) c.loop-row.places.items (omega (arith, c.loop-row-test.false, c.loop-row.auto.row-end, length-map all (λ t. t.now))) c.loop-row.invariant

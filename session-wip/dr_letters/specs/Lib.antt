@@ -1,0 +1,5 @@
+pub mod Codes
+pub mod Places
+pub mod Rare
+pub mod States
+pub mod Pieces

@@ -1,0 +1,213 @@
+ghost use Rattle.std.specs.Prelude.{◌≡◌, ◌<◌, ◌≤◌, ◌+◌, Bool, true, false, List, length, get_or, take, IfSome};
+ghost use Rattle.std.specs.List.{All};
+ghost use Rattle.dr_rowindex.specs.Orders.{Tell};
+ghost use Rattle.dr_letters.specs.Codes.{Keeps};
+ghost use Rattle.dr_letters.specs.declared.asked_letter.AskedLetter.{AskedLetter};
+ghost use Rattle.dr_letters.specs.Pieces.{IsWithin, Gains, Meets, MeetsTwo, asks, asks_each};
+
+use crate::asked_letter::AskedLetter;
+use crate::letter_rows::LetterRows;
+use dr_rowindex::RowSet;
+
+impl<'a> LetterRows<'a> {
+    // Adds those of some texts that have each of some letters of a pattern where it is asked while so many places are to spare. What is in
+    // the set that is lent for it isn't asked.
+    pub(crate) fn insert_asked(
+        &self,
+        letters: &[AskedLetter],
+        spare: usize,
+        behind: &RowSet,
+        set: &mut RowSet,
+        found: &mut RowSet,
+    )
+        requires places { All (λ a. IsWithin spare self.now.1 a) letters.now }
+        requires behind { length behind.now ≡ length self.now.0 }
+        requires set { length set.old ≡ length self.now.0 }
+        requires found { length found.old ≡ length self.now.0 }
+        ensures set { length set.new ≡ length self.now.0 }
+        ensures found { Gains (asks_each spare letters.now) self.now.0 behind.now found.old found.new }
+    {
+        if behind.has_none() || self.inserts_few(letters, spare, behind, found) {
+            return;
+        }
+        if !self.may_have_each(letters, spare) {
+            return;
+        }
+        let k = self.put_front(letters, spare, behind, set);
+        let last = &letters[k..];
+        if self.inserts_few(last, spare, set, found) {
+            return;
+        }
+        self.keep_each(last, spare, set);
+        found.or(set);
+    }
+
+    // Adds those of some texts that have each of some letters, where these are one to four of which it is kept which texts have them.
+    // Answers whether they are.
+    fn inserts_few(
+        &self,
+        letters: &[AskedLetter],
+        spare: usize,
+        behind: &RowSet,
+        found: &mut RowSet,
+    ) -> bool
+        requires places { All (λ a. IsWithin spare self.now.1 a) letters.now }
+        requires behind { length behind.now ≡ length self.now.0 }
+        requires found { length found.old ≡ length self.now.0 }
+        ensures some { result ≡ true → Gains (asks_each spare letters.now) self.now.0 behind.now found.old found.new }
+        ensures none { result ≡ false → found.new ≡ found.old }
+    {
+        if let Some((a, b)) = self.two(letters, spare) {
+            found.or_and_two(behind, a, b);
+            return true;
+        }
+        if let Some((a, b, c, d)) = self.four(letters, spare) {
+            found.or_and_four(behind, a, b, c, d);
+            return true;
+        }
+        false
+    }
+
+    // The texts that have each of one or two letters, where these are kept: one stands for both.
+    fn two(&self, letters: &[AskedLetter], spare: usize) -> Option<(&RowSet, &RowSet)>
+        requires { All (λ a. IsWithin spare self.now.1 a) letters.now }
+        ensures { IfSome result (λ r. MeetsTwo (asks_each spare letters.now) self.now.0 r.0.now r.1.now) }
+    {
+        let count = letters.len();
+        if count == 0 || count > 2 {
+            return None;
+        }
+        let a = self.texts_at(&letters[0], spare)?;
+        let b = self.texts_at(&letters[count - 1], spare)?;
+        Some((a, b))
+    }
+
+    // The texts that have each of three or four letters, where these are kept: of three the last stands for the fourth.
+    fn four(
+        &self,
+        letters: &[AskedLetter],
+        spare: usize,
+    ) -> Option<(&RowSet, &RowSet, &RowSet, &RowSet)>
+        requires { All (λ a. IsWithin spare self.now.1 a) letters.now }
+        ensures { IfSome result (λ r. Meets (asks_each spare letters.now) self.now.0 r.0.now r.1.now r.2.now r.3.now) }
+    {
+        let count = letters.len();
+        if count < 3 || count > 4 {
+            return None;
+        }
+        let a = self.texts_at(&letters[0], spare)?;
+        let b = self.texts_at(&letters[1], spare)?;
+        let c = self.texts_at(&letters[2], spare)?;
+        let d = self.texts_at(&letters[count - 1], spare)?;
+        Some((a, b, c, d))
+    }
+
+    // Puts those of some texts that have each of the first of some letters: all but the last four at most, or fewer where these leave no
+    // text. Answers how many these first letters are.
+    fn put_front(
+        &self,
+        letters: &[AskedLetter],
+        spare: usize,
+        behind: &RowSet,
+        set: &mut RowSet,
+    ) -> usize
+        requires places { All (λ a. IsWithin spare self.now.1 a) letters.now }
+        requires behind { length behind.now ≡ length self.now.0 }
+        requires set { length set.old ≡ length self.now.0 }
+        ensures within { result ≤ length letters.now }
+        ensures kept { Keeps (asks_each spare (take result letters.now)) self.now.0 behind.now set.new }
+    {
+        let mut k = self.put_first(letters, spare, behind, set);
+        while letters.len() - k > 4 && !set.has_none() {
+            k = self.keep_from(letters, k, spare, set);
+        }
+        k
+    }
+
+    // Puts those of some texts that have each of the first four letters, where it is kept which texts have them, and else all. Answers how
+    // many letters were asked.
+    fn put_first(
+        &self,
+        letters: &[AskedLetter],
+        spare: usize,
+        behind: &RowSet,
+        set: &mut RowSet,
+    ) -> usize
+        requires places { All (λ a. IsWithin spare self.now.1 a) letters.now }
+        requires behind { length behind.now ≡ length self.now.0 }
+        requires set { length set.old ≡ length self.now.0 }
+        ensures within { result ≤ length letters.now }
+        ensures kept { Keeps (asks_each spare (take result letters.now)) self.now.0 behind.now set.new }
+    {
+        match self.four_from(letters, 0, spare) {
+            Some((a, b, c, d)) => {
+                set.copy_from_and_four(behind, a, b, c, d);
+                4
+            }
+            None => {
+                set.copy_from(behind);
+                0
+            }
+        }
+    }
+
+    // Keeps of some texts those that have each of some letters of a pattern where it is asked.
+    pub(crate) fn keep_each(&self, letters: &[AskedLetter], spare: usize, set: &mut RowSet)
+        requires places { All (λ a. IsWithin spare self.now.1 a) letters.now }
+        requires rows { length set.old ≡ length self.now.0 }
+        ensures { Keeps (asks_each spare letters.now) self.now.0 set.old set.new }
+    {
+        let mut k = 0;
+        while k < letters.len() {
+            if set.has_none() {
+                return;
+            }
+            k = self.keep_from(letters, k, spare, set);
+        }
+    }
+
+    // Keeps of some texts those that have the letter at a place among these, or it and the next three, which takes less time together.
+    // Answers the place behind.
+    fn keep_from(&self, letters: &[AskedLetter], k: usize, spare: usize, set: &mut RowSet) -> usize
+        requires some { k < length letters.now }
+        requires places { All (λ a. IsWithin spare self.now.1 a) letters.now }
+        requires rows { length set.old ≡ length self.now.0 }
+        ensures more { k < result }
+        ensures within { result ≤ length letters.now }
+        ensures kept { (before : List Bool) → Keeps (asks_each spare (take k letters.now)) self.now.0 before set.old → Keeps (asks_each spare (take result letters.now)) self.now.0 before set.new }
+    {
+        match self.four_from(letters, k, spare) {
+            Some((a, b, c, d)) => {
+                set.and_four(a, b, c, d);
+                k + 4
+            }
+            None => {
+                let asked = &letters[k];
+                self.keep(asked.place - spare, asked.letter, set);
+                k + 1
+            }
+        }
+    }
+
+    // The texts that have each of four letters from a place among these on, where these are kept.
+    fn four_from(
+        &self,
+        letters: &[AskedLetter],
+        k: usize,
+        spare: usize,
+    ) -> Option<(&RowSet, &RowSet, &RowSet, &RowSet)>
+        requires within { k ≤ length letters.now }
+        requires places { All (λ a. IsWithin spare self.now.1 a) letters.now }
+        ensures within { IfSome result (λ r. k + 4 ≤ length letters.now) }
+        ensures told { IfSome result (λ r. (a : AskedLetter) → Tell (asks spare (get_or letters.now k a)) self.now.0 r.0.now × (Tell (asks spare (get_or letters.now (k + 1) a)) self.now.0 r.1.now × (Tell (asks spare (get_or letters.now (k + 2) a)) self.now.0 r.2.now × Tell (asks spare (get_or letters.now (k + 3) a)) self.now.0 r.3.now))) }
+    {
+        if letters.len() - k < 4 {
+            return None;
+        }
+        let a = self.texts_at(&letters[k], spare)?;
+        let b = self.texts_at(&letters[k + 1], spare)?;
+        let c = self.texts_at(&letters[k + 2], spare)?;
+        let d = self.texts_at(&letters[k + 3], spare)?;
+        Some((a, b, c, d))
+    }
+}

@@ -1,0 +1,188 @@
+ghost use Rattle.std.specs.Prelude.{◌≡◌, ◌<◌, [], get_or, length, map, IfOk, IfSome};
+ghost use Rattle.std.specs.Str.{chars};
+ghost use Rattle.dr_like.specs.Like.{fits};
+ghost use Rattle.dr_letters.specs.States.{AreKnown};
+
+use crate::shape::Shape;
+use dr_places::{LetterPlaces, fits_soonest};
+use std::alloc::{AllocError, Global};
+use std::marker::Model;
+
+// The places of the letters are known of a text of so many bytes.
+const LONG: usize = 1024;
+
+// And of one of so many, where the texts are few.
+const LONG_OF_FEW: usize = 64;
+
+// How many words are gone through in the time in which a piece of a pattern is looked for where the letters of a text stand, and from
+// character to character.
+const WORDS_A_PIECE: usize = 64;
+
+const WORDS_A_PIECE_ELSE: usize = 96;
+
+// And in the time that a character of the text takes there, where there are gaps in the pieces, and where there are none.
+const WORDS_A_CHARACTER: usize = 4;
+
+const WORDS_A_CHARACTER_WITHOUT_GAPS: usize = 1;
+
+/// Texts that are asked one by one, with the places of the letters of those that are long. A contract sees the texts.
+#[derive(Drop)]
+pub struct OwnTexts<'a> {
+    texts: Vec<&'a str>,
+    places: Vec<Option<LetterPlaces>>,
+    // How many texts have places that are known, and their bytes.
+    known: usize,
+    known_bytes: usize,
+    // The bytes of all texts.
+    bytes: usize,
+}
+
+impl<'a> Model for OwnTexts<'a> {
+    ghost use Rattle.std.specs.Prelude.{List, ℕ, map};
+    ghost use Rattle.dr_letters.specs.States.{AreKnown};
+
+    ghost Value = { List (List ℕ) };
+
+    ghost view = { λ t. map (λ t. t.now) t.texts.items };
+
+    ghost invariant = { λ t. AreKnown (map (λ t. t.now) t.texts.items) t.places.items };
+}
+
+impl<'a> OwnTexts<'a> {
+    // Texts, the first of which is that of row 0. The only error is that memory ran out. It takes time by their bytes, and the memory of
+    // [`LetterPlaces`] for each of 1,024 bytes or more, and of 64 or more, where the square of their number is no more than twice their bytes.
+    pub fn of(alloc: Global, texts: Vec<&'a str>) -> Result<OwnTexts<'a>, AllocError>
+        ensures { IfOk result (λ t. t ≡ map (λ t. t.now) texts.entry.items) }
+    {
+        let bytes = bytes_of(texts.as_slice(), 0);
+        let least = least_of(texts.len(), bytes);
+        let places = places_of(alloc, texts.as_slice(), least)?;
+        let known = count_of(texts.as_slice(), least);
+        let known_bytes = bytes_of(texts.as_slice(), least);
+        Ok(OwnTexts {
+            texts,
+            places,
+            known,
+            known_bytes,
+            bytes,
+        })
+    }
+
+    // The texts.
+    pub fn as_slice(&self) -> &[&'a str]
+        ensures { map (λ t. t.now) result.now ≡ self.now }
+    {
+        self.texts.as_slice()
+    }
+
+    // How many texts there are.
+    pub fn len(&self) -> usize
+        ensures { result ≡ length self.now }
+    {
+        self.texts.len()
+    }
+
+    // Whether the text of a row fits a pattern. The only error is that memory ran out. It takes what [`LetterPlaces::fits`] does, where it
+    // is to be asked so and its places are known, and else what [`fits_soonest`] does.
+    pub fn fits(
+        &self,
+        alloc: Global,
+        row: usize,
+        pattern: &str,
+        by_places: bool,
+    ) -> Result<bool, AllocError>
+        requires { row < length self.now }
+        ensures { IfOk result (λ found. found ≡ fits (chars pattern.now) (chars (get_or self.now row []))) }
+    {
+        match &self.places[row] {
+            Some(places) if by_places => places.fits(alloc, pattern),
+            _ => fits_soonest(alloc, pattern, self.texts[row]),
+        }
+    }
+
+    // How many words are gone through in about the time in which each text is asked for a pattern of such a shape.
+    pub fn words(&self, shape: &Shape) -> usize {
+        let (known, known_bytes) = if shape.is_sooner_by_places() {
+            (self.known, self.known_bytes)
+        } else {
+            (0, 0)
+        };
+        let others = self.texts.len().saturating_sub(known);
+        let other_bytes = self.bytes.saturating_sub(known_bytes);
+        let pieces = known
+            .saturating_mul(WORDS_A_PIECE)
+            .saturating_add(others.saturating_mul(WORDS_A_PIECE_ELSE))
+            .saturating_mul(shape.pieces);
+        let by_places = (known_bytes / 64).saturating_mul(shape.longest);
+        let a_character = if shape.has_gaps {
+            WORDS_A_CHARACTER
+        } else {
+            WORDS_A_CHARACTER_WITHOUT_GAPS
+        };
+        pieces
+            .saturating_add(by_places)
+            .saturating_add(other_bytes.saturating_mul(a_character))
+    }
+}
+
+// From how many bytes on a text is long, of so many texts of so many bytes.
+fn least_of(texts: usize, bytes: usize) -> usize {
+    if texts.saturating_mul(texts) / 2 <= bytes {
+        LONG_OF_FEW
+    } else {
+        LONG
+    }
+}
+
+// How many texts have so many bytes.
+fn count_of(texts: &[&str], least: usize) -> usize {
+    let mut count = 0usize;
+    for text in texts {
+        if text.len() >= least {
+            count = count.saturating_add(1);
+        }
+    }
+    count
+}
+
+// How many bytes the texts have that have so many.
+fn bytes_of(texts: &[&str], least: usize) -> usize {
+    let mut bytes = 0usize;
+    for text in texts {
+        if text.len() >= least {
+            bytes = bytes.saturating_add(text.len());
+        }
+    }
+    bytes
+}
+
+// The places of the texts that have so many bytes.
+fn places_of(
+    alloc: Global,
+    texts: &[&str],
+    least: usize,
+) -> Result<Vec<Option<LetterPlaces>>, AllocError>
+    ensures { IfOk result (λ places. AreKnown (map (λ t. t.now) texts.now) places.items) }
+{
+    let mut places = Vec::with_capacity(alloc, texts.len())?;
+    for row in 0..texts.len() {
+        let own = places_if_long(alloc, texts[row], least)?;
+        places.push(own)?;
+    }
+    Ok(places)
+}
+
+// The places of a text, where it has so many bytes.
+fn places_if_long(
+    alloc: Global,
+    text: &str,
+    least: usize,
+) -> Result<Option<LetterPlaces>, AllocError>
+    ensures { IfOk result (λ own. IfSome own (λ places. places ≡ chars text.now)) }
+{
+    if text.len() < least {
+        return Ok(None);
+    }
+    let places = LetterPlaces::of(alloc, text)?;
+    Ok(Some(places))
+}

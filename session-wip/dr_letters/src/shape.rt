@@ -1,0 +1,36 @@
+// A piece without gaps of no more bytes is looked for as soon where the letters of a text stand as from character to character.
+const SHORT: usize = 8;
+
+/// What the time depends on in which a text is asked for a pattern: how many pieces it has between its runs, how many bytes the longest of
+/// these has, and whether one of them has a `_` behind its first other character.
+#[derive(Drop)]
+pub struct Shape {
+    pub pieces: usize,
+    pub longest: usize,
+    pub has_gaps: bool,
+}
+
+impl Shape {
+    // The shape of a pattern. It takes time by its bytes.
+    pub fn of(pattern: &str) -> Shape {
+        let mut pieces = 0usize;
+        let mut longest = 0usize;
+        let mut has_gaps = false;
+        for piece in pattern.split('%') {
+            pieces = pieces.saturating_add(1);
+            longest = longest.max(piece.len());
+            has_gaps = has_gaps || piece.trim_start_matches('_').contains('_');
+        }
+        Shape {
+            pieces,
+            longest,
+            has_gaps,
+        }
+    }
+
+    // Whether a text is asked soonest by where its letters stand: a long piece without gaps is found from character to character in the
+    // time of the text.
+    pub fn is_sooner_by_places(&self) -> bool {
+        self.has_gaps || self.longest <= SHORT
+    }
+}
