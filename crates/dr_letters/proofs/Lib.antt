@@ -6,3 +6,5 @@ pub mod RowLemmas
 pub mod StateLemmas
 pub mod PieceLemmas
 pub mod RunLemmas
+pub mod RankLemmas
+pub mod RareLemmas

@@ -1,15 +1,13 @@
 -- Characters that were read, each with the row of its text.
-use Rattle.std.proofs.Common.{inl, inr, ◌≡◌, ◌∙◌, sym, refl, ap, subst, ℕ, zero, suc, ◌+◌, ◌<◌, ◌≤◌, ◌^◌, ◌==◌, ◌&&◌, ◌||◌, eqb, cond, not, Bool, true, false, List, [], ◌∷◌, ◌++◌, length, get_or, take, set, replicate, arith}
+use Rattle.std.proofs.Common.{inl, inr, ◌≡◌, ◌∙◌, sym, refl, ap, subst, ℕ, zero, suc, ◌+◌, ◌<◌, ◌≤◌, ◌==◌, ◌&&◌, ◌||◌, cond, not, Bool, true, false, List, [], ◌∷◌, ◌++◌, length, get_or, take, set, replicate, arith}
 use Rattle.std.specs.List.{All, filter, list_any}
 use Rattle.std.proofs.lemmas.Bool.{cases_eq}
 use Rattle.std.proofs.lemmas.Bool.Decides.{nat_tests}
 use Rattle.std.proofs.lemmas.List.{length-set, get_or-set_same, get_or-set_other, get_or-replicate, length-replicate, get_or_default, take_all, take_more}
 use Rattle.std.proofs.lemmas.List.Elements.{All-cons, All-head, All-tail, All-weaker}
 use Rattle.std.proofs.lemmas.List.Folds.{list_any-append}
-use Rattle.std.proofs.Math.Pow.{pow_mono}
-use Rattle.std.proofs.lemmas.Nat.Bits.{bit_at_above}
 use Rattle.dr_rowindex.specs.Orders.{Tell}
-use Rattle.dr_rowindex.specs.Truths.{Joined, has_bit}
+use Rattle.dr_rowindex.specs.Truths.{Joined}
 use Rattle.dr_letters.specs.declared.text_letter.TextLetter.{TextLetter}
 use Rattle.dr_letters.specs.declared.common_code.CommonCode.{CommonCode}
 use Rattle.dr_letters.specs.Codes.{AreRead, is_common, is_rare}
@@ -72,13 +70,6 @@ pub put_told : {X : Type 0} (row : X → ℕ) (test : X → Bool) (xs all : List
     → (told ≡ true → after' ≡ set after (row x) true) → (told ≡ false → after' ≡ after) → PutRows row test xs before after → PutRows row test all before after'
 put_told row test xs all x before after after' true is same lt passed failed was = subst (PutRows row test all before) (sym (passed refl)) (put_passed row test xs all x before after is was (sym same) lt)
 put_told row test xs all x before after after' false is same lt passed failed was = subst (PutRows row test all before) (sym (failed refl)) (put_failed row test xs all x before after is was (sym same))
-
--- zero has no bit
-pub no_bit : (k : ℕ) → has_bit 0 k ≡ false
-no_bit k = ap (λ n. eqb n 1) (bit_at_above 0 0 k fits (omega arith))
-  where
-    fits : 0 < 2 ^ 0
-    fits = omega arith
 
 -- ---- what is told by the letters
 
@@ -217,7 +208,7 @@ any_filter f g (x ∷ xs) = at (any_filter f g xs) (g x)
     at rest true = ap (λ b. f x || b) rest
     at rest false = rest
 
-unfiltered : (P : TextLetter → Type 0) (g : TextLetter → Bool) (xs : List TextLetter) → All P (filter g xs) → All (λ x. g x ≡ true → P x) xs
+pub unfiltered : (P : TextLetter → Type 0) (g : TextLetter → Bool) (xs : List TextLetter) → All P (filter g xs) → All (λ x. g x ≡ true → P x) xs
 unfiltered P g [] all = λ k d lt is. absurd (omega (arith, lt))
 unfiltered P g (x ∷ xs) all = All-cons (λ y. g y ≡ true → P y) x xs (first (g x) all) (unfiltered P g xs (rest (g x) all))
   where
@@ -249,22 +240,3 @@ told-rare common f codes letters others count told long rows read is each = reco
     turned : (i : ℕ) (xs : List TextLetter) → list_any (λ (l : TextLetter). is_rare common l && ((l.row == i) && f l.code)) xs ≡ list_any (λ (l : TextLetter). (l.row == i) && (not (is_common common l.code) && f l.code)) xs
     turned i [] = refl
     turned i (x ∷ xs) = ap (λ b. b || list_any (λ (l : TextLetter). is_rare common l && ((l.row == i) && f l.code)) xs) (swapped (is_rare common x) (x.row == i) (f x.code)) ∙ ap (λ b. ((x.row == i) && (not (is_common common x.code) && f x.code)) || b) (turned i xs)
-
-pub below-rare : (common : List CommonCode) (bits : ℕ) (codes : List ℕ) (letters others : List TextLetter) → AreRead letters codes → others ≡ filter (is_rare common) letters → All (λ (l : TextLetter). l.code < 2 ^ bits) others
-    → (i : ℕ) → i < length codes → is_common common (get_or codes i 0) ≡ false → get_or codes i 0 < 2 ^ bits
-below-rare common bits codes letters others read is all i lt rare = at (get_or codes i 0 == 0) refl
-  where
-    each : All (λ (l : TextLetter). is_common common l.code ≡ false → l.code < 2 ^ bits) letters
-    each = All-weaker (λ (l : TextLetter). is_rare common l ≡ true → l.code < 2 ^ bits) (λ l. is_common common l.code ≡ false → l.code < 2 ^ bits) (λ l less fails. less (ap not fails)) letters
-        (unfiltered (λ (l : TextLetter). l.code < 2 ^ bits) (is_rare common) letters (subst (All (λ (l : TextLetter). l.code < 2 ^ bits)) is all))
-
-    at : (b : Bool) → (get_or codes i 0 == 0) ≡ b → get_or codes i 0 < 2 ^ bits
-    at true none = let zero_code : get_or codes i 0 ≡ 0 = grind (arith, nat_tests, none) in let z : 0 ≤ bits = omega arith in let some = pow_mono {j = bits} z in omega (arith, zero_code, some)
-    at false some = each-read (λ n. is_common common n ≡ false → n < 2 ^ bits) codes letters read each i lt some rare
-
-pub rare_zero : (a : Bool) (f : ℕ → Bool) (n : ℕ) → f 0 ≡ false → (a && (not (n == 0) && f n)) ≡ (a && f n)
-rare_zero a f n none = ap (λ b. a && b) (some_code f n none)
-
-pub rare_alone : (a b : Bool) → (a && (b && true)) ≡ (a && b)
-rare_alone a true = refl
-rare_alone a false = refl

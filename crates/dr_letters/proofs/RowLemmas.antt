@@ -10,6 +10,7 @@ use Rattle.dr_like.specs.Like.{fits, is_empty, letter_fits, first_and_rest}
 use Rattle.dr_rowindex.specs.Orders.{Tell}
 use Rattle.dr_rowindex.proofs.PutLemmas.{PutWhere}
 use Rattle.dr_letters.specs.Codes.{first_code, Keeps}
+use Rattle.dr_letters.specs.Pieces.{MeetsTwo}
 use Rattle.dr_letters.specs.States.{is_short, AreLong}
 
 -- ---- a character
@@ -65,6 +66,12 @@ pub keeps-mapped : {X V : Type 0} (f : V → Bool) (g : X → V) (h : X → Bool
 keeps-mapped f g h xs before after same was = record {
   count = was.count;
   each = λ i x lt. was.each i (g x) (omega (arith, lt, length-map xs g)) ∙ ap (λ b. get_or before i false && b) (ap f (get_or-map g xs i x) ∙ same (get_or xs i x));
+}
+
+pub meets-mapped : {X V : Type 0} (f : V → Bool) (g : X → V) (h : X → Bool) (xs : List X) (a b : List Bool) → ((x : X) → f (g x) ≡ h x) → MeetsTwo f (map g xs) a b → MeetsTwo h xs a b
+meets-mapped f g h xs a b same was = record {
+  counts = (was.counts.0 ∙ length-map xs g, was.counts.1 ∙ length-map xs g);
+  each = λ i x lt. sym (same (get_or xs i x)) ∙ ap f (sym (get_or-map g xs i x)) ∙ was.each i (g x) (omega (arith, lt, length-map xs g));
 }
 
 -- ---- the others

@@ -1,10 +1,7 @@
 -- The characters of texts by their places. No public contract cites this file.
-use Rattle.std.specs.Prelude.{◌≡◌, ◌≢◌, ℕ, zero, suc, ◌+◌, ◌<◌, ◌==◌, Bool, true, false, ◌&&◌, not, eqb, List, [], ◌∷◌, length, get_or, drop}
-use Rattle.std.specs.Int.{bit_at}
+use Rattle.std.specs.Prelude.{◌≡◌, ◌≢◌, ℕ, ◌+◌, ◌<◌, ◌==◌, Bool, false, ◌&&◌, not, List, [], ◌∷◌, length, get_or, drop}
 use Rattle.std.specs.List.{All, list_any}
-use Rattle.dr_rowindex.specs.Truths.{has_bit}
 use Rattle.dr_rowindex.specs.Orders.{Tell}
-use Rattle.dr_rowindex.specs.declared.row_set.RowSet.{RowSet}
 use Rattle.dr_letters.specs.declared.common_code.CommonCode.{CommonCode}
 use Rattle.dr_letters.specs.declared.text_letter.TextLetter.{TextLetter}
 
@@ -21,15 +18,6 @@ code_at place letters = first_code (drop place letters)
 pub record Keeps {V : Type 0} (test : V → Bool) (values : List V) (before after : List Bool) : Type 0 where
   pub count : length after ≡ length before
   pub each : (i : ℕ) (v : V) → i < length values → get_or after i false ≡ (get_or before i false && test (get_or values i v))
-
--- two numbers have the same bits up to a place
-abbrev pub same_bits : ℕ → ℕ → ℕ → Bool
-same_bits zero n m = true
-same_bits (suc b) n m = same_bits b n m && eqb (bit_at n b) (bit_at m b)
-
--- of each bit, from the lowest on, it is told which of the numbers have it
-abbrev pub ArePlanes : List ℕ → List RowSet → Type 0
-ArePlanes numbers planes = (b : ℕ) (told : List Bool) → b < length planes → Tell (λ n. has_bit n b) numbers (get_or planes b told)
 
 -- a code is one of those that many have
 abbrev pub is_common : List CommonCode → ℕ → Bool

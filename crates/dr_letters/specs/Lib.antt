@@ -1,4 +1,6 @@
 pub mod Codes
 pub mod Places
+pub mod Ranks
+pub mod Rare
 pub mod States
 pub mod Pieces

@@ -68,21 +68,25 @@ impl<'a> LetterRows<'a> {
         false
     }
 
-    // The texts that have each of one or two letters, where these are kept: one stands for both.
+    // Two sets, in both of which are just the texts that have each of one or two letters, where these are kept; of two, where many have each.
     fn two(&self, letters: &[AskedLetter], spare: usize) -> Option<(&RowSet, &RowSet)>
         requires { All (λ a. IsWithin spare self.now.1 a) letters.now }
         ensures { IfSome result (λ r. MeetsTwo (asks_each spare letters.now) self.now.0 r.0.now r.1.now) }
     {
         let count = letters.len();
-        if count == 0 || count > 2 {
+        if count == 1 {
+            return self.pair_at(&letters[0], spare);
+        }
+        if count != 2 {
             return None;
         }
         let a = self.texts_at(&letters[0], spare)?;
-        let b = self.texts_at(&letters[count - 1], spare)?;
+        let b = self.texts_at(&letters[1], spare)?;
         Some((a, b))
     }
 
-    // The texts that have each of three or four letters, where these are kept: of three the last stands for the fourth.
+    // Four sets, in each of which are just the texts that have each of two to four letters, where these are kept; of more than two, where
+    // many have each, and of three the last stands for the fourth.
     fn four(
         &self,
         letters: &[AskedLetter],
@@ -92,6 +96,11 @@ impl<'a> LetterRows<'a> {
         ensures { IfSome result (λ r. Meets (asks_each spare letters.now) self.now.0 r.0.now r.1.now r.2.now r.3.now) }
     {
         let count = letters.len();
+        if count == 2 {
+            let (a, b) = self.pair_at(&letters[0], spare)?;
+            let (c, d) = self.pair_at(&letters[1], spare)?;
+            return Some((a, b, c, d));
+        }
         if count < 3 || count > 4 {
             return None;
         }

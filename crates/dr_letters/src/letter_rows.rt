@@ -4,7 +4,7 @@ ghost use Rattle.std.specs.Str.{chars};
 ghost use Rattle.dr_like.specs.Like.{fits as fits_of, is_empty, first_and_rest, letter_fits};
 ghost use Rattle.dr_rowindex.specs.Orders.{Tell};
 ghost use Rattle.dr_letters.specs.Codes.{Keeps};
-ghost use Rattle.dr_letters.specs.Pieces.{IsWithin, asks, asks_each};
+ghost use Rattle.dr_letters.specs.Pieces.{IsWithin, MeetsTwo, asks, asks_each};
 ghost use Rattle.dr_letters.specs.Places.{ArePlaces};
 ghost use Rattle.dr_letters.specs.States.{AreLong, is_short};
 
@@ -45,8 +45,8 @@ impl<'a> Model for LetterRows<'a> {
 impl<'a> LetterRows<'a> {
     /// Texts, the first of which is that of row 0, with their characters, place by place, as far as one text in 256 has any there, 4,096
     /// places at most, and until these take so many bytes. The only error is that memory ran out. It takes n log n in the characters, and
-    /// memory by a bit for each text at each place for each character that one text in 64 has there, and for each bit that the greatest of
-    /// the other characters there has. Of a text of 1,024 bytes or more, or of 64 where the square of their number is no more than twice
+    /// memory by a bit for each text at each place for each character that one text in 64 has there, and for twice the square root of the
+    /// others. Of a text of 1,024 bytes or more, or of 64 where the square of their number is no more than twice
     /// their bytes, it is kept too where its letters stand, in the time and memory of [`LetterPlaces::of`](dr_places::LetterPlaces::of).
     pub fn of(alloc: Global, texts: Vec<&'a str>, most: usize) -> Result<LetterRows<'a>, AllocError>
         ensures { IfOk result (λ l. l.0 ≡ map (λ t. t.now) texts.entry.items) }
@@ -87,6 +87,18 @@ impl<'a> LetterRows<'a> {
         }
         let texts = self.places[asked.place - spare].texts_with(u32::from(asked.letter) + 1)?;
         Some(texts)
+    }
+
+    // Two sets, in both of which are just the texts that have a letter where it is asked, where these are kept.
+    pub(crate) fn pair_at(&self, asked: &AskedLetter, spare: usize) -> Option<(&RowSet, &RowSet)>
+        requires { IsWithin spare self.now.1 asked.now }
+        ensures { IfSome result (λ r. MeetsTwo (asks spare asked.now) self.now.0 r.0.now r.1.now) }
+    {
+        if asked.letter == '_' {
+            return None;
+        }
+        let sets = self.places[asked.place - spare].pair_with(u32::from(asked.letter) + 1)?;
+        Some(sets)
     }
 
     // Whether any text may have each of some letters of a pattern where it is asked. It takes time by the letters.

@@ -1,11 +1,13 @@
-ghost use Rattle.std.specs.Prelude.{◌≡◌, ◌<◌, ◌≤◌, ◌==◌, ◌&&◌, ◌%◌, ◌^◌, not, nat_le, Bool, true, false, ℕ, List, length, get_or, IfOk, IfSome, MatchOption};
+ghost use Rattle.std.specs.Prelude.{◌≡◌, ◌<◌, ◌==◌, ◌&&◌, ◌%◌, not, true, false, ℕ, List, length, get_or, IfOk, IfSome, IsSome, MatchOption, None};
 ghost use Rattle.std.specs.List.{All, filter, list_any};
 ghost use Rattle.dr_rowindex.specs.Orders.{Tell};
-ghost use Rattle.dr_rowindex.specs.Truths.{Joined, has_bit};
 ghost use Rattle.dr_letters.specs.declared.common_code.CommonCode.{CommonCode};
-ghost use Rattle.dr_letters.specs.Codes.{ArePlanes, AreRead, Keeps, is_common, is_rare, same_bits};
+ghost use Rattle.dr_letters.specs.Codes.{AreRead, Keeps, is_common, is_rare};
+ghost use Rattle.dr_letters.specs.Pieces.{MeetsTwo};
+ghost use Rattle.dr_letters.specs.Ranks.{rank_of};
 
 use crate::common_code::{CommonCode, common_codes};
+use crate::rare_codes::RareCodes;
 use crate::text_letter::TextLetter;
 use dr_rowindex::RowSet;
 use std::alloc::{AllocError, Global};
@@ -16,6 +18,9 @@ const REMAINDERS: usize = 128;
 // What a set takes besides a bit for each text.
 const BYTES_OF_A_SET: usize = 64;
 
+// What a code with its rank takes.
+const BYTES_OF_A_RANK: usize = 24;
+
 // Which characters some texts have at one place. Each is told by its code, the number of the character counted from 1, which is 0 of
 // a text that ends before.
 #[derive(Drop)]
@@ -24,25 +29,23 @@ pub struct PlaceLetters {
     ended: RowSet,
     // Of the codes that many texts have, which these are.
     common: Vec<CommonCode>,
-    // The texts that have another code.
-    rare: RowSet,
-    // Of each bit of these other codes, from the lowest on, the texts whose code has it.
-    planes: Vec<RowSet>,
+    // The other codes, and which texts have them.
+    rare: RareCodes,
     // The remainders of the codes that any text has.
     seen: RowSet,
     // Of each remainder at which place among the common codes one with it may stand.
     hints: Vec<u8>,
     ghost common_count: { All (λ c. length c.texts ≡ length ended) common.items },
-    ghost rare_count: { length rare ≡ length ended },
-    ghost planes_count: { All (λ s. length s ≡ length ended) planes.items },
+    ghost rare_count: { rare.row_count ≡ length ended },
+    ghost rare_own: { (n : ℕ) → IsSome (rank_of rare.ranks n) → is_common common.items n ≡ false },
 }
 
 impl PlaceLetters {
     ghost use Rattle.dr_letters.specs.Places.{IsPlace};
 
     // The characters that so many texts have, those that have one. The only error is that memory ran out. It takes n log n in the
-    // characters, and time by them for each code that one text in 64 has at least, and for each bit of the greatest of the other codes by
-    // those of these; and memory by a bit for each text, for each of these codes and bits.
+    // characters, and time by them for each code that one text in 64 has at least; and memory by a bit for each text, for each of these
+    // codes and as for [`RareCodes::of`] for the others.
     pub fn of(
         alloc: Global,
         count: usize,
@@ -57,15 +60,12 @@ impl PlaceLetters {
         let hints = hints_of(alloc, codes)?;
         let found = others_of(alloc, codes, hints.as_slice(), letters)?;
         let others = found.as_slice();
-        let rare = texts_of(alloc, count, others)?;
-        let bits = bits_of(others);
-        let planes = planes_of(alloc, count, others, bits)?;
+        let rare = RareCodes::of(alloc, count, others)?;
         let seen = seen_of(alloc, letters)?;
         Ok(PlaceLetters {
             ended,
             common,
             rare,
-            planes,
             seen,
             hints,
         })
@@ -74,12 +74,13 @@ impl PlaceLetters {
     // How many bytes it takes, about.
     pub fn size(&self) -> usize {
         let sets = self
-            .planes
-            .len()
+            .rare
+            .set_count()
             .saturating_add(self.common.len())
-            .saturating_add(3);
+            .saturating_add(2);
         let set = BYTES_OF_A_SET + self.ended.row_count() / 8;
-        sets.saturating_mul(set)
+        let ranks = self.rare.ranks.len().saturating_mul(BYTES_OF_A_RANK);
+        sets.saturating_mul(set).saturating_add(ranks)
     }
 
     // The texts that end before the place.
@@ -89,16 +90,25 @@ impl PlaceLetters {
         &self.ended
     }
 
-    // Whether any text may have the character with this code here. It takes constant time.
+    // Whether any text may have the character with this code here. It takes constant time, or a logarithm of the codes that few have and
+    // time by those that many have.
     pub fn may_have(&self, code: u32) -> bool
         requires { 0 < code }
         ensures { result ≡ false → (codes : List ℕ) → IsPlace codes self.now → (i n : ℕ) → i < length codes → (get_or codes i n == code) ≡ false }
     {
-        self.seen.contains(remainder_of(code))
+        self.seen.contains(remainder_of(code)) && self.has(code)
     }
 
-    // Keeps of some texts those that have the character with this code here. It takes time by the texts, 64 at once, and that for each bit
-    // of the greatest code here, where not one text in 64 has the character, but any.
+    // Whether the code is among those that are kept.
+    fn has(&self, code: u32) -> bool
+        requires { 0 < code }
+        ensures { result ≡ false → (is_common self.now.common.items code ≡ false) × (rank_of self.now.rare.ranks code ≡ None) }
+    {
+        self.rare.has(code) || self.texts_with(code).is_some()
+    }
+
+    // Keeps of some texts those that have the character with this code here. It takes time by the texts, 64 at once, and a logarithm of the
+    // codes that few have.
     pub fn keep(&self, code: u32, set: &mut RowSet)
         requires rows { length set.old ≡ length self.now.ended }
         requires some { 0 < code }
@@ -110,14 +120,69 @@ impl PlaceLetters {
         }
     }
 
-    // The texts that have the character with this code, where these are many. It takes constant time where they are.
+    // The texts that have the character with this code, where these are many. It takes constant time where they are, and else a logarithm
+    // of the codes that few have, or time by those that many have.
     pub fn texts_with(&self, code: u32) -> Option<&RowSet>
         requires { 0 < code }
         ensures count { IfSome result (λ s. length s.now ≡ length self.now.ended) }
         ensures told { MatchOption result (is_common self.now.common.items code ≡ false) (λ s. (codes : List ℕ) → IsPlace codes self.now → Tell (λ n. n == code) codes s.now) }
     {
-        let k = place_of(self.common.as_slice(), self.hints.as_slice(), code)?;
+        if let Some(texts) = self.hinted_texts(code) {
+            return Some(texts);
+        }
+        if self.rare.has(code) {
+            return None;
+        }
+        self.searched_texts(code)
+    }
+
+    // Two sets, in both of which are just the texts that have the character with this code; nothing where no text has it. It takes the time
+    // of `texts_with`.
+    pub fn pair_with(&self, code: u32) -> Option<(&RowSet, &RowSet)>
+        requires { 0 < code }
+        ensures { IfSome result (λ r. (codes : List ℕ) → IsPlace codes self.now → MeetsTwo (λ n. n == code) codes r.0.now r.1.now) }
+    {
+        if let Some(texts) = self.hinted_texts(code) {
+            return Some((texts, texts));
+        }
+        if let Some(sets) = self.few_with(code) {
+            return Some(sets);
+        }
+        let texts = self.searched_texts(code)?;
+        Some((texts, texts))
+    }
+
+    // The texts that have the character with this code, where it is told at which place they stand. It takes constant time.
+    fn hinted_texts(&self, code: u32) -> Option<&RowSet>
+        requires { 0 < code }
+        ensures count { IfSome result (λ s. length s.now ≡ length self.now.ended) }
+        ensures told { IfSome result (λ s. (codes : List ℕ) → IsPlace codes self.now → Tell (λ n. n == code) codes s.now) }
+    {
+        let k = hinted(self.common.as_slice(), self.hints.as_slice(), code)?;
         Some(&self.common[k].texts)
+    }
+
+    // The texts that have the character with this code, where these are many. It takes time by the codes that many have.
+    fn searched_texts(&self, code: u32) -> Option<&RowSet>
+        requires { 0 < code }
+        ensures count { IfSome result (λ s. length s.now ≡ length self.now.ended) }
+        ensures told { MatchOption result (is_common self.now.common.items code ≡ false) (λ s. (codes : List ℕ) → IsPlace codes self.now → Tell (λ n. n == code) codes s.now) }
+    {
+        let k = searched(self.common.as_slice(), code)?;
+        Some(&self.common[k].texts)
+    }
+
+    // Two sets, in both of which are just the texts that have the character with this code, where these are few; nothing where they are
+    // many or none. It takes logarithmic time in the codes that few have.
+    fn few_with(&self, code: u32) -> Option<(&RowSet, &RowSet)>
+        requires { 0 < code }
+        ensures rows { IfSome result (λ r. (length r.0.now ≡ length self.now.ended) × (length r.1.now ≡ length self.now.ended)) }
+        ensures told { MatchOption result (is_common self.now.common.items code ≡ false → (codes : List ℕ) → IsPlace codes self.now → (i n : ℕ) → i < length codes → (get_or codes i n == code) ≡ false) (λ r. (codes : List ℕ) → IsPlace codes self.now → MeetsTwo (λ n. n == code) codes r.0.now r.1.now) }
+    {
+        match self.rare.sets_with(code) {
+            Some(sets) => Some(sets),
+            None => None,
+        }
     }
 
     fn keep_rare(&self, code: u32, set: &mut RowSet)
@@ -126,14 +191,16 @@ impl PlaceLetters {
         requires rare { is_common self.now.common.items code ≡ false }
         ensures { (codes : List ℕ) → IsPlace codes self.now → Keeps (λ n. n == code) codes set.old set.new }
     {
-        set.and(&self.rare);
-        let bits = self.planes.len();
-        if has_bit_from(code, bits) {
-            set.and(&self.ended);
-            set.and_not(&self.ended);
-            return;
+        match self.few_with(code) {
+            Some((a, b)) => {
+                set.and(a);
+                set.and(b);
+            }
+            None => {
+                set.and(&self.ended);
+                set.and_not(&self.ended);
+            }
         }
-        keep_same(self.planes.as_slice(), code, set);
     }
 
     // Keeps of some texts those that have any character here. It takes time by the texts, 64 at once.
@@ -240,68 +307,6 @@ fn texts_of(alloc: Global, count: usize, letters: &[TextLetter]) -> Result<RowSe
     Ok(set)
 }
 
-// How many bits the greatest code has. It takes time by the characters.
-fn bits_of(letters: &[TextLetter]) -> usize
-    ensures few { result ≤ 32 }
-    ensures below { All (λ l. l.code < 2 ^ result) letters.now }
-{
-    let greatest = greatest_of(letters);
-    let unused = greatest.leading_zeros() as usize;
-    32 - unused
-}
-
-// The greatest code, and 0 of none. It takes time by the characters.
-fn greatest_of(letters: &[TextLetter]) -> u32
-    ensures { All (λ l. l.code ≤ result) letters.now }
-{
-    let mut greatest = 0;
-    for letter in letters {
-        if letter.code > greatest {
-            greatest = letter.code;
-        }
-    }
-    greatest
-}
-
-// Of each of so many bits, from the lowest on, the texts whose code has it. The only error is that memory ran out. It takes time by the
-// characters times the bits, and memory by a bit for each text and each bit.
-fn planes_of(
-    alloc: Global,
-    count: usize,
-    letters: &[TextLetter],
-    bits: usize,
-) -> Result<Vec<RowSet>, AllocError>
-    requires { All (λ l. l.row < count) letters.now }
-    ensures bits { IfOk result (λ planes. length planes.items ≡ bits) }
-    ensures count { IfOk result (λ planes. All (λ s. length s ≡ count) planes.items) }
-    ensures told { IfOk result (λ planes. (b i : ℕ) (told : List Bool) → b < bits → i < count → get_or (get_or planes.items b told) i false ≡ list_any (λ l. (l.row == i) && has_bit l.code b) letters.now) }
-{
-    let mut planes = Vec::with_capacity(alloc, bits)?;
-    for bit in 0..bits {
-        planes.push(plane_of(alloc, count, letters, bit)?)?;
-    }
-    Ok(planes)
-}
-
-// The texts whose code has a bit. The only error is that memory ran out. It takes time by the characters, and memory by a bit for each
-// text.
-fn plane_of(
-    alloc: Global,
-    count: usize,
-    letters: &[TextLetter],
-    bit: usize,
-) -> Result<RowSet, AllocError>
-    requires { All (λ l. l.row < count) letters.now }
-    ensures count { IfOk result (λ s. length s ≡ count) }
-    ensures told { IfOk result (λ s. (i : ℕ) → i < count → get_or s i false ≡ list_any (λ l. (l.row == i) && has_bit l.code bit) letters.now) }
-{
-    let mut set = RowSet::none(alloc, count)?;
-    for letter in letters {
-        set.insert_if(letter.row, is_set(letter.code, bit));
-    }
-    Ok(set)
-}
-
 // The remainders of the codes. The only error is that memory ran out. It takes time by the characters.
 fn seen_of(alloc: Global, letters: &[TextLetter]) -> Result<RowSet, AllocError>
     ensures { IfOk result (λ s. All (λ l. get_or s (l.code % 128) false ≡ true) letters.now) }
@@ -330,41 +335,4 @@ fn remainder_of(code: u32) -> usize
     ensures { result ≡ code % 128 }
 {
     code as usize % REMAINDERS
-}
-
-// Whether a code has a bit. It takes constant time.
-fn is_set(code: u32, bit: usize) -> bool
-    ensures { result ≡ has_bit code bit }
-{
-    bit < 32 && (code >> bit) & 1 == 1
-}
-
-// Whether a code has a bit at a place or behind it. It takes constant time.
-fn has_bit_from(code: u32, bits: usize) -> bool
-    ensures { result ≡ nat_le (2 ^ bits) code }
-{
-    bits < 32 && code >= 1 << bits
-}
-
-// Keeps of some texts those whose code has the same of these bits as a code has. It takes time by the texts, 64 at once, for each bit.
-fn keep_same(planes: &[RowSet], code: u32, set: &mut RowSet)
-    requires { (b : ℕ) (told : List Bool) → b < length planes.now → length (get_or planes.now b told) ≡ length set.old }
-    ensures { (codes : List ℕ) → ArePlanes codes planes.now → length set.old ≡ length codes → Keeps (λ n. same_bits (length planes.now) n code) codes set.old set.new }
-{
-    for b in 0..planes.len() {
-        keep_bit(&planes[b], is_set(code, b), set);
-    }
-}
-
-// Keeps of some texts those that have a bit, or those that don't have it. It takes time by the texts, 64 at once.
-fn keep_bit(plane: &RowSet, has: bool, set: &mut RowSet)
-    requires { length plane.now ≡ length set.old }
-    ensures with { has ≡ true → Joined (λ a b. a && b) plane.now set.old set.new }
-    ensures without { has ≡ false → Joined (λ a b. a && not b) plane.now set.old set.new }
-{
-    if has {
-        set.and(plane);
-    } else {
-        set.and_not(plane);
-    }
 }
