@@ -4,8 +4,10 @@ use crate::lots::ROWS_AT_ONCE;
 use dr_predicate::value_at;
 use dr_rollup::KeyOf;
 
-// How many bytes may be taken at once for which row has which character where, in all dimensions that are often asked by a pattern.
+// How many bytes may be taken at once for which row has which character where, in all dimensions that are often asked by a pattern, and
+// how many more for each byte of the values: as much as is taken where the values have thousands of different characters at each place.
 const LETTER_BYTES: usize = 1 << 26;
+const LETTER_BYTES_FOR_EACH: usize = 16;
 
 // Values of no more bytes are asked by a pattern at once, where they are of more than one row: of long ones up to 20 bytes are taken for
 // each byte.
@@ -21,9 +23,13 @@ fn rows_at_once(dimensions: usize) -> usize
     (ROWS_AT_ONCE / dimensions.max(1)).max(FEWEST_ROWS)
 }
 
-// How many bytes may be taken then for the characters of one of them.
-pub fn letter_bytes(dimensions: usize) -> usize {
-    LETTER_BYTES / dimensions.max(1)
+// How many bytes may be taken then for the characters of these values of one of them. It takes time by the values.
+pub fn letter_bytes(dimensions: usize, values: &[&str]) -> usize {
+    let mut bytes = LETTER_BYTES / dimensions.max(1);
+    for value in values {
+        bytes = bytes.saturating_add(value.len().saturating_mul(LETTER_BYTES_FOR_EACH));
+    }
+    bytes
 }
 
 // Whether all rows are asked at once.

@@ -103,11 +103,12 @@ fn letters_of<'a>(
 ) -> Result<Vec<PlacedLetters<'a>>, AllocError>
     ensures { IfOk result (λ found. All (λ l. l.letters.0 ≡ map (value_of l.place) rows.now) found.items) }
 {
-    let most = letter_bytes(places.len());
     let mut found = Vec::with_capacity(alloc, places.len())?;
     for place in places {
         let place = Some(*place);
-        let letters = LetterRows::of(alloc, values_at(alloc, rows, place)?, most)?;
+        let values = values_at(alloc, rows, place)?;
+        let most = letter_bytes(places.len(), values.as_slice());
+        let letters = LetterRows::of(alloc, values, most)?;
         found.push(PlacedLetters { place, letters })?;
     }
     Ok(found)
