@@ -20,7 +20,7 @@ BEGIN = 1704067200000
 
 
 def compact(value):
-    return json.dumps(value, separators=(",", ":"))
+    return json.dumps(value, separators=(",", ":"), ensure_ascii=False)
 
 
 def spec(dims=("page",), metrics=("v",), segment="day", query="none", rollup=True, **limits):
@@ -407,14 +407,16 @@ def likes_but_for_one_part(parts, patterns, letters=2, length=300, last=False):
     return lines
 
 
-def likes_of_rare_letters(kinds, parts, patterns):
-    """Patterns of so many parts of a letter over texts of 300 letters of so many kinds, of which one text in 64 has none at a place, and
-    one text of a letter of a far greater number; each lacks the first part, which is asked last."""
-    letters = [chr(code) for code in range(0x23, 0x180) if chr(code).isprintable() and chr(code) not in '%_\\'][:kinds]
+LATIN = [chr(code) for code in range(0x23, 0x70) if chr(code) not in '%_\\']
+HAN = [chr(code) for code in range(0x4E00, 0x9C20)]
 
+
+def likes_of_rare_letters(letters, parts, patterns, length=300):
+    """Patterns of so many parts of a letter over texts of so many letters, of which no text in 64 has one at a place, and one text of a
+    letter of a far greater number; each lacks the first part, which is asked last."""
     def text(random):
-        found = [random.choice(letters) for _ in range(300)]
-        for place in range(0, 300, 5):
+        found = [random.choice(letters) for _ in range(length)]
+        for place in range(0, length, 5):
             if not random.randrange(70):
                 found[place + random.randrange(2)] = "!"
         return "".join(found)
@@ -424,9 +426,22 @@ def likes_of_rare_letters(kinds, parts, patterns):
         yield spec()
         for it in range(n):
             yield event(BEGIN + it % DAY, text(random))
-        yield event(BEGIN, "\U0001f600" * 300)
+        yield event(BEGIN, "\U0001f600" * length)
         part = lambda: random.choice(letters)
         asked = series(filter=one_of(*({"type": "like", "dimension": "page", "pattern": "%!_!%" + "%".join(part() for _ in range(parts)) + "%"} for _ in range(patterns))))
+        yield from (asked, f"seal {instant(1)}", f"publish {instant(1)} 0 1", asked)
+    return lines
+
+
+def likes_of_rare_pairs(letters, parts, patterns):
+    """Patterns of so many parts of two letters over texts of 300, of which no text in 64 has one at a place."""
+    def lines(n):
+        random = Random(3)
+        yield spec()
+        for it in range(n):
+            yield event(BEGIN + it % DAY, "".join(random.choice(letters) for _ in range(300)))
+        pair = lambda: random.choice(letters) + random.choice(letters)
+        asked = series(filter=one_of(*({"type": "like", "dimension": "page", "pattern": "%" + "%".join(pair() for _ in range(parts)) + "%"} for _ in range(patterns))))
         yield from (asked, f"seal {instant(1)}", f"publish {instant(1)} 0 1", asked)
     return lines
 
@@ -810,7 +825,10 @@ INPUTS = {
     "rows of 300 letters under an or of 2,800 likes of seventy parts of two letters": (likes_of_parts(70, 2, 2800), 10000),
     "rows of 300 letters under an or of 8,000 likes of twenty parts of two letters, of which each row lacks the first alone": (likes_but_for_one_part(19, 8000), 10000),
     "rows of 300 letters under an or of 5,000 likes of 76 parts, all but the first of one letter, of which each row lacks the first alone": (likes_but_for_one_part(75, 5000, letters=1), 10000),
-    "rows of 300 letters of 70 kinds, each rare, under an or of 13,000 likes of seven parts, of which each row lacks the first alone": (likes_of_rare_letters(70, 6, 13000), 10000),
+    "rows of 300 letters of 70 kinds, each rare, under an or of 13,000 likes of seven parts, of which each row lacks the first alone": (likes_of_rare_letters(LATIN[:70], 6, 13000), 10000),
+    "rows of 300 letters of 70 kinds, each rare, under an or of 11,000 likes of seven parts of two letters": (likes_of_rare_pairs(LATIN[:70], 7, 11000), 10000),
+    "rows of 80 letters of 140 kinds, each rare, under an or of 11,000 likes of seven parts, of which each row lacks the first alone": (likes_of_rare_letters(HAN[:140], 6, 11000, 80), 16000),
+    "rows of 80 letters of 20,000 kinds under an or of 11,000 likes of seven parts": (likes_of_rare_letters(HAN, 6, 11000, 80), 16000),
     "rows of 300 letters with runs of 20 under an or of 10,000 likes of two runs with a gap": (likes_of_long_runs(300, 20, 10000), 10000),
     "rows of 4,000 letters with runs of 250 under an or of 1,800 likes of two runs with a gap": (likes_of_long_runs(4000, 250, 1800), 100),
     "rows of 4,000 letters with runs of 20 under an or of 10,000 likes of two runs with a gap": (likes_of_long_runs(4000, 20, 10000), 100),

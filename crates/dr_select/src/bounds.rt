@@ -7,6 +7,7 @@ use dr_rollup::KeyOf;
 // How many bytes may be taken at once for which row has which character where, in all dimensions that are often asked by a pattern, and
 // how many more for each byte of the values: as much as is taken where the values have thousands of different characters at each place.
 const LETTER_BYTES: usize = 1 << 26;
+
 const LETTER_BYTES_FOR_EACH: usize = 16;
 
 // Values of no more bytes are asked by a pattern at once, where they are of more than one row: of long ones up to 20 bytes are taken for
