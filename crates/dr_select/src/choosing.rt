@@ -38,10 +38,10 @@ const LOOKED_BEHIND: usize = 64;
 ///
 /// Where a dimension is asked by a pattern 8 times or more, the characters of its values are read, and a pattern takes what
 /// [`LetterRows::fitting`](dr_letters::LetterRows::fitting) does. For that 16,384 rows are asked at once, where it is one dimension, and
-/// fewer, down to 1,024, where they are more; and the characters are read as far as one value in 256 goes on, and as 64 megabytes hold
-/// what is known of them in all these dimensions, so the memory for them is bounded. Values that go on further are asked by themselves.
-/// Of values of 1,024 bytes or more, or of 64 where the rows are few, it is kept too where each letter stands, which takes up to 20 bytes
-/// for each byte of them; so of more than one row values of 4 MiB at most are asked at once.
+/// fewer, down to 1,024, where they are more; and the characters are read as far as one value in 256 goes on, and as 64 MiB in all these
+/// dimensions, and 16 bytes for each byte of the values, hold what is known of them, so the memory for them is bounded. Values that go on
+/// further are asked by themselves. Of values of 1,024 bytes or more, or of 64 where the rows are few, it is kept too where each letter
+/// stands, which takes up to 20 bytes for each byte of them; so of more than one row values of 4 MiB at most are asked at once.
 pub fn select(alloc: Global, filter: &Filter, rows: &[KeyOf<'_>]) -> Result<RowSet, AllocError>
     ensures { IfOk result (λ s. s ≡ map (meets (condition_in filter.now)) rows.now) }
 {
