@@ -1,6 +1,6 @@
-"""Writes random scripts of filters of many `like`s, over values of up to 600 characters in up to 17 dimensions, with what they have to
-print by answers.py: asked of open rows, of the raw events and of published ones. In one script of four a pattern decides all rows
-but a few. Script number N is the same each time.
+"""Writes random scripts of filters of many `like`s, over values of up to 600 characters, of two kinds or of 100, in up to 17
+dimensions, with what they have to print by answers.py: asked of open rows, of the raw events and of published ones. In one script of
+four a pattern decides all rows but a few. Script number N is the same each time.
 
     python3 random_likes.py FOLDER FIRST COUNT [PROGRAM [W ..]]    as random_queries.py has them
 """
@@ -13,6 +13,8 @@ from random_queries import compact
 
 BEGIN = 1704067200000
 DAY = "2024-01-01T00:00:00.000Z"
+# Some letters are frequent, most are rare at each place, and of some the numbers have the same last seven bits.
+WIDE = "a" * 30 + "b" * 15 + "".join(chr(it) for it in range(0x30, 0x7A) if it not in (0x5C, 0x5F)) + "".join(chr(ord(it) + 128 * k) for it in "aAbX09" for k in (1, 152, 153, 154)) * 2
 LENGTHS = [[3, 5, 9], [0, 1, 2, 300, 512, 513], [250, 256, 257, 511, 512, 513, 600], [10] * 30 + [520], [17] * 20 + [100]]
 
 
@@ -21,7 +23,7 @@ class LikeWriter:
         self.random = Random(number)
         r = self.random
         self.dims = ["d%d" % i for i in range(r.choice([1, 1, 2, 3, 17]))]
-        self.letters = r.choice(["ab", "abé", "a", "01", "abcdefgh😀"])
+        self.letters = r.choice(["ab", "abé", "a", "01", "abcdefgh😀", WIDE, WIDE])
         self.lengths = r.choice(LENGTHS)
         self.crowd = r.choice([300, 600, 1100]) if r.random() < 0.25 else 0
         if self.crowd:
