@@ -446,17 +446,17 @@ def likes_of_rare_pairs(letters, parts, patterns):
     return lines
 
 
-def likes_of_one_row(letters, parts, patterns):
-    """Patterns of so many parts of a letter and one before them that no row has, over texts of 300 letters, of which one has all the
+def likes_of_one_row(letters, parts, patterns, length=300):
+    """Patterns of so many parts of a letter and one before them that no row has, over texts of so many letters, of which one has all the
     others: so a few parts decide of each other row, and for that one each part is asked."""
     def lines(n):
         random = Random(3)
         yield spec()
-        text = lambda: "".join(random.choice(letters) for _ in range(300))
+        text = lambda: "".join(random.choice(letters) for _ in range(length))
         one = text()
         for it in range(n):
             yield event(BEGIN + it % DAY, text() if it else one)
-        pattern = lambda: "%!_!%" + "%".join(one[place] for place in sorted(random.sample(range(300), parts))) + "%"
+        pattern = lambda: "%!_!%" + "%".join(one[place] for place in sorted(random.sample(range(length), parts))) + "%"
         asked = series(filter=one_of(*({"type": "like", "dimension": "page", "pattern": pattern()} for _ in range(patterns))))
         yield from (asked, f"seal {instant(1)}", f"publish {instant(1)} 0 1", asked)
     return lines
@@ -843,6 +843,7 @@ INPUTS = {
     "rows of 300 letters under an or of 5,000 likes of 76 parts, all but the first of one letter, of which each row lacks the first alone": (likes_but_for_one_part(75, 5000, letters=1), 10000),
     "rows of 300 letters of 70 kinds, each rare, under an or of 13,000 likes of seven parts, of which each row lacks the first alone": (likes_of_rare_letters(LATIN[:70], 6, 13000), 10000),
     "rows of 300 letters of 50 kinds under an or of 5,000 likes of 76 parts, all but the first of one letter, of which one row lacks the first alone": (likes_of_one_row(LATIN[:50], 75, 5000), 10000),
+    "rows of 1,020 letters of 50 kinds under an or of 1,000 likes of 76 parts, all but the first of one letter, of which one row lacks the first alone": (likes_of_one_row(LATIN[:50], 75, 1000, 1020), 4100),
     "rows of 300 letters of 70 kinds, each rare, under an or of 11,000 likes of seven parts of two letters": (likes_of_rare_pairs(LATIN[:70], 7, 11000), 10000),
     "rows of 80 letters of 140 kinds, each rare, under an or of 11,000 likes of seven parts, of which each row lacks the first alone": (likes_of_rare_letters(HAN[:140], 6, 11000, 80), 16000),
     "rows of 80 letters of 20,000 kinds under an or of 11,000 likes of seven parts": (likes_of_rare_letters(HAN, 6, 11000, 80), 16000),
