@@ -15,11 +15,11 @@ use std::alloc::{AllocError, Global};
 
 impl<'a> LetterRows<'a> {
     /// The texts that fit a pattern of `like` (Apache Druid documentation, query filters: like). The only error is that memory ran out.
-    /// A letter of the pattern before its first `%` takes time by the texts, 64 at once, and that for each bit of a character where one text
-    /// has the letter there, but not one in 64; each other one takes that as often as there are places where it may stand: one more than the
-    /// places are that the pattern has no letter for. For each part behind a `%` it takes memory by a bit for each text. Where letters leave
-    /// no text, the next ones take no time, nor does a `_` that has another letter behind it; and nothing is asked at a place where a letter
-    /// stands that no text has there. A text that has more characters than places are known is asked by itself, as by
+    /// A letter of the pattern before its first `%` takes time by the texts, 64 at once, and where fewer than one text in 64 has it there twice
+    /// that and a logarithm of the characters that so few have; each other one takes that as often as there are places where it may stand:
+    /// one more than the places are that the pattern has no letter for. For each part behind a `%` it takes memory by a bit for each text.
+    /// Where letters leave no text, the next ones take no time, nor does a `_` that has another letter behind it; and nothing is asked at a
+    /// place where a letter stands that no text has there. A text that has more characters than places are known is asked by itself, as by
     /// [`LetterPlaces::fits`](dr_places::LetterPlaces::fits), where it is kept where its letters stand, and else as by
     /// [`fits_soonest`](dr_places::fits_soonest), unless those that are known tell whether it fits: of a pattern without `%`, or with one at
     /// its end alone, that has no more letters than these. So is each text where that takes less time, as it does where a pattern has many

@@ -45,9 +45,10 @@ impl<'a> Model for LetterRows<'a> {
 impl<'a> LetterRows<'a> {
     /// Texts, the first of which is that of row 0, with their characters, place by place, as far as one text in 256 has any there, 4,096
     /// places at most, and until these take so many bytes. The only error is that memory ran out. It takes n log n in the characters, and
-    /// memory by a bit for each text at each place for each character that one text in 64 has there, and for twice the square root of the
-    /// others. Of a text of 1,024 bytes or more, or of 64 where the square of their number is no more than twice
-    /// their bytes, it is kept too where its letters stand, in the time and memory of [`LetterPlaces::of`](dr_places::LetterPlaces::of).
+    /// memory by a bit for each text at each place for each character that one text in 64 has there, and for each of about twice the square
+    /// root of the others, of which each takes some 24 bytes more. Of a text of 1,024 bytes or more, or of 64 where the square of their number
+    /// is no more than twice their bytes, it is kept too where its letters stand, in the time and memory of
+    /// [`LetterPlaces::of`](dr_places::LetterPlaces::of).
     pub fn of(alloc: Global, texts: Vec<&'a str>, most: usize) -> Result<LetterRows<'a>, AllocError>
         ensures { IfOk result (λ l. l.0 ≡ map (λ t. t.now) texts.entry.items) }
     {
@@ -67,6 +68,15 @@ impl<'a> LetterRows<'a> {
         ensures { result ≡ length self.now.0 }
     {
         self.texts.len()
+    }
+
+    // How many bytes what is known of the places takes, about: as if the others took as much as the one in the middle. It takes constant
+    // time.
+    pub(crate) fn bytes_known(&self) -> usize {
+        match self.places.get(self.places.len() / 2) {
+            Some(place) => place.size().saturating_mul(self.places.len()),
+            None => 0,
+        }
     }
 
     // Of how many places the characters are known.

@@ -36,7 +36,8 @@ impl RareCodes {
     ghost use Rattle.dr_letters.specs.Rare.{AreRare, HoldRare};
 
     // The codes of some letters, each of one of so many texts. The only error is that memory ran out. It takes n log n in the letters, and
-    // memory by a bit for each text for each digit, of which there are about as many as twice the square root of the codes.
+    // memory for each code, and by a bit for each text for each digit, of which there are about as many as twice the square root of the
+    // codes.
     pub fn of(alloc: Global, count: usize, letters: &[TextLetter]) -> Result<RareCodes, AllocError>
         requires { All (λ l. l.row < count) letters.now }
         ensures count { IfOk result (λ r. r.row_count ≡ count) }
