@@ -311,36 +311,40 @@ def likes(pattern):
     return asked_of_texts(groups(filter=one_of(*({"type": "like", "dimension": "page", "pattern": pattern.replace("x", f"x{it}")} for it in range(15000)))))
 
 
-def likes_of_gaps(begin, end, first=""):
-    """A pattern for each of 12,000, of letters that each value has or not, which all values fail by one letter alone: the last, or the
-    first, which is asked last."""
+def likes_of_rows(text, pattern, patterns, *more):
+    """So many patterns over rows of texts, and of some texts more, asked while they are open and once they are published."""
     def lines(n):
         random = Random(3)
         yield spec()
         for it in range(n):
-            yield event(BEGIN + it % DAY, f"{it:017b}")
-        fields = [{"type": "like", "dimension": "page", "pattern": begin + first + "".join(random.choice("01____") for _ in range(8)) + ("" if first else "2") + end} for _ in range(12000)]
-        asked = series(filter=one_of(*fields))
+            yield event(BEGIN + it % DAY, text(random, it))
+        for it in more:
+            yield event(BEGIN, it)
+        asked = series(filter=one_of(*({"type": "like", "dimension": "page", "pattern": pattern(random, it)} for it in range(patterns))))
         yield from (asked, f"seal {instant(1)}", f"publish {instant(1)} 0 1", asked)
     return lines
+
+
+def bits_of_300(random, it):
+    return f"{random.getrandbits(300):0300b}"
+
+
+def likes_of_gaps(begin, end, first=""):
+    """A pattern for each of 12,000, of letters that each value has or not, which all values fail by one letter alone: the last, or the
+    first, which is asked last."""
+    def pattern(random, it):
+        return begin + first + "".join(random.choice("01____") for _ in range(8)) + ("" if first else "2") + end
+    return likes_of_rows(lambda random, it: f"{it:017b}", pattern, 12000)
 
 
 def likes_of_long_texts(begin, end, first="", letters=22, patterns=12000):
     """The same of texts of 300 letters, and patterns that are gaps but for four letters."""
-    def pattern(random):
+    def pattern(random, it):
         inner = ["_"] * letters
         for _ in range(4):
             inner[random.randrange(letters)] = random.choice("01")
         return begin + first + "".join(inner) + ("" if first else "2") + end
-
-    def lines(n):
-        random = Random(3)
-        yield spec()
-        for it in range(n):
-            yield event(BEGIN + it % DAY, f"{random.getrandbits(300):0300b}")
-        asked = series(filter=one_of(*({"type": "like", "dimension": "page", "pattern": pattern(random)} for _ in range(patterns))))
-        yield from (asked, f"seal {instant(1)}", f"publish {instant(1)} 0 1", asked)
-    return lines
+    return likes_of_rows(bits_of_300, pattern, patterns)
 
 
 def likes_of_common_letters(letters, asked, patterns, ones):
@@ -349,21 +353,12 @@ def likes_of_common_letters(letters, asked, patterns, ones):
     def letter(random):
         return "1" if random.randrange(100) < ones else "0"
 
-    def pattern(random):
+    def pattern(random, it):
         inner = ["_"] * letters
         for place in random.sample(range(letters), asked):
             inner[place] = letter(random) if ones == 50 else "1"
         return "%" + "".join(inner) + "%"
-
-    def lines(n):
-        random = Random(3)
-        yield spec()
-        for it in range(n):
-            yield event(BEGIN + it % DAY, "".join(letter(random) for _ in range(300)))
-        yield event(BEGIN, "2")
-        asked_for = series(filter=one_of(*({"type": "like", "dimension": "page", "pattern": pattern(random)} for _ in range(patterns))))
-        yield from (asked_for, f"seal {instant(1)}", f"publish {instant(1)} 0 1", asked_for)
-    return lines
+    return likes_of_rows(lambda random, it: "".join(letter(random) for _ in range(300)), pattern, patterns, "2")
 
 
 def likes_of_parts(parts, letters, patterns):
@@ -373,38 +368,24 @@ def likes_of_parts(parts, letters, patterns):
         inner = [random.choice("01") for _ in range(letters + 1)]
         inner[random.randrange(1, letters)] = "_"
         return "".join(inner)
-
-    def lines(n):
-        random = Random(3)
-        yield spec()
-        for it in range(n):
-            yield event(BEGIN + it % DAY, f"{random.getrandbits(300):0300b}")
-        yield event(BEGIN, "2")
-        asked = series(filter=one_of(*({"type": "like", "dimension": "page", "pattern": "%" + "%".join(part(random) for _ in range(parts)) + "%"} for _ in range(patterns))))
-        yield from (asked, f"seal {instant(1)}", f"publish {instant(1)} 0 1", asked)
-    return lines
+    return likes_of_rows(bits_of_300, lambda random, it: "%" + "%".join(part(random) for _ in range(parts)) + "%", patterns, "2")
 
 
 def likes_but_for_one_part(parts, patterns, letters=2, length=300, last=False):
     """Patterns of so many parts of so many letters with gaps between, over texts of 300 letters or more, each of which has all parts but
     the first, which is asked last of many texts at once, or the last, which is asked last of each by itself; where there are no other
     parts the second is a number."""
-    def text(random):
+    def text(random, it):
         found = [random.choice("01") for _ in range(length)]
         for place in range(0, length, 5):
             found[place + random.randrange(2)] = "2"
         return "".join(found)
 
-    def lines(n):
-        random = Random(3)
-        yield spec()
-        for it in range(n):
-            yield event(BEGIN + it % DAY, text(random))
+    def pattern(random, it):
         part = lambda: "_".join(random.choice("01") for _ in range(letters))
-        others = lambda it: "%".join(part() for _ in range(parts)) if parts else str(it)
-        asked = series(filter=one_of(*({"type": "like", "dimension": "page", "pattern": f"%{others(it)}%2_2%" if last else f"%2_2%{others(it)}%"} for it in range(patterns))))
-        yield from (asked, f"seal {instant(1)}", f"publish {instant(1)} 0 1", asked)
-    return lines
+        others = "%".join(part() for _ in range(parts)) if parts else str(it)
+        return f"%{others}%2_2%" if last else f"%2_2%{others}%"
+    return likes_of_rows(text, pattern, patterns)
 
 
 LATIN = [chr(code) for code in range(0x23, 0x70) if chr(code) not in '%_\\']
@@ -414,83 +395,46 @@ HAN = [chr(code) for code in range(0x4E00, 0x9C20)]
 def likes_of_rare_letters(letters, parts, patterns, length=300):
     """Patterns of so many parts of a letter over texts of so many letters, of which no text in 64 has one at a place, and one text of a
     letter of a far greater number; each lacks the first part, which is asked last."""
-    def text(random):
+    def text(random, it):
         found = [random.choice(letters) for _ in range(length)]
         for place in range(0, length, 5):
             if not random.randrange(70):
                 found[place + random.randrange(2)] = "!"
         return "".join(found)
-
-    def lines(n):
-        random = Random(3)
-        yield spec()
-        for it in range(n):
-            yield event(BEGIN + it % DAY, text(random))
-        yield event(BEGIN, "\U0001f600" * length)
-        part = lambda: random.choice(letters)
-        asked = series(filter=one_of(*({"type": "like", "dimension": "page", "pattern": "%!_!%" + "%".join(part() for _ in range(parts)) + "%"} for _ in range(patterns))))
-        yield from (asked, f"seal {instant(1)}", f"publish {instant(1)} 0 1", asked)
-    return lines
+    return likes_of_rows(text, lambda random, it: "%!_!%" + "%".join(random.choice(letters) for _ in range(parts)) + "%", patterns, "\U0001f600" * length)
 
 
 def likes_of_rare_pairs(letters, parts, patterns):
     """Patterns of so many parts of two letters over texts of 300, of which no text in 64 has one at a place."""
-    def lines(n):
-        random = Random(3)
-        yield spec()
-        for it in range(n):
-            yield event(BEGIN + it % DAY, "".join(random.choice(letters) for _ in range(300)))
-        pair = lambda: random.choice(letters) + random.choice(letters)
-        asked = series(filter=one_of(*({"type": "like", "dimension": "page", "pattern": "%" + "%".join(pair() for _ in range(parts)) + "%"} for _ in range(patterns))))
-        yield from (asked, f"seal {instant(1)}", f"publish {instant(1)} 0 1", asked)
-    return lines
+    text_of = lambda random, count: "".join(random.choice(letters) for _ in range(count))
+    return likes_of_rows(lambda random, it: text_of(random, 300), lambda random, it: "%" + "%".join(text_of(random, 2) for _ in range(parts)) + "%", patterns)
 
 
 def likes_of_one_row(letters, parts, patterns, length=300):
-    """Patterns of so many parts of a letter and one before them that no row has, over texts of so many letters, of which one has all the
-    others: so a few parts decide of each other row, and for that one each part is asked."""
-    def lines(n):
-        random = Random(3)
-        yield spec()
-        text = lambda: "".join(random.choice(letters) for _ in range(length))
-        one = text()
-        for it in range(n):
-            yield event(BEGIN + it % DAY, text() if it else one)
-        pattern = lambda: "%!_!%" + "%".join(one[place] for place in sorted(random.sample(range(length), parts))) + "%"
-        asked = series(filter=one_of(*({"type": "like", "dimension": "page", "pattern": pattern()} for _ in range(patterns))))
-        yield from (asked, f"seal {instant(1)}", f"publish {instant(1)} 0 1", asked)
-    return lines
+    """Patterns of so many parts of a letter and one before them that no row has, over texts of so many letters, of which the first has all
+    the others: so a few parts decide of each other row, and for that one each part is asked."""
+    text = lambda random, it: "".join(random.choice(letters) for _ in range(length))
+    first = text(Random(3), 0)
+    return likes_of_rows(text, lambda random, it: "%!_!%" + "%".join(first[place] for place in sorted(random.sample(range(length), parts))) + "%", patterns)
 
 
 def likes_of_long_runs(length, run, patterns):
     """Patterns of more than two runs of so many letters with a gap, over texts of so many letters that have such runs, each from another
     place on, with one other letter between two of them."""
-    def pattern(random):
+    def text(random, it):
+        begin = random.randrange(run + 1)
+        return f"{it:05}" + (("a" * run + "c") * (length // run + 2))[begin:][: length - 5]
+
+    def pattern(random, it):
         letters = ["a"] * (2 * run + 2 + random.randrange(6))
         letters[random.randrange(1, len(letters) - 1)] = "_"
         return "%" + "".join(letters) + "%"
-
-    def lines(n):
-        random = Random(3)
-        yield spec()
-        for it in range(n):
-            begin = random.randrange(run + 1)
-            yield event(BEGIN + it % DAY, f"{it:05}" + (("a" * run + "c") * (length // run + 2))[begin:][: length - 5])
-        asked = series(filter=one_of(*({"type": "like", "dimension": "page", "pattern": pattern(random)} for _ in range(patterns))))
-        yield from (asked, f"seal {instant(1)}", f"publish {instant(1)} 0 1", asked)
-    return lines
+    return likes_of_rows(text, pattern, patterns)
 
 
 def likes_of_runs(patterns, runs):
     """Patterns of so many `%` and three letters, over texts of 300."""
-    def lines(n):
-        random = Random(3)
-        yield spec()
-        for it in range(n):
-            yield event(BEGIN + it % DAY, f"{random.getrandbits(300):0300b}")
-        asked = series(filter=one_of(*({"type": "like", "dimension": "page", "pattern": "%" * runs + f"0_{it % 2}"} for it in range(patterns))))
-        yield from (asked, f"seal {instant(1)}", f"publish {instant(1)} 0 1", asked)
-    return lines
+    return likes_of_rows(bits_of_300, lambda random, it: "%" * runs + f"0_{it % 2}", patterns)
 
 
 def likes_of_many_dimensions(letters):

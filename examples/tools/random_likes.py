@@ -1,5 +1,5 @@
-"""Writes random scripts of filters of many `like`s, over values of up to 600 characters, of two kinds or of 100, in up to 17
-dimensions, with what they have to print by answers.py: asked of open rows, of the raw events and of published ones. In one script of
+"""Writes random scripts of filters of many `like`s, over values of up to 600 characters, of a few kinds or of 96, in up to
+17 dimensions, with what they have to print by answers.py: asked of open rows, of the raw events and of published ones. In one script of
 four a pattern decides all rows but a few. Script number N is the same each time.
 
     python3 random_likes.py FOLDER FIRST COUNT [PROGRAM [W ..]]    as random_queries.py has them
