@@ -788,6 +788,7 @@ INPUTS = {
     "rows of 300 letters of 70 kinds, each rare, under an or of 13,000 likes of seven parts, of which each row lacks the first alone": (likes_of_rare_letters(LATIN[:70], 6, 13000), 10000),
     "rows of 300 letters of 50 kinds under an or of 5,000 likes of 76 parts, all but the first of one letter, of which one row lacks the first alone": (likes_of_one_row(LATIN[:50], 75, 5000), 10000),
     "rows of 1,020 letters of 50 kinds under an or of 1,000 likes of 76 parts, all but the first of one letter, of which one row lacks the first alone": (likes_of_one_row(LATIN[:50], 75, 1000, 1020), 4100),
+    "few rows of 1,020 letters of 50 kinds under an or of 1,000 likes of 76 parts, all but the first of one letter, of which one row lacks the first alone": (likes_of_one_row(LATIN[:50], 75, 1000, 1020), 1030),
     "rows of 300 letters of 70 kinds, each rare, under an or of 11,000 likes of seven parts of two letters": (likes_of_rare_pairs(LATIN[:70], 7, 11000), 10000),
     "rows of 80 letters of 140 kinds, each rare, under an or of 11,000 likes of seven parts, of which each row lacks the first alone": (likes_of_rare_letters(HAN[:140], 6, 11000, 80), 16000),
     "rows of 80 letters of 20,000 kinds under an or of 11,000 likes of seven parts": (likes_of_rare_letters(HAN, 6, 11000, 80), 16000),
