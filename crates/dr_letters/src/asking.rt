@@ -1,4 +1,4 @@
-ghost use Rattle.std.specs.Prelude.{◌≡◌, ◌<◌, ◌≤◌, ◌+◌, Bool, true, false, List, length, get_or, take, IfSome};
+ghost use Rattle.std.specs.Prelude.{◌≡◌, ◌<◌, ◌≤◌, ◌+◌, Bool, true, false, ℕ, List, length, get_or, take, IfSome};
 ghost use Rattle.std.specs.List.{All};
 ghost use Rattle.dr_rowindex.specs.Orders.{Tell};
 ghost use Rattle.dr_letters.specs.Codes.{Keeps};
@@ -8,6 +8,12 @@ ghost use Rattle.dr_letters.specs.Pieces.{IsWithin, Gains, Meets, MeetsTwo, asks
 use crate::asked_letter::AskedLetter;
 use crate::letter_rows::LetterRows;
 use dr_rowindex::RowSet;
+
+// So many letters of a piece are asked before it is looked whether any text may have the others.
+const FIRST: usize = 4;
+
+// Of so many texts.
+const MANY: usize = 4096;
 
 impl<'a> LetterRows<'a> {
     // Adds those of some texts that have each of some letters of a pattern where it is asked while so many places are to spare. What is in
@@ -30,10 +36,64 @@ impl<'a> LetterRows<'a> {
         if behind.has_none() || self.inserts_few(letters, spare, behind, found) {
             return;
         }
-        if !self.may_have_each(letters, spare) {
+        let some = letters.len().min(FIRST);
+        if !self.may_have_each(&letters[..some], spare) {
             return;
         }
-        let k = self.put_front(letters, spare, behind, set);
+        let k = self.put_first(letters, spare, behind, set);
+        let left = some.saturating_sub(k);
+        self.insert_more(&letters[k..], left, spare, set, found);
+    }
+
+    // Adds those of some texts that have each of some letters. So many are asked before it is looked whether any text may have the others,
+    // which takes time by all of them. The texts are left as those that have the first of them.
+    fn insert_more(
+        &self,
+        letters: &[AskedLetter],
+        some: usize,
+        spare: usize,
+        set: &mut RowSet,
+        found: &mut RowSet,
+    )
+        requires some { some ≤ length letters.now }
+        requires places { All (λ a. IsWithin spare self.now.1 a) letters.now }
+        requires set { length set.old ≡ length self.now.0 }
+        requires found { length found.old ≡ length self.now.0 }
+        ensures set { length set.new ≡ length self.now.0 }
+        ensures found { Gains (asks_each spare letters.now) self.now.0 set.old found.old found.new }
+    {
+        let k = self.keep_first(letters, some, spare, set);
+        let more = &letters[k..];
+        if set.has_none() || !self.may_go_on(more, spare) {
+            return;
+        }
+        self.insert_rest(more, spare, set, found);
+    }
+
+    // Whether any text may have each of some letters that are asked next. It takes time by these. Of fewer texts nothing is looked at, since
+    // it takes as long to ask them.
+    fn may_go_on(&self, letters: &[AskedLetter], spare: usize) -> bool
+        requires { All (λ a. IsWithin spare self.now.1 a) letters.now }
+        ensures { result ≡ false → (i : ℕ) (t : List ℕ) → i < length self.now.0 → asks_each spare letters.now (get_or self.now.0 i t) ≡ false }
+    {
+        self.text_count() < MANY || self.may_have_each(letters, spare)
+    }
+
+    // The same where any text may have each of them.
+    fn insert_rest(
+        &self,
+        letters: &[AskedLetter],
+        spare: usize,
+        set: &mut RowSet,
+        found: &mut RowSet,
+    )
+        requires places { All (λ a. IsWithin spare self.now.1 a) letters.now }
+        requires set { length set.old ≡ length self.now.0 }
+        requires found { length found.old ≡ length self.now.0 }
+        ensures set { length set.new ≡ length self.now.0 }
+        ensures found { Gains (asks_each spare letters.now) self.now.0 set.old found.old found.new }
+    {
+        let k = self.keep_first(letters, letters.len().saturating_sub(4), spare, set);
         let last = &letters[k..];
         if self.inserts_few(last, spare, set, found) {
             return;
@@ -111,23 +171,23 @@ impl<'a> LetterRows<'a> {
         Some((a, b, c, d))
     }
 
-    // Puts those of some texts that have each of the first of some letters: all but the last four at most, or fewer where these leave no
-    // text. Answers how many these first letters are.
-    fn put_front(
+    // Keeps of some texts those that have each of the first of some letters: of so many at least, or fewer where these leave no text.
+    // Answers how many.
+    fn keep_first(
         &self,
         letters: &[AskedLetter],
+        some: usize,
         spare: usize,
-        behind: &RowSet,
         set: &mut RowSet,
     ) -> usize
+        requires some { some ≤ length letters.now }
         requires places { All (λ a. IsWithin spare self.now.1 a) letters.now }
-        requires behind { length behind.now ≡ length self.now.0 }
-        requires set { length set.old ≡ length self.now.0 }
+        requires rows { length set.old ≡ length self.now.0 }
         ensures within { result ≤ length letters.now }
-        ensures kept { Keeps (asks_each spare (take result letters.now)) self.now.0 behind.now set.new }
+        ensures kept { Keeps (asks_each spare (take result letters.now)) self.now.0 set.old set.new }
     {
-        let mut k = self.put_first(letters, spare, behind, set);
-        while letters.len() - k > 4 && !set.has_none() {
+        let mut k = 0;
+        while k < some && !set.has_none() {
             k = self.keep_from(letters, k, spare, set);
         }
         k

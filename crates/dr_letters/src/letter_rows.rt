@@ -125,7 +125,7 @@ impl<'a> LetterRows<'a> {
     }
 
     // Whether any text may have a character at a place that fits a letter of a pattern.
-    fn may_have(&self, place: usize, letter: char) -> bool
+    pub(crate) fn may_have(&self, place: usize, letter: char) -> bool
         requires { place < self.now.1 }
         ensures { result ≡ false → (i : ℕ) (t : List ℕ) → i < length self.now.0 → first_and_rest (letter_fits letter) (λ more. true) (drop place (chars (get_or self.now.0 i t))) ≡ false }
     {

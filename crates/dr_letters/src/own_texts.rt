@@ -14,10 +14,15 @@ const LONG: usize = 1024;
 // And of one of so many, where the texts are few.
 const LONG_OF_FEW: usize = 64;
 
-// How many words are gone through in the time in which a piece of a pattern is looked for where the letters of a text stand, and from
-// character to character.
+// How many words are gone through in the time in which a text is asked where its letters stand, a piece of a pattern is looked for there, and
+// a letter of it more.
+const WORDS_A_TEXT: usize = 600;
+
 const WORDS_A_PIECE: usize = 64;
 
+const WORDS_A_LETTER: usize = 5;
+
+// And in the time in which a piece is looked for from character to character.
 const WORDS_A_PIECE_ELSE: usize = 96;
 
 // And in the time that a character of the text takes there, where there are gaps in the pieces, and where there are none.
@@ -109,18 +114,24 @@ impl<'a> OwnTexts<'a> {
         };
         let others = self.texts.len().saturating_sub(known);
         let other_bytes = self.bytes.saturating_sub(known_bytes);
-        let pieces = known
+        let a_text = shape
+            .pieces
             .saturating_mul(WORDS_A_PIECE)
-            .saturating_add(others.saturating_mul(WORDS_A_PIECE_ELSE))
-            .saturating_mul(shape.pieces);
-        let by_places = (known_bytes / 64).saturating_mul(shape.longest);
+            .saturating_add(shape.others().saturating_mul(WORDS_A_LETTER))
+            .saturating_add(WORDS_A_TEXT);
+        let by_places = (known_bytes / 64).saturating_mul(shape.others());
         let a_character = if shape.has_gaps {
             WORDS_A_CHARACTER
         } else {
             WORDS_A_CHARACTER_WITHOUT_GAPS
         };
-        pieces
+        let pieces = others
+            .saturating_mul(WORDS_A_PIECE_ELSE)
+            .saturating_mul(shape.pieces);
+        known
+            .saturating_mul(a_text)
             .saturating_add(by_places)
+            .saturating_add(pieces)
             .saturating_add(other_bytes.saturating_mul(a_character))
     }
 }

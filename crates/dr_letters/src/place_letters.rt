@@ -104,7 +104,9 @@ impl PlaceLetters {
         requires { 0 < code }
         ensures { result ≡ false → (is_common self.now.common.items code ≡ false) × (rank_of self.now.rare.ranks code ≡ None) }
     {
-        self.rare.has(code) || self.texts_with(code).is_some()
+        self.hinted_texts(code).is_some()
+            || self.rare.has(code)
+            || self.searched_texts(code).is_some()
     }
 
     // Keeps of some texts those that have the character with this code here. It takes time by the texts, 64 at once, and a logarithm of the

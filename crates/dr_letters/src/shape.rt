@@ -1,11 +1,14 @@
+use crate::counting::letter_count;
+
 // A piece without gaps of no more bytes is looked for as soon where the letters of a text stand as from character to character.
 const SHORT: usize = 8;
 
-/// What the time depends on in which a text is asked for a pattern: how many pieces it has between its runs, how many bytes the longest of
-/// these has, and whether one of them has a `_` behind its first other character.
+/// What the time depends on in which a text is asked for a pattern: how many pieces it has between its runs, how many characters these have
+/// together, how many bytes the longest of them has, and whether one of them has a `_` behind its first other character.
 #[derive(Drop)]
 pub struct Shape {
     pub pieces: usize,
+    pub letters: usize,
     pub longest: usize,
     pub has_gaps: bool,
 }
@@ -23,9 +26,15 @@ impl Shape {
         }
         Shape {
             pieces,
+            letters: letter_count(pattern),
             longest,
             has_gaps,
         }
+    }
+
+    // How many letters the pieces have besides one each.
+    pub fn others(&self) -> usize {
+        self.letters.saturating_sub(self.pieces)
     }
 
     // Whether a text is asked soonest by where its letters stand: a long piece without gaps is found from character to character in the

@@ -1,5 +1,5 @@
 -- Pieces of a pattern that stand at a place of a text.
-use Rattle.std.proofs.Common.{inl, inr, ◌≡◌, ◌≢◌, ◌∙◌, sym, refl, ap, subst, ℕ, zero, suc, ◌+◌, ◌-◌, ◌<◌, ◌≤◌, ◌==◌, ◌&&◌, ◌||◌, Bool, true, false, List, [], ◌∷◌, ◌++◌, length, drop, drop-drop, append-nil, arith}
+use Rattle.std.proofs.Common.{inl, inr, ◌≡◌, ◌≢◌, ◌∙◌, sym, refl, ap, subst, ℕ, zero, suc, ◌+◌, ◌-◌, ◌<◌, ◌≤◌, ◌==◌, ◌&&◌, ◌||◌, Bool, true, false, List, [], ◌∷◌, ◌++◌, length, get_or, drop, drop-drop, append-nil, arith}
 use Rattle.std.proofs.lemmas.Bool.{and_parts, and_right, cases_lt}
 use Rattle.std.proofs.lemmas.Bool.Decides.{nat_tests}
 use Rattle.std.proofs.lemmas.List.{length-drop}
@@ -131,3 +131,27 @@ end-stands p text from lacks within =
 pub end-short : (p text : List ℕ) (from : ℕ) → Lacks 37 p → length text - from < length p → false ≡ behind_some_run (fits p) (drop from text)
 end-short p text from lacks less =
     sym (ap (λ l. behind_some_run (fits l) (drop from text)) (sym (append-nil p)) ∙ too_short-later p [] (drop from text) lacks (omega (arith, less, length-drop from text)))
+
+-- ---- the letters of a piece, one after another
+
+-- the letter at a place, and those behind it
+pub begins-next : (i j : ℕ) (p t : List ℕ) → i < length p → j < length t
+    → begins (drop i p) (drop j t) ≡ (letter_fits (get_or p i 0) (get_or t j 0) && begins (drop (suc i) p) (drop (suc j) t))
+begins-next i j [] t lt within = absurd (omega (arith, lt))
+begins-next i j (c ∷ cs) [] lt within = absurd (omega (arith, within))
+begins-next zero zero (c ∷ cs) (d ∷ ds) lt within = refl
+begins-next (suc i) zero (c ∷ cs) (d ∷ ds) lt within = begins-next i zero cs (d ∷ ds) (omega (arith, lt)) (omega arith)
+begins-next zero (suc j) (c ∷ cs) (d ∷ ds) lt within = begins-next zero j (c ∷ cs) ds lt (omega (arith, within))
+begins-next (suc i) (suc j) (c ∷ cs) (d ∷ ds) lt within = begins-next (suc i) j (c ∷ cs) ds lt (omega (arith, within))
+
+-- a letter that fits tells nothing of the piece, and one that doesn't all
+pub begins-more : (k place : ℕ) (p t : List ℕ) → k < length p → place + k < length t → letter_fits (get_or p k 0) (get_or t (place + k) 0) ≡ true
+    → begins p (drop place t) ≡ begins (drop k p) (drop (place + k) t) → begins p (drop place t) ≡ begins (drop (k + 1) p) (drop (place + (k + 1)) t)
+begins-more k place p t lt within fit was =
+    let next : suc k ≡ k + 1 = omega arith in
+    let after : suc (place + k) ≡ place + (k + 1) = omega arith in
+    was ∙ begins-next k (place + k) p t lt within ∙ ap (λ b. b && begins (drop (suc k) p) (drop (suc (place + k)) t)) fit
+    ∙ ap (λ n. begins (drop n p) (drop (suc (place + k)) t)) next ∙ ap (λ n. begins (drop (k + 1) p) (drop n t)) after
+
+pub equal-fits : (letter c : ℕ) → c ≡ letter → letter_fits letter c ≡ true
+equal-fits letter c same = grind (arith, nat_tests, same)

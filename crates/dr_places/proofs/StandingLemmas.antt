@@ -1,11 +1,11 @@
 -- Sets of the places at which a piece stands.
-use Rattle.std.proofs.Common.{◌≡◌, ◌≢◌, ◌∙◌, sym, refl, ap, ap₂, subst, ℕ, zero, suc, ◌+◌, ◌-◌, ◌*◌, ◌/◌, ◌%◌, ◌^◌, ◌<◌, ◌≤◌, ◌==◌, ◌&&◌, Bool, true, false, List, [], ◌∷◌, length, get_or, drop, drop-drop, arith}
+use Rattle.std.proofs.Common.{◌≡◌, ◌≢◌, ◌∙◌, sym, refl, ap, ap₂, subst, ℕ, suc, ◌+◌, ◌-◌, ◌*◌, ◌/◌, ◌%◌, ◌^◌, ◌<◌, ◌≤◌, ◌==◌, ◌&&◌, Bool, true, false, List, length, get_or, drop, drop-drop, arith, Option, Some, None, MatchOption}
 use Rattle.std.proofs.lemmas.List.{drop_all}
 use Rattle.std.proofs.lemmas.Nat.{mod_below}
 use Rattle.dr_like.specs.Like.{letter_fits}
 use Rattle.dr_bits.proofs.BitLemmas.{bit-zero, bit-ones}
 use Rattle.dr_places.specs.Places.{has_bit, truth_in, begins, fits_comb, AreStanding, HoldJust, IsKept}
-use Rattle.dr_places.proofs.BeginLemmas.{any_letter, one_fits}
+use Rattle.dr_places.proofs.BeginLemmas.{any_letter, begins-next, one_fits}
 use Rattle.dr_places.proofs.DigitLemmas.{bits-from}
 use Rattle.dr_places.proofs.CombLemmas.{all_combs, comb-skipped, letter-behind, each-comb, some-comb}
 
@@ -96,15 +96,6 @@ led-none count place words piece text just full k lt =
     let here : place + k + 0 ≡ place + k = omega arith in
     ap (λ b. b && begins piece (drop (place + k + 0) text)) (ones words k (full (k / 64) (omega (arith, lt, just.1)))) ∙ ap (λ n. begins piece (drop n text)) here
 
--- one letter of a piece, and those behind it
-begins-here : (j x : ℕ) (ps t : List ℕ) → j < length ps → x < length t
-    → begins (drop j ps) (drop x t) ≡ (letter_fits (get_or ps j 0) (get_or t x 0) && begins (drop (suc j) ps) (drop (suc x) t))
-begins-here j x [] t lt within = absurd (omega (arith, lt))
-begins-here j x (p ∷ ps) [] lt within = absurd (omega (arith, within))
-begins-here zero zero (p ∷ ps) (c ∷ cs) lt within = refl
-begins-here (suc j) zero (p ∷ ps) (c ∷ cs) lt within = begins-here j zero ps (c ∷ cs) (omega (arith, lt)) (omega arith)
-begins-here j (suc x) (p ∷ ps) (c ∷ cs) lt within = begins-here j x (p ∷ ps) cs lt (omega (arith, within))
-
 pub led-more : (count first place : ℕ) (before after piece text : List ℕ) → first < length piece → ((k : ℕ) → k < count → place + first + k < length text)
     → ((k : ℕ) → k < count → truth_in after k ≡ (truth_in before k && letter_fits (get_or piece first 0) (get_or text (place + first + k) 0)))
     → AreLed before count first place piece text → AreLed after count (first + 1) place piece text
@@ -116,7 +107,7 @@ led-more count first place before after piece text lt within each was k less =
     ap₂ (λ n m. truth_in after k && begins (drop n piece) (drop m text)) one next
     ∙ ap (λ b. b && begins (drop (suc first) piece) (drop (suc x) text)) (each k less ∙ ap (λ n. truth_in before k && letter_fits (get_or piece first 0) (get_or text n 0)) there)
     ∙ turned (truth_in before k) (letter_fits (get_or piece first 0) (get_or text x 0)) (begins (drop (suc first) piece) (drop (suc x) text))
-    ∙ ap (λ b. truth_in before k && b) (sym (begins-here first x piece text lt (omega (arith, within k less)))) ∙ was k less
+    ∙ ap (λ b. truth_in before k && b) (sym (begins-next first x piece text lt (omega (arith, within k less)))) ∙ was k less
   where
     turned : (a b c : Bool) → ((a && b) && c) ≡ (a && (b && c))
     turned true b c = refl
@@ -130,7 +121,20 @@ led-all count first place words piece text le was k lt =
     kept true = refl
     kept false = refl
 
+pub led-others : (count first place : ℕ) (words piece text : List ℕ) → AreLed words count first place piece text → (k : ℕ) → k < count → truth_in words k ≡ false → begins piece (drop (place + k) text) ≡ false
+led-others count first place words piece text was k lt none = sym (was k lt) ∙ ap (λ b. b && begins (drop first piece) (drop (place + k + first) text)) none
+
 pub led-nowhere : (count first place : ℕ) (words piece text : List ℕ) → ((k : ℕ) → get_or words k 0 ≡ 0) → AreLed words count first place piece text → AreStanding words count place piece text
 led-nowhere count first place words piece text zeros was k lt =
     let none : truth_in words k ≡ false = ap (λ w. has_bit w (k % 64)) (zeros (k / 64)) ∙ bit-zero (k % 64) in
     none ∙ ap (λ b. b && begins (drop first piece) (drop (place + k + first) text)) (sym none) ∙ was k lt
+
+-- ---- the first place
+
+-- the first place of a set is the first at which the piece stands
+pub first-standing : (count place : ℕ) (words piece text : List ℕ) (found : Option ℕ) → AreStanding words count place piece text
+    → MatchOption found ((k : ℕ) → k < count → truth_in words k ≡ false) (λ b. (b < count) × (truth_in words b ≡ true) × ((k : ℕ) → k < b → truth_in words k ≡ false))
+    → MatchOption found ((k : ℕ) → k < count → begins piece (drop (place + k) text) ≡ false)
+    (λ b. (b < count) × (begins piece (drop (place + b) text) ≡ true) × ((k : ℕ) → k < b → begins piece (drop (place + k) text) ≡ false))
+first-standing count place words piece text None standing is = λ k lt. sym (standing k lt) ∙ is k lt
+first-standing count place words piece text (Some b) standing is = (is.0, sym (standing b is.0) ∙ is.1, λ k lt. sym (standing k (omega (arith, lt, is.0))) ∙ is.2 k lt)

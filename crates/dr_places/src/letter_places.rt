@@ -58,6 +58,13 @@ impl LetterPlaces {
         self.letters.len()
     }
 
+    // The characters of the text.
+    pub(crate) fn letters(&self) -> &[char]
+        ensures { result.now ≡ self.now }
+    {
+        self.letters.as_slice()
+    }
+
     // Keeps of some places, counted from lo on, in the words from one up to another, those where the text has a letter.
     pub(crate) fn keep(&self, words: &mut [u64], letter: char, lo: usize, from: usize, end: usize)
         requires order { from ≤ end }

@@ -10,6 +10,7 @@ mod letters;
 mod place_set;
 mod search;
 mod standing;
+mod trying;
 mod words;
 
 pub use by_places::fits_by_places;

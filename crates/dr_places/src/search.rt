@@ -4,7 +4,8 @@ ghost use Rattle.dr_like.specs.Pieces.{IsNowhere, IsBehindFirst};
 ghost use Rattle.dr_places.specs.Places.{begins, truth_in, HoldJust};
 
 use crate::letter_places::LetterPlaces;
-use crate::standing::put_standing;
+use crate::standing::{put_front, put_standing};
+use crate::trying::{are_few, first_left, stands_at};
 use crate::words::lowest_of;
 use dr_bits::is_set;
 
@@ -71,7 +72,8 @@ pub fn behind_piece(
     None
 }
 
-// The first of so many places, from one on, at which a piece of a pattern stands, counted from that one.
+// The first of so many places, from one on, at which a piece of a pattern stands, counted from that one. It is looked for by its first
+// letters, and where few places are left then, by the others at these alone.
 fn first_standing(
     places: &LetterPlaces,
     words: &mut [u64],
@@ -90,6 +92,18 @@ fn first_standing(
 {
     let end = (count - 1) / 64 + 1;
     let words = &mut words[..end];
+    if put_front(places, words, piece, place, count) == piece.len() {
+        return first_of(words, count);
+    }
+    if are_few(words) {
+        let k = first_left(places.letters(), words, piece, place, count);
+        if k == count {
+            return None;
+        }
+        if stands_at(places.letters(), piece, place + k) {
+            return Some(k);
+        }
+    }
     put_standing(places, words, &mut comb[..end + 1], piece, place, count);
     first_of(words, count)
 }

@@ -1,12 +1,16 @@
-ghost use Rattle.std.specs.Prelude.{◌≡◌, ◌≤◌, ◌<◌, ◌+◌, ◌-◌, ◌*◌, ◌/◌, ◌&&◌, ℕ, length, get_or, drop};
+ghost use Rattle.std.specs.Prelude.{◌≡◌, ◌≤◌, ◌<◌, ◌+◌, ◌-◌, ◌*◌, ◌/◌, ◌&&◌, ℕ, false, length, get_or, drop};
 ghost use Rattle.dr_like.specs.Like.{letter_fits};
-ghost use Rattle.dr_places.specs.Places.{AreStanding, HoldJust, truth_in, fits_comb};
+ghost use Rattle.dr_places.specs.Places.{AreStanding, HoldJust, begins, truth_in, fits_comb};
 
 use crate::letter_places::LetterPlaces;
+use crate::trying::are_few;
 use crate::words::{is_empty, keep_bits, put_words};
 
 // No letter of a piece of so many has another one that stands 64 behind it.
 const ONE_COMB_EACH: usize = 64;
+
+// By so many of its letters a piece is looked for first.
+const FRONT: usize = 8;
 
 // Makes a set of those of so many places of a text, the first of which is this one, at which a piece of a pattern stands. The places are
 // left where each 64th letter of the piece fits, from its first one on, from its second one on, and so on. Where no place is left, no
@@ -39,7 +43,39 @@ pub fn put_standing(
     }
 }
 
-// The same, letter by letter.
+// Makes a set of those of so many places of a text, the first of which is this one, at which the first letters of a piece of a pattern
+// stand: so many that few places are left, or eight that are no `_`, or all. Answers how many characters of the piece these are.
+pub fn put_front(
+    places: &LetterPlaces,
+    words: &mut [u64],
+    piece: &[char],
+    place: usize,
+    count: usize,
+) -> usize
+    requires within { place + count + length piece.now ≤ length places.now + 1 }
+    requires words { HoldJust count words.old }
+    ensures count { length words.new ≡ length words.old }
+    ensures whole { result ≡ length piece.now → AreStanding words.new count place piece.now places.now }
+    ensures others { (k : ℕ) → k < count → truth_in words.new k ≡ false → begins piece.now (drop (place + k) places.now) ≡ false }
+{
+    put_words(words, 0, words.len(), u64::MAX);
+    let mut asked = 0usize;
+    for first in 0..piece.len() {
+        prove!(piece.len() <= places.count());
+        prove!(place + first < places.count());
+        let end = words.len();
+        put_letter(places, words, piece[first], place + first, end);
+        if piece[first] != '_' {
+            asked = asked.saturating_add(1);
+            if asked == FRONT || are_few(words) {
+                return first + 1;
+            }
+        }
+    }
+    piece.len()
+}
+
+// The same of all letters, one by one.
 fn put_each(places: &LetterPlaces, words: &mut [u64], piece: &[char], place: usize, count: usize)
     requires within { place + count + length piece.now ≤ length places.now + 1 }
     requires words { HoldJust count words.old }

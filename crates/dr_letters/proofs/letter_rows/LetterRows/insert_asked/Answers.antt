@@ -1,29 +1,16 @@
-use Rattle.std.proofs.Common.{◌∙◌, subst, ap, length, drop}
-use Rattle.dr_letters.specs.Codes.{Keeps}
+use Rattle.std.proofs.Common.{subst}
 use Rattle.dr_letters.specs.Pieces.{asks_each, Gains}
-use Rattle.dr_letters.proofs.PieceLemmas.{gains-kept, gains-later, those-behind}
+use Rattle.dr_letters.proofs.PieceLemmas.{gains-later, those-behind}
 use Rattle.dr_letters.proofs.letter_rows.LetterRows.insert_asked.Goals as goal
-
-pub returns-then-inserts_few-2-clause-found : goal.returns-then-inserts_few-2-clause-found
-returns-then-inserts_few-2-clause-found c =
-    let texts = c.args.self.now.0 in
-    let letters = c.args.letters.now in
-    let k = c.put_front-k.result in
-    let set = c.put_front-k.new.set in
-    let after = c.inserts_few-2.new.found in
-    subst (λ b. Gains (asks_each c.args.spare letters) texts c.args.behind.now b after) (c.inserts_few.ensures.none c.if-inserts_few.false)
-    (gains-later c.args.spare letters k texts c.args.behind.now set c.inserts_few.new.found after c.put_front-k.ensures.kept
-    (subst (λ l. Gains (asks_each c.args.spare l) texts set c.inserts_few.new.found after) (those-behind letters k) (c.inserts_few-2.ensures.some c.if-inserts_few-2.true)))
 
 pub returns-clause-found : goal.returns-clause-found
 returns-clause-found c =
     let texts = c.args.self.now.0 in
     let letters = c.args.letters.now in
-    let k = c.put_front-k.result in
-    let set = c.put_front-k.new.set in
-    let found = c.inserts_few-2.new.found in
-    let same = c.inserts_few-2.ensures.none c.if-inserts_few-2.false ∙ c.inserts_few.ensures.none c.if-inserts_few.false in
-    let keeps = subst (λ l. Keeps (asks_each c.args.spare l) texts set c.keep_each.new.set) (those-behind letters k) c.keep_each.ensures in
-    subst (λ b. Gains (asks_each c.args.spare letters) texts c.args.behind.now b c.or.new.self) same
-    (gains-later c.args.spare letters k texts c.args.behind.now set found c.or.new.self c.put_front-k.ensures.kept
-    (gains-kept (asks_each c.args.spare (drop k letters)) texts set c.keep_each.new.set found c.or.new.self (c.put_front-k.ensures.kept.count ∙ c.requires.behind) (ap length same ∙ c.requires.found) keeps c.or.ensures))
+    let k = c.put_first-k.result in
+    let set = c.put_first-k.new.set in
+    let found = c.inserts_few.new.found in
+    let after = c.insert_more.new.found in
+    subst (λ b. Gains (asks_each c.args.spare letters) texts c.args.behind.now b after) (c.inserts_few.ensures.none c.if-inserts_few.false)
+    (gains-later c.args.spare letters k texts c.args.behind.now set found after c.put_first-k.ensures.kept
+    (subst (λ l. Gains (asks_each c.args.spare l) texts set found after) (those-behind letters k) c.insert_more.ensures.found))
