@@ -18,12 +18,14 @@ impl<'a> LetterRows<'a> {
     /// A letter of the pattern before its first `%` takes time by the texts, 64 at once, and where fewer than one text in 64 has it there twice
     /// that and a logarithm of the characters that so few have; each other one takes that as often as there are places where it may stand:
     /// one more than the places are that the pattern has no letter for. For each part behind a `%` it takes memory by a bit for each text.
-    /// Where letters leave no text, the next ones take no time, nor does a `_` that has another letter behind it; and nothing is asked at a
-    /// place where a letter stands that no text has there. A text that has more characters than places are known is asked by itself, as by
+    /// Where letters leave no text, the next ones take no time, nor does a `_` that has another letter behind it; and nothing is asked of a
+    /// part at a place where no text has one of its last four letters, or, of 4,096 texts or more, one of the others once these are asked. A
+    /// text that has more characters than places are known is asked by itself, as by
     /// [`LetterPlaces::fits`](dr_places::LetterPlaces::fits), where it is kept where its letters stand, and else as by
     /// [`fits_soonest`](dr_places::fits_soonest), unless those that are known tell whether it fits: of a pattern without `%`, or with one at
-    /// its end alone, that has no more letters than these. So is each text where that takes less time, as it does where a pattern has many
-    /// parts and the texts are few and long.
+    /// its end alone, that has no more letters than these. So is each text where that takes less time, as where a pattern has many parts and
+    /// the texts are few and long: that is reckoned from how many of each there are, and where it is close, from a look at sixteen of the
+    /// places, whether any text may have the last letters of the pattern there.
     pub fn fitting(&self, alloc: Global, pattern: &str) -> Result<RowSet, AllocError>
         ensures { IfOk result (λ s. Tell (λ t. fits (chars pattern.now) (chars t)) self.now.0 s) }
     {

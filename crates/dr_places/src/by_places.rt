@@ -31,7 +31,8 @@ impl LetterPlaces {
     /// It takes four bytes of memory for each letter of the longest piece between two `%`, and a bit or two for each character of the text.
     /// Its time is that of the bytes of the pattern, and for each letter of a piece that is no `_` that of the characters among which the
     /// piece is looked for, 64 of them at once: 64 at first, then twice as many, up to 32,768, until it is found, and no more once no place
-    /// is left; twice to four times that where a character of the text has a number of 128 or more.
+    /// is left; twice to four times that where a character of the text has a number of 128 or more. Where its first letters, eight of them at
+    /// most, leave four places or fewer, it is compared with the characters there one by one; where they leave more, they are asked once more.
     pub fn fits(&self, alloc: Global, pattern: &str) -> Result<bool, AllocError>
         ensures { IfOk result (λ found. found ≡ fits (chars pattern.now) self.now) }
     {

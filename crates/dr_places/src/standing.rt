@@ -60,15 +60,15 @@ pub fn put_front(
 {
     put_words(words, 0, words.len(), u64::MAX);
     let mut asked = 0usize;
-    for first in 0..piece.len() {
+    for k in 0..piece.len() {
         prove!(piece.len() <= places.count());
-        prove!(place + first < places.count());
-        let end = words.len();
-        put_letter(places, words, piece[first], place + first, end);
-        if piece[first] != '_' {
+        prove!(place + k < places.count());
+        let all = words.len();
+        put_letter(places, words, piece[k], place + k, all);
+        if piece[k] != '_' {
             asked = asked.saturating_add(1);
             if asked == FRONT || are_few(words) {
-                return first + 1;
+                return k + 1;
             }
         }
     }
