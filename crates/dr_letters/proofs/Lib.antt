@@ -1,5 +1,4 @@
 pub mod CodeLemmas
-pub mod OwnLemmas
 pub mod ReadLemmas
 pub mod RestLemmas
 pub mod RowLemmas

@@ -1,5 +1,5 @@
 -- Which of some texts a pattern fits from a place on. No public contract cites this file.
-use Rattle.std.specs.Prelude.{◌≡◌, ℕ, ◌+◌, ◌<◌, ◌==◌, Bool, if◌then◌else◌, ◌&&◌, not, List, [], ◌∷◌, length, get_or, drop, Option, None, IfSome}
+use Rattle.std.specs.Prelude.{◌≡◌, ℕ, ◌+◌, ◌<◌, ◌==◌, Bool, if◌then◌else◌, ◌&&◌, not, List, [], ◌∷◌, length, get_or, drop}
 use Rattle.std.specs.List.{All, list_any, AllByRecursion}
 use Rattle.std.specs.Str.{chars}
 use Rattle.dr_like.specs.Like.{fits, is_empty}
@@ -27,11 +27,6 @@ pub record AreRests (texts : List (List ℕ)) (place : ℕ) (rests : List Rest) 
 pub record AreLong (texts : List (List ℕ)) (places : ℕ) (long : List ℕ) : Type 0 where
   pub within : AllByRecursion (λ r. r < length texts) long
   pub each : (i : ℕ) (t : List ℕ) → i < length texts → list_any (λ r. r == i) long ≡ not (is_short places (get_or texts i t))
-
--- of each text its characters are known, or nothing
-pub record AreKnown (texts : List (List ℕ)) (known : List (Option (List ℕ))) : Type 0 where
-  pub count : length known ≡ length texts
-  pub each : (i : ℕ) → i < length texts → IfSome (get_or known i None) (λ characters. characters ≡ chars (get_or texts i []))
 
 -- how many letters of a pattern are one character each: all but `%`
 abbrev pub letters : List ℕ → ℕ

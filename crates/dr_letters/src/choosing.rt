@@ -1,6 +1,6 @@
 use crate::letter_rows::LetterRows;
-use crate::shape::Shape;
 use dr_like::split_last;
+use dr_places::Shape;
 
 // How many words of sets are told of in the time that is lost for each set, and for each place where a pattern may stand.
 const WORDS_A_SET: usize = 80;

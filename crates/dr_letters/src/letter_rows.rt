@@ -9,10 +9,9 @@ ghost use Rattle.dr_letters.specs.Places.{ArePlaces};
 ghost use Rattle.dr_letters.specs.States.{AreLong, is_short};
 
 use crate::asked_letter::AskedLetter;
-use crate::own_texts::OwnTexts;
 use crate::place_letters::PlaceLetters;
 use crate::reading::{parted, places_of};
-use crate::shape::Shape;
+use dr_places::{OwnTexts, Shape};
 use dr_rowindex::RowSet;
 use std::alloc::{AllocError, Global};
 use std::marker::Model;

@@ -10,7 +10,6 @@ mod counting;
 mod digit_sets;
 mod fitting;
 mod letter_rows;
-mod own_texts;
 mod piece;
 mod pieces;
 mod place_letters;
@@ -19,7 +18,6 @@ mod rare_codes;
 mod reading;
 mod rest;
 mod runs;
-mod shape;
 mod sought_piece;
 mod text_letter;
 

@@ -5,3 +5,4 @@ pub mod CombLemmas
 pub mod DigitLemmas
 pub mod LetterLemmas
 pub mod StandingLemmas
+pub mod OwnLemmas

@@ -4,7 +4,7 @@ use Rattle.std.specs.Str.{chars}
 use Rattle.std.proofs.Math.ListN.{get_or-append}
 use Rattle.std.proofs.Math.Seq.{get_or-append_seam}
 use Rattle.std.proofs.lemmas.Bool.{cases_lt}
-use Rattle.dr_letters.specs.States.{AreKnown}
+use Rattle.dr_places.specs.Texts.{AreKnown}
 
 abbrev pub IsKnown : (text : List ℕ) → Option (List ℕ) → Type 0
 IsKnown text own = IfSome own (λ characters. characters ≡ chars text)

@@ -1,10 +1,11 @@
 ghost use Rattle.std.specs.Prelude.{◌≡◌, ◌<◌, [], get_or, length, map, IfOk, IfSome};
 ghost use Rattle.std.specs.Str.{chars};
 ghost use Rattle.dr_like.specs.Like.{fits};
-ghost use Rattle.dr_letters.specs.States.{AreKnown};
+ghost use Rattle.dr_places.specs.Texts.{AreKnown};
 
+use crate::choosing::fits_soonest;
+use crate::letter_places::LetterPlaces;
 use crate::shape::Shape;
-use dr_places::{LetterPlaces, fits_soonest};
 use std::alloc::{AllocError, Global};
 use std::marker::Model;
 
@@ -44,7 +45,7 @@ pub struct OwnTexts<'a> {
 
 impl<'a> Model for OwnTexts<'a> {
     ghost use Rattle.std.specs.Prelude.{List, ℕ, map};
-    ghost use Rattle.dr_letters.specs.States.{AreKnown};
+    ghost use Rattle.dr_places.specs.Texts.{AreKnown};
 
     ghost Value = { List (List ℕ) };
 
@@ -54,8 +55,8 @@ impl<'a> Model for OwnTexts<'a> {
 }
 
 impl<'a> OwnTexts<'a> {
-    // Texts, the first of which is that of row 0. The only error is that memory ran out. It takes time by their bytes, and the memory of
-    // [`LetterPlaces`] for each of 1,024 bytes or more, and of 64 or more, where the square of their number is no more than twice their bytes.
+    /// Texts, the first of which is that of row 0. The only error is that memory ran out. It takes time by their bytes, and the memory of
+    /// [`LetterPlaces`] for each of 1,024 bytes or more, and of 64 or more, where the square of their number is no more than twice their bytes.
     pub fn of(alloc: Global, texts: Vec<&'a str>) -> Result<OwnTexts<'a>, AllocError>
         ensures { IfOk result (λ t. t ≡ map (λ t. t.now) texts.entry.items) }
     {
@@ -73,22 +74,23 @@ impl<'a> OwnTexts<'a> {
         })
     }
 
-    // The texts.
+    /// The texts. It takes constant time.
     pub fn as_slice(&self) -> &[&'a str]
         ensures { map (λ t. t.now) result.now ≡ self.now }
     {
         self.texts.as_slice()
     }
 
-    // How many texts there are.
+    /// How many texts there are. It takes constant time.
     pub fn len(&self) -> usize
         ensures { result ≡ length self.now }
     {
         self.texts.len()
     }
 
-    // Whether the text of a row fits a pattern. The only error is that memory ran out. It takes what [`LetterPlaces::fits`] does, where it
-    // is to be asked so and its places are known, and else what [`fits_soonest`] does.
+    /// Whether the text of a row fits a pattern of `like` (Apache Druid documentation, query filters: like). The only error is that memory
+    /// ran out. It takes what [`LetterPlaces::fits`] does, where it is to be asked so and it is kept where its letters stand, and else what
+    /// [`fits_soonest`] does.
     pub fn fits(
         &self,
         alloc: Global,
@@ -105,14 +107,14 @@ impl<'a> OwnTexts<'a> {
         }
     }
 
-    // How many words are gone through in about the time in which each text is asked for a pattern of such a shape.
+    /// How many words are gone through in about the time in which each text is asked for a pattern of such a shape. It takes constant time.
     pub fn words(&self, shape: &Shape) -> usize {
         let (known, known_bytes) = if shape.is_sooner_by_places() {
             (self.known, self.known_bytes)
         } else {
             (0, 0)
         };
-        let others = self.texts.len().saturating_sub(known);
+        let others = self.len().saturating_sub(known);
         let other_bytes = self.bytes.saturating_sub(known_bytes);
         let a_text = shape
             .pieces

@@ -1,8 +1,8 @@
 use Rattle.std.proofs.Common.{sym, subst, [], map, arith}
 use Rattle.std.proofs.Math.ListN.{get_or-map}
 use Rattle.std.proofs.lemmas.List.{length-map}
-use Rattle.dr_letters.proofs.OwnLemmas.{IsKnown, known-more, known-all}
-use Rattle.dr_letters.proofs.own_texts.places_of.Goals as goal
+use Rattle.dr_places.proofs.OwnLemmas.{IsKnown, known-more, known-all}
+use Rattle.dr_places.proofs.own_texts.places_of.Goals as goal
 
 pub loop-row-preserved : goal.loop-row-preserved
 loop-row-preserved c =

@@ -1,0 +1,8 @@
+-- Texts whose characters are known.
+use Rattle.std.specs.Prelude.{◌≡◌, ℕ, ◌<◌, List, [], length, get_or, Option, None, IfSome}
+use Rattle.std.specs.Str.{chars}
+
+-- of each text its characters are known, or nothing
+pub record AreKnown (texts : List (List ℕ)) (known : List (Option (List ℕ))) : Type 0 where
+  pub count : length known ≡ length texts
+  pub each : (i : ℕ) → i < length texts → IfSome (get_or known i None) (λ characters. characters ≡ chars (get_or texts i []))
