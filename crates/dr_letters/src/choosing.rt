@@ -1,6 +1,6 @@
 use crate::letter_rows::LetterRows;
 use dr_like::split_last;
-use dr_places::Shape;
+use dr_places::PatternShape;
 
 // How many words of sets are told of in the time that is lost for each set, and for each place where a pattern may stand.
 const WORDS_A_SET: usize = 80;
@@ -24,7 +24,7 @@ impl<'a> LetterRows<'a> {
     // Whether each text is asked by itself for a start of so many letters, a run and what follows it sooner than all texts at once: that
     // takes time by the places where each piece may stand, and this by the texts. It takes time by what follows.
     pub(crate) fn are_sooner_alone(&self, start: usize, more: &str) -> bool {
-        let shape = Shape::of(more);
+        let shape = PatternShape::of_pattern(more);
         let spares = self
             .place_count()
             .saturating_sub(start)

@@ -11,7 +11,7 @@ ghost use Rattle.dr_letters.specs.States.{AreLong, is_short};
 use crate::asked_letter::AskedLetter;
 use crate::place_letters::PlaceLetters;
 use crate::reading::{parted, places_of};
-use dr_places::{OwnTexts, Shape};
+use dr_places::{OwnTexts, PatternShape};
 use dr_rowindex::RowSet;
 use std::alloc::{AllocError, Global};
 use std::marker::Model;
@@ -51,9 +51,9 @@ impl<'a> LetterRows<'a> {
     pub fn of(alloc: Global, texts: Vec<&'a str>, most: usize) -> Result<LetterRows<'a>, AllocError>
         ensures { IfOk result (λ l. l.0 ≡ map (λ t. t.now) texts.entry.items) }
     {
-        let texts = OwnTexts::of(alloc, texts)?;
-        let (places, rests) = places_of(alloc, texts.as_slice(), most)?;
-        let (long, short) = parted(alloc, texts.len(), rests.as_slice())?;
+        let texts = OwnTexts::of_texts(alloc, texts)?;
+        let (places, rests) = places_of(alloc, texts.each_text(), most)?;
+        let (long, short) = parted(alloc, texts.text_count(), rests.as_slice())?;
         Ok(LetterRows {
             texts,
             places,
@@ -66,7 +66,7 @@ impl<'a> LetterRows<'a> {
     pub(crate) fn text_count(&self) -> usize
         ensures { result ≡ length self.now.0 }
     {
-        self.texts.len()
+        self.texts.text_count()
     }
 
     // How many bytes what is known of the places takes, about: as if the others took as much as the one in the middle. It takes constant
@@ -171,7 +171,7 @@ impl<'a> LetterRows<'a> {
     }
 
     // How many words are gone through in about the time that this takes for a pattern of such a shape.
-    pub(crate) fn words_alone(&self, shape: &Shape) -> usize {
+    pub(crate) fn words_alone(&self, shape: &PatternShape) -> usize {
         self.texts.words(shape)
     }
 
@@ -185,7 +185,7 @@ impl<'a> LetterRows<'a> {
         requires { Tell (λ t. is_short self.now.1 t && fits_of (chars pattern.now) (chars t)) self.now.0 set.old }
         ensures { OnOk result (Tell (λ t. fits_of (chars pattern.now) (chars t)) self.now.0 set.new) }
     {
-        let by_places = Shape::of(pattern).is_sooner_by_places();
+        let by_places = PatternShape::of_pattern(pattern).is_sooner_by_places();
         for row in &self.long {
             if self.texts.fits(alloc, *row, pattern, by_places)? {
                 set.insert(*row);
@@ -199,9 +199,9 @@ impl<'a> LetterRows<'a> {
 fn fitting_of(alloc: Global, pattern: &str, texts: &OwnTexts<'_>) -> Result<RowSet, AllocError>
     ensures { IfOk result (λ s. Tell (λ t. fits_of (chars pattern.now) (chars t)) texts.now s) }
 {
-    let by_places = Shape::of(pattern).is_sooner_by_places();
-    let mut set = RowSet::none(alloc, texts.len())?;
-    for row in 0..texts.len() {
+    let by_places = PatternShape::of_pattern(pattern).is_sooner_by_places();
+    let mut set = RowSet::none(alloc, texts.text_count())?;
+    for row in 0..texts.text_count() {
         if texts.fits(alloc, row, pattern, by_places)? {
             set.insert(row);
         }

@@ -5,7 +5,7 @@ ghost use Rattle.dr_places.specs.Texts.{AreKnown};
 
 use crate::choosing::fits_soonest;
 use crate::letter_places::LetterPlaces;
-use crate::shape::Shape;
+use crate::pattern_shape::PatternShape;
 use std::alloc::{AllocError, Global};
 use std::marker::Model;
 
@@ -57,7 +57,7 @@ impl<'a> Model for OwnTexts<'a> {
 impl<'a> OwnTexts<'a> {
     /// Texts, the first of which is that of row 0. The only error is that memory ran out. It takes time by their bytes, and the memory of
     /// [`LetterPlaces`] for each of 1,024 bytes or more, and of 64 or more, where the square of their number is no more than twice their bytes.
-    pub fn of(alloc: Global, texts: Vec<&'a str>) -> Result<OwnTexts<'a>, AllocError>
+    pub fn of_texts(alloc: Global, texts: Vec<&'a str>) -> Result<OwnTexts<'a>, AllocError>
         ensures { IfOk result (λ t. t ≡ map (λ t. t.now) texts.entry.items) }
     {
         let bytes = bytes_of(texts.as_slice(), 0);
@@ -75,14 +75,14 @@ impl<'a> OwnTexts<'a> {
     }
 
     /// The texts. It takes constant time.
-    pub fn as_slice(&self) -> &[&'a str]
+    pub fn each_text(&self) -> &[&'a str]
         ensures { map (λ t. t.now) result.now ≡ self.now }
     {
         self.texts.as_slice()
     }
 
     /// How many texts there are. It takes constant time.
-    pub fn len(&self) -> usize
+    pub fn text_count(&self) -> usize
         ensures { result ≡ length self.now }
     {
         self.texts.len()
@@ -108,13 +108,13 @@ impl<'a> OwnTexts<'a> {
     }
 
     /// How many words are gone through in about the time in which each text is asked for a pattern of such a shape. It takes constant time.
-    pub fn words(&self, shape: &Shape) -> usize {
+    pub fn words(&self, shape: &PatternShape) -> usize {
         let (known, known_bytes) = if shape.is_sooner_by_places() {
             (self.known, self.known_bytes)
         } else {
             (0, 0)
         };
-        let others = self.len().saturating_sub(known);
+        let others = self.text_count().saturating_sub(known);
         let other_bytes = self.bytes.saturating_sub(known_bytes);
         let a_text = shape
             .pieces

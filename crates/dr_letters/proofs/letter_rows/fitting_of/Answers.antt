@@ -11,7 +11,7 @@ loop-row-preserved c =
     let at = c.loop-row in
     let texts = c.args.texts.now in
     let pattern = chars c.args.pattern.now in
-    let lt : at.row < length texts = omega (arith, c.loop-row-test.true, at.auto.row-end, c.len-row-end.ensures) in
+    let lt : at.row < length texts = omega (arith, c.loop-row-test.true, at.auto.row-end, c.text_count-row-end.ensures) in
     let each : (t : List ℕ) → fits pattern (chars (get_or texts at.row t)) ≡ c.in_ok-fits.field-0
     = λ t. ap (λ x. fits pattern (chars x)) (get_or_default texts at.row t [] lt) ∙ sym c.in_ok-fits.ensures in
     elim c.if-branch.branch [

@@ -4,16 +4,16 @@ const SHORT: usize = 8;
 /// What the time depends on in which a text is asked for a pattern: how many pieces it has between its runs, how many characters these have
 /// together, how many bytes the longest of them has, and whether one of them has a `_` behind its first other character.
 #[derive(Drop)]
-pub struct Shape {
+pub struct PatternShape {
     pub pieces: usize,
     pub letters: usize,
     pub longest: usize,
     pub has_gaps: bool,
 }
 
-impl Shape {
+impl PatternShape {
     /// The shape of a pattern. It takes time by its bytes.
-    pub fn of(pattern: &str) -> Shape {
+    pub fn of_pattern(pattern: &str) -> PatternShape {
         let mut pieces = 0usize;
         let mut letters = 0usize;
         let mut longest = 0usize;
@@ -24,7 +24,7 @@ impl Shape {
             longest = longest.max(piece.len());
             has_gaps = has_gaps || piece.trim_start_matches('_').contains('_');
         }
-        Shape {
+        PatternShape {
             pieces,
             letters,
             longest,
