@@ -1,6 +1,6 @@
-//! The bits of a word of 64, counted from the lowest.
+//! The bits of words of 64, counted from the lowest.
 #![tactic(auto)]
 
 mod bits;
 
-pub use bits::{is_set, with_bit};
+pub use bits::{first_bit, is_set, with_bit};

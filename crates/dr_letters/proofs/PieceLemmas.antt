@@ -1,6 +1,7 @@
 -- Patterns by their pieces.
-use Rattle.std.proofs.Common.{◌≡◌, ◌∙◌, sym, refl, ap, ℕ, zero, suc, ◌+◌, ◌-◌, ◌<◌, ◌≤◌, ◌==◌, ◌&&◌, ◌||◌, Bool, true, false, List, [], ◌∷◌, ◌++◌, length, get_or, take, drop, map, replicate, arith}
+use Rattle.std.proofs.Common.{inl, inr, ◌≡◌, ◌≢◌, ◌∙◌, sym, refl, ap, subst, ℕ, zero, suc, ◌+◌, ◌-◌, ◌<◌, ◌≤◌, ◌==◌, ◌&&◌, ◌||◌, Bool, true, false, List, [], ◌∷◌, ◌++◌, length, get_or, take, drop, map, replicate, nat_eq, arith}
 use Rattle.std.specs.Str.{chars}
+use Rattle.std.proofs.lemmas.Bool.{cases_lt}
 use Rattle.std.proofs.lemmas.List.{length-drop, length-replicate, get_or-replicate, take_more, append_assoc, append-nil}
 use Rattle.dr_like.specs.Like.{fits, is_empty, letter_fits, first_and_rest}
 use Rattle.dr_like.proofs.Runs.{same_behind, two_runs}
@@ -351,3 +352,57 @@ module _ (asked : List ℕ → Bool) (start pattern : List ℕ) (count : ℕ) (p
     each = λ i t lt. ap (λ l. get_or l i false) is' ∙ get_or-replicate n i false false (omega (arith, lt, rows))
         ∙ sym (at_start (get_or texts i t) ∙ ap (λ b. fits_from asked pattern count (get_or texts i t) && b) (fails i t lt) ∙ and_never (fits_from asked pattern count (get_or texts i t)));
   }
+
+-- ---- one text after another
+
+-- of the first so many texts it was told which are added
+pub record GainsTo (row : ℕ) (test : List ℕ → Bool) (texts : List (List ℕ)) (set before after : List Bool) : Type 0 where
+  pub count : length after ≡ length before
+  pub each : (i : ℕ) (t : List ℕ) → i < row → i < length texts → get_or after i false ≡ (get_or before i false || (get_or set i false && test (get_or texts i t)))
+  pub others : (i : ℕ) → row ≤ i → get_or after i false ≡ get_or before i false
+
+pub gains-to-none : (test : List ℕ → Bool) (texts : List (List ℕ)) (set before : List Bool) → GainsTo 0 test texts set before before
+gains-to-none test texts set before = record { count = refl; each = λ i t lt within. absurd (omega (arith, lt)); others = λ i le. refl }
+
+pub gains-to-more : (row next : ℕ) (test : List ℕ → Bool) (texts : List (List ℕ)) (set before between after : List Bool) (told : Bool) → row ≤ next → get_or set next false ≡ true
+    → ((j : ℕ) → row ≤ j → j < next → get_or set j false ≡ false) → ((t : List ℕ) → told ≡ test (get_or texts next t)) → length after ≡ length between
+    → get_or after next false ≡ (get_or between next false || told) → ((i : ℕ) → i ≢ next → get_or after i false ≡ get_or between i false)
+    → GainsTo row test texts set before between → GainsTo (next + 1) test texts set before after
+gains-to-more row next test texts set before between after told le here none is long one same was = record {
+  count = long ∙ was.count;
+  each = λ i t lt within. elim (cases_lt i row) [
+    | inl less ↦ same i (λ e. absurd (omega (arith, less, le, e))) ∙ was.each i t less within
+    | inr more ↦ elim (cases_lt i next) [
+      | inl less ↦ same i (λ e. absurd (omega (arith, less, e))) ∙ was.others i more ∙ or_false (get_or before i false) ∙ ap (λ b. get_or before i false || (b && test (get_or texts i t))) (sym (none i more less))
+      | inr past ↦ (let last : next ≡ i = omega (arith, lt, past) in
+          subst (λ n. get_or after n false ≡ (get_or before n false || (get_or set n false && test (get_or texts n t)))) last
+          (one ∙ ap (λ b. b || told) (was.others next le) ∙ ap (λ b. get_or before next false || b) (is t ∙ ap (λ b. b && test (get_or texts next t)) (sym here))))
+    ]
+  ];
+  others = λ i past. same i (λ e. absurd (omega (arith, past, e))) ∙ was.others i (omega (arith, past, le));
+}
+
+pub gains-to-all : (row : ℕ) (test : List ℕ → Bool) (texts : List (List ℕ)) (set before after : List Bool) → ((k : ℕ) → row ≤ k → get_or set k false ≡ false) → GainsTo row test texts set before after → Gains test texts set before after
+gains-to-all row test texts set before after none was = record {
+  count = was.count;
+  each = λ i t lt. elim (cases_lt i row) [
+    | inl less ↦ was.each i t less lt
+    | inr more ↦ was.others i more ∙ or_false (get_or before i false) ∙ ap (λ b. get_or before i false || (b && test (get_or texts i t))) (sym (none i more))
+  ];
+}
+
+-- ---- one letter of one text
+
+pub stands-at : (letter place : ℕ) (cs : List ℕ) → place < length cs → letter_fits letter (get_or cs place 0) ≡ first_and_rest (letter_fits letter) (λ more. true) (drop place cs)
+stands-at letter place [] lt = absurd (omega (arith, lt))
+stands-at letter zero (c ∷ cs) lt = and_true (letter_fits letter c)
+stands-at letter (suc place) (c ∷ cs) lt = stands-at letter place cs (omega (arith, lt))
+
+pub stands-past : (letter place : ℕ) (cs : List ℕ) → length cs ≤ place → false ≡ first_and_rest (letter_fits letter) (λ more. true) (drop place cs)
+stands-past letter zero [] le = refl
+stands-past letter (suc place) [] le = refl
+stands-past letter zero (c ∷ cs) le = absurd (omega (arith, le))
+stands-past letter (suc place) (c ∷ cs) le = stands-past letter place cs (omega (arith, le))
+
+pub stands-any : (letter place : ℕ) (cs : List ℕ) → letter ≡ 95 → place < length cs → nat_eq letter 95 ≡ first_and_rest (letter_fits letter) (λ more. true) (drop place cs)
+stands-any letter place cs any lt = subst (λ n. nat_eq n 95 ≡ first_and_rest (letter_fits n) (λ more. true) (drop place cs)) (sym any) (stands-at 95 place cs lt)

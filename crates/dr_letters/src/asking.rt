@@ -15,6 +15,9 @@ const FIRST: usize = 4;
 // Of so many texts.
 const MANY: usize = 4096;
 
+// Where so many letters are left to be asked, and no more texts than letters, each of these is asked by itself.
+const ENOUGH: usize = 8;
+
 impl<'a> LetterRows<'a> {
     // Adds those of some texts that have each of some letters of a pattern where it is asked while so many places are to spare. What is in
     // the set that is lent for it isn't asked.
@@ -67,7 +70,28 @@ impl<'a> LetterRows<'a> {
         if set.has_none() || !self.may_go_on(more, spare) {
             return;
         }
+        if more.len() >= ENOUGH && are_at_most(more.len(), set) {
+            self.insert_each(more, spare, set, found);
+            return;
+        }
         self.insert_rest(more, spare, set, found);
+    }
+
+    // Adds those of some texts that have each of some letters, each of which is asked by itself.
+    fn insert_each(&self, letters: &[AskedLetter], spare: usize, set: &RowSet, found: &mut RowSet)
+        requires places { All (λ a. IsWithin spare self.now.1 a) letters.now }
+        requires set { length set.now ≡ length self.now.0 }
+        requires found { length found.old ≡ length self.now.0 }
+        ensures { Gains (asks_each spare letters.now) self.now.0 set.now found.old found.new }
+    {
+        let mut row = 0;
+        while let Some(next) = set.first_from(row) {
+            if self.has_each(next, letters, spare) {
+                found.insert(next);
+            }
+            prove!(next < self.text_count());
+            row = next + 1;
+        }
     }
 
     // Whether any text may have each of some letters that are asked next. It takes time by these. Of fewer texts nothing is looked at, since
@@ -279,4 +303,16 @@ impl<'a> LetterRows<'a> {
         let d = self.texts_at(&letters[k + 3], spare)?;
         Some((a, b, c, d))
     }
+}
+
+// Whether a set has so many texts at most. It takes time by these, and by the texts, 64 at once.
+fn are_at_most(most: usize, set: &RowSet) -> bool {
+    let mut row = 0;
+    for _ in 0..most {
+        match set.first_from(row) {
+            Some(next) => row = next.saturating_add(1),
+            None => return true,
+        }
+    }
+    set.first_from(row).is_none()
 }

@@ -110,6 +110,15 @@ impl<'a> LetterRows<'a> {
         Some(sets)
     }
 
+    // Whether a text has each of some letters of a pattern where it is asked. It takes time by the letters.
+    pub(crate) fn has_each(&self, row: usize, letters: &[AskedLetter], spare: usize) -> bool
+        requires row { row < length self.now.0 }
+        requires places { All (λ a. IsWithin spare self.now.1 a) letters.now }
+        ensures { (t : List ℕ) → result ≡ asks_each spare letters.now (get_or self.now.0 row t) }
+    {
+        stand_in(self.texts.letters_at(row), letters, spare)
+    }
+
     // Whether any text may have each of some letters of a pattern where it is asked. It takes time by the letters.
     pub(crate) fn may_have_each(&self, letters: &[AskedLetter], spare: usize) -> bool
         requires { All (λ a. IsWithin spare self.now.1 a) letters.now }
@@ -193,6 +202,30 @@ impl<'a> LetterRows<'a> {
         }
         Ok(())
     }
+}
+
+// Whether a text has each of some letters of a pattern where it is asked.
+fn stand_in(own: &[char], letters: &[AskedLetter], spare: usize) -> bool
+    requires { All (λ a. spare ≤ a.place) letters.now }
+    ensures { (t : List ℕ) → own.now ≡ chars t → result ≡ asks_each spare letters.now t }
+{
+    for k in 0..letters.len() {
+        let asked = &letters[k];
+        if !stands_in(own, asked.place - spare, asked.letter) {
+            return false;
+        }
+    }
+    true
+}
+
+// Whether a text has a character at a place that fits a letter of a pattern.
+fn stands_in(own: &[char], place: usize, letter: char) -> bool
+    ensures { result ≡ first_and_rest (letter_fits letter) (λ more. true) (drop place own.now) }
+{
+    if place >= own.len() {
+        return false;
+    }
+    letter == '_' || own[place] == letter
 }
 
 // Those of some texts that fit a pattern.

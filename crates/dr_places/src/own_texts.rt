@@ -1,10 +1,11 @@
 ghost use Rattle.std.specs.Prelude.{◌≡◌, ◌<◌, [], get_or, length, map, IfOk, IfSome};
 ghost use Rattle.std.specs.Str.{chars};
 ghost use Rattle.dr_like.specs.Like.{fits};
-ghost use Rattle.dr_places.specs.Texts.{AreKnown};
+ghost use Rattle.dr_places.specs.Texts.{AreKnown, AreSpelled};
 
 use crate::choosing::fits_soonest;
 use crate::letter_places::LetterPlaces;
+use crate::letters::letters_of;
 use crate::pattern_shape::PatternShape;
 use std::alloc::{AllocError, Global};
 use std::marker::Model;
@@ -31,10 +32,11 @@ const WORDS_A_CHARACTER: usize = 4;
 
 const WORDS_A_CHARACTER_WITHOUT_GAPS: usize = 1;
 
-/// Texts that are asked one by one, with the places of the letters of those that are long. A contract sees the texts.
+/// Texts that are asked one by one, with their characters, and the places of the letters of those that are long. A contract sees the texts.
 #[derive(Drop)]
 pub struct OwnTexts<'a> {
     texts: Vec<&'a str>,
+    letters: Vec<Vec<char>>,
     places: Vec<Option<LetterPlaces>>,
     // How many texts have places that are known, and their bytes.
     known: usize,
@@ -45,28 +47,30 @@ pub struct OwnTexts<'a> {
 
 impl<'a> Model for OwnTexts<'a> {
     ghost use Rattle.std.specs.Prelude.{List, ℕ, map};
-    ghost use Rattle.dr_places.specs.Texts.{AreKnown};
+    ghost use Rattle.dr_places.specs.Texts.{AreKnown, AreSpelled};
 
     ghost Value = { List (List ℕ) };
 
     ghost view = { λ t. map (λ t. t.now) t.texts.items };
 
-    ghost invariant = { λ t. AreKnown (map (λ t. t.now) t.texts.items) t.places.items };
+    ghost invariant = { λ t. AreSpelled (map (λ t. t.now) t.texts.items) t.letters.items × AreKnown (map (λ t. t.now) t.texts.items) t.places.items };
 }
 
 impl<'a> OwnTexts<'a> {
-    /// Texts, the first of which is that of row 0. The only error is that memory ran out. It takes time by their bytes, and the memory of
-    /// [`LetterPlaces`] for each of 1,024 bytes or more, and of 64 or more, where the square of their number is no more than twice their bytes.
+    /// Texts, the first of which is that of row 0. The only error is that memory ran out. It takes time by their bytes, and memory
+    /// by four bytes for each character, and that of [`LetterPlaces`] for each of 1,024 bytes or more, and of 64 or more, where the square of their number is no more than twice their bytes.
     pub fn of_texts(alloc: Global, texts: Vec<&'a str>) -> Result<OwnTexts<'a>, AllocError>
         ensures { IfOk result (λ t. t ≡ map (λ t. t.now) texts.entry.items) }
     {
         let bytes = bytes_of(texts.as_slice(), 0);
         let least = least_of(texts.len(), bytes);
+        let letters = letters_of_each(alloc, texts.as_slice())?;
         let places = places_of(alloc, texts.as_slice(), least)?;
         let known = count_of(texts.as_slice(), least);
         let known_bytes = bytes_of(texts.as_slice(), least);
         Ok(OwnTexts {
             texts,
+            letters,
             places,
             known,
             known_bytes,
@@ -86,6 +90,14 @@ impl<'a> OwnTexts<'a> {
         ensures { result ≡ length self.now }
     {
         self.texts.len()
+    }
+
+    /// The characters of the text of a row. It takes constant time.
+    pub fn letters_at(&self, row: usize) -> &[char]
+        requires { row < length self.now }
+        ensures { result.now ≡ chars (get_or self.now row []) }
+    {
+        self.letters[row].as_slice()
     }
 
     /// Whether the text of a row fits a pattern of `like` (Apache Druid documentation, query filters: like). The only error is that memory
@@ -167,6 +179,18 @@ fn bytes_of(texts: &[&str], least: usize) -> usize {
         }
     }
     bytes
+}
+
+// The characters of each text.
+fn letters_of_each(alloc: Global, texts: &[&str]) -> Result<Vec<Vec<char>>, AllocError>
+    ensures { IfOk result (λ letters. AreSpelled (map (λ t. t.now) texts.now) letters.items) }
+{
+    let mut letters = Vec::with_capacity(alloc, texts.len())?;
+    for row in 0..texts.len() {
+        let own = letters_of(alloc, texts[row])?;
+        letters.push(own)?;
+    }
+    Ok(letters)
 }
 
 // The places of the texts that have so many bytes.

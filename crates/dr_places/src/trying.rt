@@ -1,7 +1,7 @@
 ghost use Rattle.std.specs.Prelude.{◌≡◌, ◌≤◌, ◌<◌, ◌+◌, ◌*◌, ℕ, false, length, drop};
 ghost use Rattle.dr_places.specs.Places.{begins, truth_in};
 
-use dr_bits::is_set;
+use dr_bits::first_bit;
 
 // Where the first letters of a piece stand at so many places at most, it is tried at each whether the others do.
 const TRIES: usize = 4;
@@ -50,22 +50,13 @@ pub fn first_left(
 fn next_in(words: &[u64], from: usize, count: usize) -> usize
     requires from { from ≤ count }
     requires words { count ≤ 64 * length words.now }
-    ensures from { from ≤ result }
     ensures within { result ≤ count }
     ensures before { (k : ℕ) → from ≤ k → k < result → truth_in words.now k ≡ false }
 {
-    let mut k = from;
-    while k < count {
-        let word = words[k / 64];
-        if word == 0 {
-            k = count.min(k.saturating_add(64 - k % 64));
-        } else if is_set(word, k % 64) {
-            return k;
-        } else {
-            k += 1;
-        }
+    match first_bit(words, from, count) {
+        Some(k) => k,
+        None => count,
     }
-    count
 }
 
 // Whether a piece of a pattern stands at a place of a text, letter by letter.

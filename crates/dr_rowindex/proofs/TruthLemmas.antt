@@ -1,6 +1,6 @@
 -- Truths that are kept as the bits of words.
-use Rattle.std.proofs.Common.{inl, inr, ◌≡◌, ◌∙◌, sym, refl, ap, subst, ℕ, ◌+◌, ◌*◌, ◌/◌, ◌%◌, ◌<◌, ◌≤◌, ◌≢◌, ◌&&◌, ◌||◌, Bool, true, false, List, length, get_or, set, replicate, arith}
-use Rattle.std.proofs.lemmas.Bool.{cases_eq}
+use Rattle.std.proofs.Common.{inl, inr, ◌≡◌, ◌∙◌, sym, refl, ap, subst, ℕ, ◌+◌, ◌*◌, ◌/◌, ◌%◌, ◌<◌, ◌≤◌, ◌≢◌, ◌&&◌, ◌||◌, Bool, true, false, List, length, get_or, set, replicate, arith, Option, Some, None, MatchOption}
+use Rattle.std.proofs.lemmas.Bool.{cases_eq, cases_lt}
 use Rattle.std.proofs.lemmas.List.{length-set, get_or-set_same, get_or-set_other, get_or-replicate, get_or_past, length-replicate, ext_get_or}
 use Rattle.std.proofs.lemmas.List.FromFn.{length-map-range_with_len, get_or-map-range_with_len}
 use Rattle.std.proofs.lemmas.Nat.{div_below, mod_below, div-add-mod'}
@@ -233,3 +233,19 @@ sets-put self o a b c d ws ows aws bws cws dws after n ne na nb nc nd is iso isa
     truth-at after n i lt'
     ∙ ap (λ w. has_bit w (i % 64)) (each (i / 64) (word-within n i (length ws) lt' long))
     ∙ met_seen o a b c d ows aws bws cws dws n ne na nb nc nd iso isa isb isc isd se sa sb sc sd i lt'
+
+-- the first bit from one on is the first row that is told to be in the set
+pub first-row : (words : List ℕ) (count row : ℕ) (self : List Bool) (found : Option ℕ) → truths words count ≡ self
+    → MatchOption found ((k : ℕ) → row ≤ k → k < count → truth_in words k ≡ false) (λ k. (row ≤ k) × (k < count) × (truth_in words k ≡ true) × ((j : ℕ) → row ≤ j → j < k → truth_in words j ≡ false))
+    → MatchOption found ((k : ℕ) → row ≤ k → get_or self k false ≡ false) (λ k. (row ≤ k) × (k < length self) × (get_or self k false ≡ true) × ((j : ℕ) → row ≤ j → j < k → get_or self j false ≡ false))
+first-row words count row self None same is = λ k le. ap (λ l. get_or l k false) (sym same) ∙ elim (cases_lt k count) [
+  | inl lt ↦ truth-at words count k lt ∙ is k le lt
+  | inr ge ↦ sym (truth-behind words count k ge)
+]
+first-row words count row self (Some k) same is =
+    let long : length self ≡ count = ap length (sym same) ∙ length-truths words count in (
+      is.0,
+      omega (arith, is.1, long),
+      ap (λ l. get_or l k false) (sym same) ∙ truth-at words count k is.1 ∙ is.2,
+      λ j le lt. ap (λ l. get_or l j false) (sym same) ∙ truth-at words count j (omega (arith, lt, is.1)) ∙ is.3 j le lt,
+    )

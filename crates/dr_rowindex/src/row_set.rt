@@ -1,11 +1,11 @@
-ghost use Rattle.std.specs.Prelude.{◌≡◌, ◌<◌, ◌&&◌, ◌||◌, ℕ, Bool, true, false, not, length, get_or, set, replicate, IfOk};
+ghost use Rattle.std.specs.Prelude.{◌≡◌, ◌<◌, ◌≤◌, ◌&&◌, ◌||◌, ℕ, Bool, true, false, not, length, get_or, set, replicate, IfOk, MatchOption};
 ghost use Rattle.dr_rowindex.specs.Truths.{Joined};
 
 use crate::words::{
     add_bits, add_bits_of_five, add_bits_of_three, drop_bits, keep_bits, keep_bits_of_four,
     put_bits_of_five,
 };
-use dr_bits::{is_set, with_bit};
+use dr_bits::{first_bit, is_set, with_bit};
 use std::alloc::{AllocError, Global};
 use std::marker::Model;
 
@@ -241,6 +241,13 @@ impl RowSet {
             return false;
         }
         is_set(self.words[row / 64], row % 64)
+    }
+
+    /// The first row of the set from one on. It takes time by the rows before it, 64 at once.
+    pub fn first_from(&self, row: usize) -> Option<usize>
+        ensures { MatchOption result ((k : ℕ) → row ≤ k → get_or self.now k false ≡ false) (λ k. (row ≤ k) × (k < length self.now) × (get_or self.now k false ≡ true) × ((j : ℕ) → row ≤ j → j < k → get_or self.now j false ≡ false)) }
+    {
+        first_bit(self.words.as_slice(), row, self.count)
     }
 
     /// Whether it is known that no row is in the set: of one that was made by `none`, where no row was put in since, and where `and`,

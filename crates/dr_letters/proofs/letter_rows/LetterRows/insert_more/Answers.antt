@@ -28,3 +28,14 @@ returns-clause-found c =
     let after = c.insert_rest.new.found in
     gains-later c.args.spare letters k texts c.args.set.now set c.args.found.now after c.keep_first-k.ensures.kept
     (subst (λ l. Gains (asks_each c.args.spare l) texts set c.args.found.now after) (those-behind letters k) c.insert_rest.ensures.found)
+
+-- where fewer texts are left than letters, each is asked by itself
+pub returns-then-are_at_most-clause-found : goal.returns-then-are_at_most-clause-found
+returns-then-are_at_most-clause-found c =
+    let texts = c.args.self.now.0 in
+    let letters = c.args.letters.now in
+    let k = c.keep_first-k.result in
+    let set = c.keep_first-k.new.set in
+    let after = c.insert_each.new.found in
+    gains-later c.args.spare letters k texts c.args.set.now set c.args.found.now after c.keep_first-k.ensures.kept
+    (subst (λ l. Gains (asks_each c.args.spare l) texts set c.args.found.now after) (those-behind letters k) c.insert_each.ensures)
