@@ -44,9 +44,9 @@ impl<'a> Model for LetterRows<'a> {
 impl<'a> LetterRows<'a> {
     /// Texts, the first of which is that of row 0, with their characters, place by place, as far as one text in 256 has any there, 4,096
     /// places at most, and until these take so many bytes. The only error is that memory ran out. It takes n log n in the characters, and
-    /// memory by a bit for each text at each place for each character that one text in 64 has there, and for each of about twice the square
-    /// root of the others, of which each takes some 24 bytes more. Of a text of 1,024 bytes or more, or of 64 where the square of their number
-    /// is no more than twice their bytes, it is kept too where its letters stand, in the time and memory of
+    /// memory by four bytes for each of them, and by a bit for each text at each place for each character that one text in 64 has there, and
+    /// for each of about twice the square root of the others, of which each takes some 24 bytes more. Of a text of 1,024 bytes or more, or of
+    /// 64 where the square of their number is no more than twice their bytes, it is kept too where its letters stand, in the time and memory of
     /// [`LetterPlaces::of`](dr_places::LetterPlaces::of).
     pub fn of(alloc: Global, texts: Vec<&'a str>, most: usize) -> Result<LetterRows<'a>, AllocError>
         ensures { IfOk result (λ l. l.0 ≡ map (λ t. t.now) texts.entry.items) }
