@@ -57,8 +57,9 @@ impl<'a> Model for OwnTexts<'a> {
 }
 
 impl<'a> OwnTexts<'a> {
-    /// Texts, the first of which is that of row 0. The only error is that memory ran out. It takes time by their bytes, and memory
-    /// by four bytes for each character, and that of [`LetterPlaces`] for each of 1,024 bytes or more, and of 64 or more, where the square of their number is no more than twice their bytes.
+    /// Texts, the first of which is that of row 0. The only error is that memory ran out. It takes time by their bytes, and memory by
+    /// four bytes for each character, and that of [`LetterPlaces`] for each of 1,024 bytes or more, and of 64 or more, where the square of
+    /// their number is no more than twice their bytes.
     pub fn of_texts(alloc: Global, texts: Vec<&'a str>) -> Result<OwnTexts<'a>, AllocError>
         ensures { IfOk result (λ t. t ≡ map (λ t. t.now) texts.entry.items) }
     {
