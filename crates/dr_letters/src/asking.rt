@@ -12,7 +12,7 @@ use dr_rowindex::RowSet;
 // So many letters of a piece are asked before it is looked whether any text may have the others.
 const FIRST: usize = 4;
 
-// Of so many texts.
+// It is looked where there are so many texts: of fewer it takes as long to ask the letters.
 const MANY: usize = 4096;
 
 // Where so many letters are left to be asked, and no more texts than letters, each of these is asked by itself.

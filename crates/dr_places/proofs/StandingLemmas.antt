@@ -133,8 +133,8 @@ led-nowhere count first place words piece text zeros was k lt =
 
 -- the first place of a set is the first at which the piece stands
 pub first-standing : (count place : ℕ) (words piece text : List ℕ) (found : Option ℕ) → AreStanding words count place piece text
-    → MatchOption found ((k : ℕ) → k < count → truth_in words k ≡ false) (λ b. (b < count) × (truth_in words b ≡ true) × ((k : ℕ) → k < b → truth_in words k ≡ false))
+    → MatchOption found ((k : ℕ) → 0 ≤ k → k < count → truth_in words k ≡ false) (λ b. (0 ≤ b) × (b < count) × (truth_in words b ≡ true) × ((k : ℕ) → 0 ≤ k → k < b → truth_in words k ≡ false))
     → MatchOption found ((k : ℕ) → k < count → begins piece (drop (place + k) text) ≡ false)
     (λ b. (b < count) × (begins piece (drop (place + b) text) ≡ true) × ((k : ℕ) → k < b → begins piece (drop (place + k) text) ≡ false))
-first-standing count place words piece text None standing is = λ k lt. sym (standing k lt) ∙ is k lt
-first-standing count place words piece text (Some b) standing is = (is.0, sym (standing b is.0) ∙ is.1, λ k lt. sym (standing k (omega (arith, lt, is.0))) ∙ is.2 k lt)
+first-standing count place words piece text None standing is = λ k lt. sym (standing k lt) ∙ is k (omega arith) lt
+first-standing count place words piece text (Some b) standing is = (is.1, sym (standing b is.1) ∙ is.2, λ k lt. sym (standing k (omega (arith, lt, is.1))) ∙ is.3 k (omega arith) lt)

@@ -1,6 +1,5 @@
 -- Words that are changed one after another.
-use Rattle.std.proofs.Common.{inl, inr, ◌⊎◌, ◌≡◌, ◌∙◌, sym, refl, ap₂, subst, ℕ, ◌+◌, ◌*◌, ◌/◌, ◌%◌, ◌<◌, ◌≤◌, List, length, get_or, set, arith}
-use Rattle.dr_places.specs.Places.{has_bit, truth_in}
+use Rattle.std.proofs.Common.{inl, inr, ◌⊎◌, ◌≡◌, ◌∙◌, sym, refl, subst, ℕ, ◌+◌, ◌<◌, ◌≤◌, List, length, get_or, set, arith}
 use Rattle.std.proofs.lemmas.List.{length-set, get_or-set_same, get_or-set_other}
 use Rattle.std.proofs.lemmas.Bool.{cases_lt}
 
@@ -32,10 +31,3 @@ to-more from k P before after v lt is h = record {
     left : (i : ℕ) → (i < from) ⊎ (k + 1 ≤ i) → get_or (set after k v) i 0 ≡ get_or before i 0
     left i (inl less) = get_or-set_other after k i v 0 (λ e. absurd (omega (arith, e, less, h.begun))) ∙ h.left i (inl less)
     left i (inr le) = get_or-set_other after k i v 0 (λ e. absurd (omega (arith, e, le))) ∙ h.left i (inr (omega (arith, le)))
-
--- a bit of one of the words
-pub bit-of-word : (words : List ℕ) (w j : ℕ) → j < 64 → truth_in words (64 * w + j) ≡ has_bit (get_or words w 0) j
-bit-of-word words w j lt =
-    let word : (64 * w + j) / 64 ≡ w = omega (arith, lt) in
-    let bit : (64 * w + j) % 64 ≡ j = omega (arith, lt) in
-    ap₂ (λ i k. has_bit (get_or words i 0) k) word bit

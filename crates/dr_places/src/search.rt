@@ -6,8 +6,7 @@ ghost use Rattle.dr_places.specs.Places.{begins, truth_in, HoldJust};
 use crate::letter_places::LetterPlaces;
 use crate::standing::{put_front, put_standing};
 use crate::trying::{are_few, first_left, stands_at};
-use crate::words::lowest_of;
-use dr_bits::is_set;
+use dr_bits::{first_bit, is_set};
 
 // Of how many places at once it is told first whether a piece stands there, and at most, so that the set stays in a processor's cache.
 const FIRST_COUNT: usize = 64;
@@ -93,7 +92,7 @@ fn first_standing(
     let end = (count - 1) / 64 + 1;
     let words = &mut words[..end];
     if put_front(places, words, piece, place, count) == piece.len() {
-        return first_of(words, count);
+        return first_bit(words, 0, count);
     }
     if are_few(words) {
         let k = first_left(places.letters(), words, piece, place, count);
@@ -105,23 +104,5 @@ fn first_standing(
         }
     }
     put_standing(places, words, &mut comb[..end + 1], piece, place, count);
-    first_of(words, count)
-}
-
-// The first of so many places that is in a set.
-fn first_of(words: &[u64], count: usize) -> Option<usize>
-    requires { HoldJust count words.now }
-    ensures { MatchOption result ((k : ℕ) → k < count → truth_in words.now k ≡ false) (λ b. (b < count) × (truth_in words.now b ≡ true) × ((k : ℕ) → k < b → truth_in words.now k ≡ false)) }
-{
-    for w in 0..words.len() {
-        let word = words[w];
-        if word != 0 {
-            let k = 64 * w + lowest_of(word);
-            if k < count {
-                return Some(k);
-            }
-            return None;
-        }
-    }
-    None
+    first_bit(words, 0, count)
 }

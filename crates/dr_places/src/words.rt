@@ -1,4 +1,4 @@
-ghost use Rattle.std.specs.Prelude.{◌≡◌, ◌<◌, ◌≤◌, ◌+◌, ◌⊎◌, ℕ, true, false, length, get_or};
+ghost use Rattle.std.specs.Prelude.{◌≡◌, ◌<◌, ◌≤◌, ◌+◌, ◌⊎◌, ℕ, true, length, get_or};
 ghost use Rattle.dr_places.specs.Places.{has_bit, bit_from, IsKept};
 
 // Keeps of each word, from a place up to another, the bits that other words have, from a place in the first of these on.
@@ -65,14 +65,4 @@ pub fn is_empty(words: &[u64]) -> bool
         }
     }
     true
-}
-
-// The place of the lowest bit of a word that has one.
-pub fn lowest_of(word: u64) -> usize
-    requires { 0 < word }
-    ensures within { result < 64 }
-    ensures same { has_bit word result ≡ true }
-    ensures before { (k : ℕ) → k < result → has_bit word k ≡ false }
-{
-    word.trailing_zeros() as usize
 }
