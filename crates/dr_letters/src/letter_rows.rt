@@ -11,7 +11,7 @@ ghost use Rattle.dr_letters.specs.States.{AreLong, is_short};
 use crate::asked_letter::AskedLetter;
 use crate::place_letters::PlaceLetters;
 use crate::reading::{parted, places_of};
-use dr_places::{OwnTexts, PatternShape};
+use dr_places::{LikePattern, OwnTexts, PatternShape};
 use dr_rowindex::RowSet;
 use std::alloc::{AllocError, Global};
 use std::marker::Model;
@@ -194,9 +194,9 @@ impl<'a> LetterRows<'a> {
         requires { Tell (λ t. is_short self.now.1 t && fits_of (chars pattern.now) (chars t)) self.now.0 set.old }
         ensures { OnOk result (Tell (λ t. fits_of (chars pattern.now) (chars t)) self.now.0 set.new) }
     {
-        let by_places = PatternShape::of_pattern(pattern).is_sooner_by_places();
+        let asked = LikePattern::of(alloc, pattern)?;
         for row in &self.long {
-            if self.texts.fits(alloc, *row, pattern, by_places)? {
+            if self.texts.fits(alloc, *row, &asked)? {
                 set.insert(*row);
             }
         }
@@ -232,10 +232,10 @@ fn stands_in(own: &[char], place: usize, letter: char) -> bool
 fn fitting_of(alloc: Global, pattern: &str, texts: &OwnTexts<'_>) -> Result<RowSet, AllocError>
     ensures { IfOk result (λ s. Tell (λ t. fits_of (chars pattern.now) (chars t)) texts.now s) }
 {
-    let by_places = PatternShape::of_pattern(pattern).is_sooner_by_places();
+    let asked = LikePattern::of(alloc, pattern)?;
     let mut set = RowSet::none(alloc, texts.text_count())?;
     for row in 0..texts.text_count() {
-        if texts.fits(alloc, row, pattern, by_places)? {
+        if texts.fits(alloc, row, &asked)? {
             set.insert(row);
         }
     }

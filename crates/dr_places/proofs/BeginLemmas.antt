@@ -1,5 +1,5 @@
 -- Pieces of a pattern that stand at a place of a text.
-use Rattle.std.proofs.Common.{inl, inr, ◌≡◌, ◌≢◌, ◌∙◌, sym, refl, ap, subst, ℕ, zero, suc, ◌+◌, ◌-◌, ◌<◌, ◌≤◌, ◌==◌, ◌&&◌, ◌||◌, Bool, true, false, List, [], ◌∷◌, ◌++◌, length, get_or, drop, drop-drop, append-nil, arith}
+use Rattle.std.proofs.Common.{inl, inr, ◌≡◌, ◌≢◌, ◌∙◌, sym, refl, ap, subst, ℕ, zero, suc, ◌+◌, ◌-◌, ◌<◌, ◌≤◌, ◌==◌, ◌&&◌, ◌||◌, Bool, true, false, true≢false, List, [], ◌∷◌, ◌++◌, length, get_or, drop, drop-drop, append-nil, arith}
 use Rattle.std.proofs.lemmas.Bool.{and_parts, and_right, cases_lt}
 use Rattle.std.proofs.lemmas.Bool.Decides.{nat_tests}
 use Rattle.std.proofs.lemmas.List.{length-drop}
@@ -155,3 +155,26 @@ begins-more k place p t lt within fit was =
 
 pub equal-fits : (letter c : ℕ) → c ≡ letter → letter_fits letter c ≡ true
 equal-fits letter c same = grind (arith, nat_tests, same)
+
+-- ---- the first letters of a piece, neither of which is an `_`
+
+both-off : (a b c : Bool) → (a && b) ≡ false → (a && (b && c)) ≡ false
+both-off false b c off = refl
+both-off true false c off = refl
+both-off true true c off = absurd (true≢false off)
+
+pub first-misses : (first k : ℕ) (p t : List ℕ) → 0 < length p → k < length t → first ≢ 95 → first ≡ get_or p 0 0 → (get_or t k 0 == first) ≡ false → begins p (drop k t) ≡ false
+first-misses first k p t some lt one is misses =
+    begins-next 0 k p t some lt ∙ ap (λ b. b && begins (drop 1 p) (drop (suc k) t)) (ap (λ n. letter_fits n (get_or t k 0)) (sym is) ∙ one_fits first (get_or t k 0) one ∙ misses)
+
+pub second-misses : (first second k : ℕ) (p t : List ℕ) → 1 < length p → k + 1 < length t → first ≢ 95 → second ≢ 95 → first ≡ get_or p 0 0 → second ≡ get_or p 1 0
+    → ((get_or t k 0 == first) && (get_or t (k + 1) 0 == second)) ≡ false → begins p (drop k t) ≡ false
+second-misses first second k p t more lt one two is are misses =
+    let next : k + 1 ≡ suc k = omega arith in
+    let a = ap (λ n. letter_fits n (get_or t k 0)) (sym is) ∙ one_fits first (get_or t k 0) one in
+    let b = ap (λ n. letter_fits n (get_or t (suc k) 0)) (sym are) ∙ one_fits second (get_or t (suc k) 0) two in
+    begins-next 0 k p t (omega (arith, more)) (omega (arith, lt))
+    ∙ ap (λ x. letter_fits (get_or p 0 0) (get_or t k 0) && x) (begins-next 1 (suc k) p t more (omega (arith, lt)))
+    ∙ both-off (letter_fits (get_or p 0 0) (get_or t k 0)) (letter_fits (get_or p 1 0) (get_or t (suc k) 0)) (begins (drop 2 p) (drop (suc (suc k)) t))
+    (ap (λ x. x && letter_fits (get_or p 1 0) (get_or t (suc k) 0)) a ∙ ap (λ x. (get_or t k 0 == first) && x) b
+    ∙ ap (λ n. (get_or t k 0 == first) && (get_or t n 0 == second)) (sym next) ∙ misses)

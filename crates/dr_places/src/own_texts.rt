@@ -3,9 +3,11 @@ ghost use Rattle.std.specs.Str.{chars};
 ghost use Rattle.dr_like.specs.Like.{fits};
 ghost use Rattle.dr_places.specs.Texts.{AreKnown, AreSpelled};
 
+use crate::by_letters::fits_by_letters;
 use crate::choosing::fits_soonest;
 use crate::letter_places::LetterPlaces;
 use crate::letters::letters_of;
+use crate::like_pattern::LikePattern;
 use crate::pattern_shape::PatternShape;
 use std::alloc::{AllocError, Global};
 use std::marker::Model;
@@ -23,6 +25,13 @@ const WORDS_A_TEXT: usize = 600;
 const WORDS_A_PIECE: usize = 64;
 
 const WORDS_A_LETTER: usize = 5;
+
+// And in the time in which a text, a piece and a character of the text are asked letter by letter.
+const WORDS_A_TEXT_BY_LETTERS: usize = 40;
+
+const WORDS_A_PIECE_BY_LETTERS: usize = 24;
+
+const WORDS_A_CHARACTER_BY_LETTERS: usize = 3;
 
 // And in the time in which a piece is looked for from character to character.
 const WORDS_A_PIECE_ELSE: usize = 96;
@@ -102,26 +111,40 @@ impl<'a> OwnTexts<'a> {
     }
 
     /// Whether the text of a row fits a pattern of `like` (Apache Druid documentation, query filters: like). The only error is that memory
-    /// ran out. It takes what [`LetterPlaces::fits`] does, where it is to be asked so and it is kept where its letters stand, and else what
-    /// [`fits_soonest`] does.
+    /// ran out. Where the pieces of the pattern are short, and many beside the characters of the text, it takes time by both, and no memory;
+    /// else what [`LetterPlaces::fits`] does, where that is sooner and it is kept where the letters stand, and what [`fits_soonest`] does
+    /// where not.
     pub fn fits(
         &self,
         alloc: Global,
         row: usize,
-        pattern: &str,
-        by_places: bool,
+        pattern: &LikePattern<'_>,
     ) -> Result<bool, AllocError>
         requires { row < length self.now }
-        ensures { IfOk result (λ found. found ≡ fits (chars pattern.now) (chars (get_or self.now row []))) }
+        ensures { IfOk result (λ found. found ≡ fits pattern.now (chars (get_or self.now row []))) }
     {
+        let letters = self.letters_at(row);
+        if pattern.shape().is_sooner_by_letters(letters.len()) {
+            return Ok(fits_by_letters(pattern.letters(), letters));
+        }
+        let by_places = pattern.shape().is_sooner_by_places();
         match &self.places[row] {
-            Some(places) if by_places => places.fits(alloc, pattern),
-            _ => fits_soonest(alloc, pattern, self.texts[row]),
+            Some(places) if by_places => places.fits(alloc, pattern.text()),
+            _ => fits_soonest(alloc, pattern.text(), self.texts[row]),
         }
     }
 
     /// How many words are gone through in about the time in which each text is asked for a pattern of such a shape. It takes constant time.
     pub fn words(&self, shape: &PatternShape) -> usize {
+        let count = self.text_count();
+        if shape.is_sooner_by_letters(self.bytes / count.max(1)) {
+            let a_text = shape
+                .pieces
+                .saturating_mul(WORDS_A_PIECE_BY_LETTERS)
+                .saturating_add(WORDS_A_TEXT_BY_LETTERS);
+            let letters = self.bytes.saturating_mul(WORDS_A_CHARACTER_BY_LETTERS);
+            return count.saturating_mul(a_text).saturating_add(letters);
+        }
         let (known, known_bytes) = if shape.is_sooner_by_places() {
             (self.known, self.known_bytes)
         } else {

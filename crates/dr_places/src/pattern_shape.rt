@@ -1,6 +1,10 @@
 // A piece without gaps of no more bytes is looked for as soon where the letters of a text stand as from character to character.
 const SHORT: usize = 8;
 
+// A text is asked letter by letter where it has no more letters for each piece than this, divided by the bytes of the longest piece, all of
+// which may be compared at each of them.
+const NEAR: usize = 128;
+
 /// What the time depends on in which a text is asked for a pattern: how many pieces it has between its runs, how many characters these have
 /// together, how many bytes the longest of them has, and whether one of them has a `_` behind its first other character.
 #[derive(Drop)]
@@ -41,5 +45,10 @@ impl PatternShape {
     /// time of the text. It takes constant time.
     pub fn is_sooner_by_places(&self) -> bool {
         self.has_gaps || self.longest <= SHORT
+    }
+    /// Whether a text of so many characters is asked soonest letter by letter: where its pieces are short, and many beside the characters. It
+    /// takes constant time.
+    pub fn is_sooner_by_letters(&self, count: usize) -> bool {
+        count.saturating_mul(self.longest) <= self.pieces.saturating_mul(NEAR)
     }
 }
