@@ -29,9 +29,9 @@ const WORDS_A_LETTER: usize = 5;
 // And in the time in which a text, a piece and a character of the text are asked letter by letter.
 const WORDS_A_TEXT_BY_LETTERS: usize = 40;
 
-const WORDS_A_PIECE_BY_LETTERS: usize = 24;
+const WORDS_A_PIECE_BY_LETTERS: usize = 16;
 
-const WORDS_A_CHARACTER_BY_LETTERS: usize = 3;
+const WORDS_A_CHARACTER_BY_LETTERS: usize = 4;
 
 // And in the time in which a piece is looked for from character to character.
 const WORDS_A_PIECE_ELSE: usize = 96;
@@ -124,7 +124,10 @@ impl<'a> OwnTexts<'a> {
         ensures { IfOk result (λ found. found ≡ fits pattern.now (chars (get_or self.now row []))) }
     {
         let letters = self.letters_at(row);
-        if pattern.shape().is_sooner_by_letters(letters.len()) {
+        if pattern
+            .shape()
+            .is_sooner_by_letters(letters.len(), self.bytes)
+        {
             return Ok(fits_by_letters(pattern.letters(), letters));
         }
         let by_places = pattern.shape().is_sooner_by_places();
@@ -137,7 +140,7 @@ impl<'a> OwnTexts<'a> {
     /// How many words are gone through in about the time in which each text is asked for a pattern of such a shape. It takes constant time.
     pub fn words(&self, shape: &PatternShape) -> usize {
         let count = self.text_count();
-        if shape.is_sooner_by_letters(self.bytes / count.max(1)) {
+        if shape.is_sooner_by_letters(self.bytes / count.max(1), self.bytes) {
             let a_text = shape
                 .pieces
                 .saturating_mul(WORDS_A_PIECE_BY_LETTERS)

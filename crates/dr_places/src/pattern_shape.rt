@@ -2,15 +2,22 @@
 const SHORT: usize = 8;
 
 // A text is asked letter by letter where it has no more letters for each piece than this, divided by the bytes of the longest piece, all of
-// which may be compared at each of them.
-const NEAR: usize = 128;
+// which may be compared at each of them; more, where it is kept in more bytes than the nearest caches hold where the letters of the pattern
+// stand.
+const NEAR: usize = 24;
+
+const FAR: usize = 96;
+
+const NEAR_BYTES: usize = 1 << 20;
 
 /// What the time depends on in which a text is asked for a pattern: how many pieces it has between its runs, how many characters these have
-/// together, how many bytes the longest of them has, and whether one of them has a `_` behind its first other character.
+/// together, of how many kinds, about, how many bytes the longest of them has, and whether one of them has a `_` behind its first other
+/// character.
 #[derive(Drop)]
 pub struct PatternShape {
     pub pieces: usize,
     pub letters: usize,
+    pub kinds: usize,
     pub longest: usize,
     pub has_gaps: bool,
 }
@@ -20,17 +27,22 @@ impl PatternShape {
     pub fn of_pattern(pattern: &str) -> PatternShape {
         let mut pieces = 0usize;
         let mut letters = 0usize;
+        let mut kinds = 0u64;
         let mut longest = 0usize;
         let mut has_gaps = false;
         for piece in pattern.split('%') {
             pieces = pieces.saturating_add(1);
-            letters = letters.saturating_add(piece.chars().count());
+            for letter in piece.chars() {
+                letters = letters.saturating_add(1);
+                kinds |= 1 << (letter as usize % 64);
+            }
             longest = longest.max(piece.len());
             has_gaps = has_gaps || piece.trim_start_matches('_').contains('_');
         }
         PatternShape {
             pieces,
             letters,
+            kinds: kinds.count_ones() as usize,
             longest,
             has_gaps,
         }
@@ -46,9 +58,14 @@ impl PatternShape {
     pub fn is_sooner_by_places(&self) -> bool {
         self.has_gaps || self.longest <= SHORT
     }
-    /// Whether a text of so many characters is asked soonest letter by letter: where its pieces are short, and many beside the characters. It
-    /// takes constant time.
-    pub fn is_sooner_by_letters(&self, count: usize) -> bool {
-        count.saturating_mul(self.longest) <= self.pieces.saturating_mul(NEAR)
+    /// Whether one of some texts of so many bytes, which has so many characters, is asked soonest letter by letter: where its pieces are short,
+    /// and many beside the characters. It takes constant time.
+    pub fn is_sooner_by_letters(&self, count: usize, bytes: usize) -> bool {
+        let near = if self.kinds.saturating_mul(bytes / 8) > NEAR_BYTES {
+            FAR
+        } else {
+            NEAR
+        };
+        count.saturating_mul(self.longest) <= self.pieces.saturating_mul(near)
     }
 }
