@@ -1,12 +1,12 @@
 // A piece without gaps of no more bytes is looked for as soon where the letters of a text stand as from character to character.
 const SHORT: usize = 8;
 
-// A text is asked letter by letter where it has no more letters for each piece than this, divided by the bytes of the longest piece, all of
-// which may be compared at each of them; more, where it is kept in more bytes than the nearest caches hold where the letters of the pattern
-// stand.
+// A text is asked letter by letter where it has no more letters for each piece than this, divided by the bytes of the longest piece behind
+// its first, which may be compared at each of them; more, where it is kept in more bytes than the nearest caches hold where the letters of the
+// pattern stand.
 const NEAR: usize = 24;
 
-const FAR: usize = 96;
+const FAR: usize = 128;
 
 const NEAR_BYTES: usize = 1 << 20;
 
@@ -66,6 +66,7 @@ impl PatternShape {
         } else {
             NEAR
         };
-        count.saturating_mul(self.longest) <= self.pieces.saturating_mul(near)
+        let compared = self.longest.saturating_sub(1).max(1);
+        count.saturating_mul(compared) <= self.pieces.saturating_mul(near)
     }
 }
