@@ -58,6 +58,7 @@ impl PatternShape {
     pub fn is_sooner_by_places(&self) -> bool {
         self.has_gaps || self.longest <= SHORT
     }
+
     /// Whether one of some texts of so many bytes, which has so many characters, is asked soonest letter by letter: where its pieces are short,
     /// and many beside the characters. It takes constant time.
     pub fn is_sooner_by_letters(&self, count: usize, bytes: usize) -> bool {
