@@ -418,6 +418,22 @@ def likes_of_one_row(letters, parts, patterns, length=300):
     return likes_of_rows(text, lambda random, it: "%!_!%" + "%".join(first[place] for place in sorted(random.sample(range(length), parts))) + "%", patterns)
 
 
+def likes_of_own_parts(letters, parts, count, patterns, length):
+    """Patterns of so many parts of so many letters, as they stand one behind the other in one of the texts of so many letters, and of one
+    part more, which hardly a text has behind them."""
+    own = lambda it: "".join(Random(it).choices(letters, k=length))
+
+    def pattern(random, it):
+        one, found, end = own(random.randrange(200)), [], 0
+        for place in sorted(random.sample(range(length - count), parts)):
+            place = max(place, end)
+            if place + count <= length:
+                found.append(one[place : place + count])
+                end = place + count
+        return "%" + "%".join(found) + "%" + 3 * random.choice(letters) + "%"
+    return likes_of_rows(lambda random, it: own(it), pattern, patterns)
+
+
 def likes_of_long_runs(length, run, patterns):
     """Patterns of more than two runs of so many letters with a gap, over texts of so many letters that have such runs, each from another
     place on, with one other letter between two of them."""
@@ -789,6 +805,9 @@ INPUTS = {
     "rows of 300 letters of 50 kinds under an or of 5,000 likes of 76 parts, all but the first of one letter, of which one row lacks the first alone": (likes_of_one_row(LATIN[:50], 75, 5000), 10000),
     "rows of 1,020 letters of 50 kinds under an or of 1,000 likes of 76 parts, all but the first of one letter, of which one row lacks the first alone": (likes_of_one_row(LATIN[:50], 75, 1000, 1020), 4100),
     "few rows of 1,020 letters of 50 kinds under an or of 1,000 likes of 76 parts, all but the first of one letter, of which one row lacks the first alone": (likes_of_one_row(LATIN[:50], 75, 1000, 1020), 1030),
+    "rows of 500 letters of 20 kinds under an or of 1,400 likes of 320 parts of a letter, as they stand in a row, and of one more": (likes_of_own_parts(LATIN[:20], 320, 1, 1400, 500), 200),
+    "rows of 500 letters of three kinds under an or of 4,000 likes of 60 parts of two letters, as they stand in a row, and of one more": (likes_of_own_parts(LATIN[:3], 60, 2, 4000, 500), 2000),
+    "rows of 2,000 letters of 20 kinds under an or of 7,000 likes of 40 parts of a letter, as they stand in a row, and of one more": (likes_of_own_parts(LATIN[:20], 40, 1, 7000, 2000), 500),
     "rows of 300 letters of 70 kinds, each rare, under an or of 11,000 likes of seven parts of two letters": (likes_of_rare_pairs(LATIN[:70], 7, 11000), 10000),
     "rows of 80 letters of 140 kinds, each rare, under an or of 11,000 likes of seven parts, of which each row lacks the first alone": (likes_of_rare_letters(HAN[:140], 6, 11000, 80), 16000),
     "rows of 80 letters of 20,000 kinds under an or of 11,000 likes of seven parts": (likes_of_rare_letters(HAN, 6, 11000, 80), 16000),
