@@ -15,6 +15,9 @@ const FIRST: usize = 4;
 // It is looked where there are so many texts: of fewer it takes as long to ask the letters.
 const MANY: usize = 4096;
 
+// Of so many texts it is looked at so many letters before the first is asked; of fewer at those alone that are asked first.
+const FIRST_OF_MANY: usize = 32;
+
 // Where so many letters are left to be asked, and no more texts than letters, each of these is asked by itself.
 const ENOUGH: usize = 8;
 
@@ -39,13 +42,22 @@ impl<'a> LetterRows<'a> {
         if behind.has_none() || self.inserts_few(letters, spare, behind, found) {
             return;
         }
-        let some = letters.len().min(FIRST);
+        let some = letters.len().min(self.looked_at_first());
         if !self.may_have_each(&letters[..some], spare) {
             return;
         }
         let k = self.put_first(letters, spare, behind, set);
-        let left = some.saturating_sub(k);
+        let left = letters.len().min(FIRST).saturating_sub(k);
         self.insert_more(&letters[k..], left, spare, set, found);
+    }
+
+    // At how many letters of a piece it is looked whether any text may have them before the first is asked.
+    fn looked_at_first(&self) -> usize {
+        if self.text_count() < MANY {
+            FIRST
+        } else {
+            FIRST_OF_MANY
+        }
     }
 
     // Adds those of some texts that have each of some letters. So many are asked before it is looked whether any text may have the others,
