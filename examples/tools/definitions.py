@@ -101,6 +101,8 @@ def cited():
 
 def main():
     known, start = modules(), sys.argv[1:]
+    if len(start) not in (0, 3):
+        sys.exit(__doc__.strip())
     if not start:
         reached = below(known, list(cited()))
         # (an operator, such as that of do-notation, is not found by its name)
