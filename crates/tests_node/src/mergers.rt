@@ -26,14 +26,15 @@ enum Beside {
     Publishes,
 }
 
-/// What a merger told, whether the policy was held for all turns, how many ranges a last pin has sealed, and the version of the
-/// first.
+/// What a merger told, whether the policy was held for all turns, how many ranges a last pin has sealed, and the versions of the first
+/// and of the last of these.
 #[derive(Drop)]
 struct Seen {
     report: MergerReport,
     late: bool,
     sealed: usize,
     version: u64,
+    last_version: u64,
 }
 
 fn sealed_in(ranges: &[RangeInfo]) -> usize {
@@ -49,6 +50,16 @@ fn sealed_in(ranges: &[RangeInfo]) -> usize {
 fn first_version(ranges: &[RangeInfo]) -> Option<u64> {
     let range = ranges.first()?;
     Some(range.version)
+}
+
+fn last_version(ranges: &[RangeInfo]) -> Option<u64> {
+    let mut version = None;
+    for range in ranges {
+        if range.sealed {
+            version = Some(range.version);
+        }
+    }
+    version
 }
 
 /// Seals a range with one event, and another one.
@@ -120,7 +131,7 @@ fn at_once<B: Books, R: Threads + Wait + Sync>(
     report.zip(second)
 }
 
-/// What a merger tells that merges or publishes the first of two ranges, or both, while another thread uses the node.
+/// What a merger tells that merges or publishes one of two ranges, or both, while another thread uses the node.
 fn merged<
     A: NodeLedger + Send + Sync,
     B: Ledger + Send + Sync,
@@ -133,7 +144,7 @@ fn merged<
     spec: IngestSpec,
     blanks: ((Blank, Blank), (Blank, Blank)),
     while_asked: bool,
-    named: (usize, Purpose),
+    named: (usize, usize, Purpose),
     beside: Beside,
 ) -> Option<Seen>
     requires schema { spec ≡ A.schema }
@@ -155,7 +166,7 @@ fn merged_by<B: Books, R: Threads + Wait + Sync>(
     spec: &IngestSpec,
     seats: Vec<Seat<B>>,
     while_asked: bool,
-    named: (usize, Purpose),
+    named: (usize, usize, Purpose),
     beside: Beside,
 ) -> Option<Seen>
     requires { spec.now ≡ B.schema }
@@ -170,6 +181,7 @@ fn merged_by<B: Books, R: Threads + Wait + Sync>(
         late: policy.late.load(Ordering::SeqCst),
         sealed: sealed_in(snapshot.ranges()),
         version: first_version(snapshot.ranges())?,
+        last_version: last_version(snapshot.ranges())?,
     })
 }
 
@@ -177,7 +189,7 @@ fn told<R: Threads + Wait + Sync>(
     rt: &R,
     alloc: Global,
     while_asked: bool,
-    named: (usize, Purpose),
+    named: (usize, usize, Purpose),
     beside: Beside,
 ) -> Option<Seen> {
     let spec = new_spec(alloc)?;
@@ -186,7 +198,13 @@ fn told<R: Threads + Wait + Sync>(
 
 #[test]
 fn an_event_is_accepted_while_the_policy_is_asked(rt: HostRuntime) {
-    let Some(told) = told(&rt, rt.alloc(), true, (2, Purpose::Merge), Beside::Accepts) else {
+    let Some(told) = told(
+        &rt,
+        rt.alloc(),
+        true,
+        (0, 2, Purpose::Merge),
+        Beside::Accepts,
+    ) else {
         panic!(rt; "no answer");
     };
     assert!(rt; !told.late);
@@ -196,7 +214,13 @@ fn an_event_is_accepted_while_the_policy_is_asked(rt: HostRuntime) {
 
 #[test]
 fn an_event_is_accepted_while_a_job_is_planned(rt: HostRuntime) {
-    let Some(told) = told(&rt, rt.alloc(), false, (2, Purpose::Merge), Beside::Accepts) else {
+    let Some(told) = told(
+        &rt,
+        rt.alloc(),
+        false,
+        (0, 2, Purpose::Merge),
+        Beside::Accepts,
+    ) else {
         panic!(rt; "no answer");
     };
     assert!(rt; !told.late);
@@ -210,13 +234,28 @@ fn just_what_a_policy_publishes_has_a_version(rt: HostRuntime) {
         &rt,
         rt.alloc(),
         true,
-        (1, Purpose::Publish),
+        (0, 1, Purpose::Publish),
         Beside::Accepts,
     ) else {
         panic!(rt; "no answer");
     };
     assert!(rt; told.report.commits == 1 && told.report.stale == 0);
-    assert!(rt; told.sealed == 2 && told.version == 1);
+    assert!(rt; told.sealed == 2 && told.version == 1 && told.last_version == 0);
+}
+
+#[test]
+fn just_the_place_that_a_policy_publishes_has_a_version(rt: HostRuntime) {
+    let Some(told) = told(
+        &rt,
+        rt.alloc(),
+        true,
+        (1, 2, Purpose::Publish),
+        Beside::Accepts,
+    ) else {
+        panic!(rt; "no answer");
+    };
+    assert!(rt; told.report.commits == 1 && told.report.stale == 0);
+    assert!(rt; told.sealed == 2 && told.version == 0 && told.last_version == 1);
 }
 
 #[test]
@@ -225,7 +264,7 @@ fn a_job_is_stale_once_another_thread_published_its_range(rt: HostRuntime) {
         &rt,
         rt.alloc(),
         false,
-        (2, Purpose::Merge),
+        (0, 2, Purpose::Merge),
         Beside::Publishes,
     ) else {
         panic!(rt; "no answer");

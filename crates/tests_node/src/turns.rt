@@ -15,14 +15,14 @@ pub fn wait_for(flag: &AtomicBool) -> bool {
     false
 }
 
-/// A policy that names the first ranges once, to be merged or published, and stops its merger at its next turn. It is held until
-/// another thread has answered, while it is asked or once the job is planned.
+/// A policy that names ranges once, to be merged or published, and stops its merger at its next turn. It is held until another thread
+/// has answered, while it is asked or once the job is planned.
 #[derive(Drop)]
 pub struct Once {
     /// What its merger is stopped by.
     pub stop: Stop,
     while_asked: bool,
-    named: (usize, Purpose),
+    named: (usize, usize, Purpose),
     asked: AtomicBool,
     /// Whether it is held, or was.
     pub entered: AtomicBool,
@@ -33,8 +33,8 @@ pub struct Once {
 }
 
 impl Once {
-    /// A policy that names so many ranges, and for what.
-    pub fn new(while_asked: bool, named: (usize, Purpose)) -> Once {
+    /// A policy that names the ranges from a place to before another one, and for what.
+    pub fn new(while_asked: bool, named: (usize, usize, Purpose)) -> Once {
         Once {
             stop: Stop::new(),
             while_asked,
@@ -62,8 +62,8 @@ impl Policy for Once {
         if self.while_asked {
             self.hold();
         }
-        let (count, purpose) = self.named;
-        Some((DAY, 0, count, purpose))
+        let (lo, hi, purpose) = self.named;
+        Some((DAY, lo, hi, purpose))
     }
 
     fn planned(&self) {
