@@ -1,6 +1,6 @@
 """Writes scripts of examples and examples/cases that are spoiled in one to three places, with what they have to print by answers.py: a
 byte is another one, some bytes are gone, a word or a number is another one, or a line stands elsewhere, twice, or comes from another
-script. Script number N is the same each time while the scripts beside it are.
+script. Script number N is the same each time as long as the examples are.
 
     python3 spoiled_scripts.py FOLDER FIRST COUNT [PROGRAM [W ..]]    as random_queries.py has them
 """
